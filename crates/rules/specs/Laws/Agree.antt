@@ -1,0 +1,169 @@
+-- States that agree in the reach give one answer: the working tables hold no more than the n cells.
+-- Assumes nothing.
+use mathlib.Core.Path.{_≡_, refl, sym, _∙_, ap, ap₂, subst}
+use mathlib.Core.Bool.{false, cond, _||_}
+use mathlib.Core.List.{[], _∷_, _++_}
+use Prim.Native.Nat.{ℕ, zero, suc, _<_}
+use native.Mathlib.Omega.{arith}
+use lib.Dec.{T, eqb, eqb-refl}
+use lib.IntN.{ℤ, pos, _-ℤ_, _*ℤ_}
+use lib.Signed.{ltZ}
+use Rattle.whole.specs.Flags.{holds, by, clash}
+use Rattle.whole.specs.Choice.{sizeZ}
+use Rattle.tables.specs.Some.{some, some-same}
+use Rattle.tables.specs.Cells.{Cell}
+use Rattle.rules.specs.Face.{Side, Flux}
+use Rattle.rules.specs.Reach.{Reach, Call, State, el, er, under, sideL, sideR}
+use Rattle.rules.specs.Stage.{leftEnd, rightEnd, atLeft, atRight, faceRight, faceAt, volume, update, stage}
+use Rattle.rules.specs.Finishing.{parted, marked, minmod, withRight, withLeft, limited, limit, cut, dried, finish}
+use Rattle.rules.specs.Step.{rubbedCell, rubbed, stageOne, carry, half, joinedCell, joined, next}
+use Rattle.rules.specs.Refusals.{offCell, off, fastCell, fastFriction, fastSide, fastFace, fastPoints, fastGauss, tooLong, badCall, badBed, badRough, chk, stageChecks, early, checks, verdict, refusal}
+
+abbrev pub Same : Reach → State → State → Type 0
+Same r s t = (i : ℕ) → i < r .n → s i ≡ t i
+
+-- a cell that is not the last has a right neighbour
+pub inside : (i n : ℕ) → i < n → eqb (suc i) n ≡ false → suc i < n
+inside i n l e = omega (arith, differ)
+  where
+    differ : suc i ≡ n → ⊥
+    differ d = clash (sym e ∙ holds (eqb (suc i) n) (subst (λ (m : ℕ). T (eqb (suc i) m)) d (eqb-refl (suc i))))
+
+-- a choice between the last cell and the others
+last : {A : Type 0} (i n : ℕ) → i < n → (x y x′ y′ : A) → x ≡ x′ → (suc i < n → y ≡ y′) → cond (eqb (suc i) n) x y ≡ cond (eqb (suc i) n) x′ y′
+last i n l x y x′ y′ p q = by (eqb (suc i) n) (λ e. rw e p) (λ e. rw e (q (inside i n l e)))
+
+module _ (r : Reach) (c : Call) (s t : State) (e : Same r s t) where
+  -- ---- a stage
+  atLeft-same : (i : ℕ) → i < r .n → atLeft r c s i ≡ atLeft r c t i
+  atLeft-same i l = ap (sideL (c .dry) (under r i)) (e i l)
+
+  atRight-same : (i : ℕ) → i < r .n → atRight r c s i ≡ atRight r c t i
+  atRight-same i l = ap (sideR (c .dry) (under r i)) (e i l)
+
+  pub faceRight-same : (i : ℕ) → i < r .n → faceRight r c s i ≡ faceRight r c t i
+  unfolding faceRight
+  faceRight-same i l = last i (r .n) l
+      (rightEnd r c (atRight r c s i)) (r .face (atRight r c s i) (atLeft r c s (suc i)))
+      (rightEnd r c (atRight r c t i)) (r .face (atRight r c t i) (atLeft r c t (suc i)))
+      (ap (rightEnd r c) (atRight-same i l)) (λ m. ap₂ (r .face) (atRight-same i l) (atLeft-same (suc i) m))
+
+  pub faceAt-same : 0 < r .n → (i : ℕ) → i < suc (r .n) → faceAt r c s i ≡ faceAt r c t i
+  unfolding faceAt
+  faceAt-same o zero l = ap (leftEnd r c) (atLeft-same zero o)
+  faceAt-same o (suc i) l = faceRight-same i (omega arith)
+
+  pub stage-same : Same r (stage r c s) (stage r c t)
+  unfolding stage
+  stage-same i l =
+      ap (λ (x : Cell). update (r .dx) (c .dt) (c .dry) (under r i) x (faceAt r c s i) (faceRight r c s i)) (e i l)
+      ∙ ap₂ (update (r .dx) (c .dt) (c .dry) (under r i) (t i)) (faceAt-same (omega arith) i (omega arith)) (faceRight-same i l)
+
+  -- ---- finishing
+  pub parted-same : (i : ℕ) → i < r .n → parted r c s i ≡ parted r c t i
+  unfolding parted
+  parted-same i l = by (eqb (suc i) (r .n)) (λ d. rw d)
+      (λ d. rw d (ap₂ (λ (x y : Cell). ltZ (c .jump) (sizeZ (el x -ℤ er y))) (e (suc i) (inside i (r .n) l d)) (e i l)))
+
+  marked-same : (i : ℕ) → i < r .n → marked r c s i ≡ marked r c t i
+  unfolding marked
+  marked-same zero l = parted-same zero l
+  marked-same (suc i) l = ap₂ _||_ (parted-same i (omega arith)) (parted-same (suc i) l)
+
+  limited-same : (f : Cell → ℤ) (x : ℤ) (i : ℕ) → i < r .n → limited r (λ j. f (s j)) i x ≡ limited r (λ j. f (t j)) i x
+  unfolding limited withLeft withRight
+  limited-same f x i l = left (withRight r (λ j. f (s j)) i x) i l ∙ ap (withLeft (λ j. f (t j)) i) right
+    where
+      right : withRight r (λ j. f (s j)) i x ≡ withRight r (λ j. f (t j)) i x
+      right = last i (r .n) l x (minmod x (f (s (suc i)) -ℤ f (s i))) x (minmod x (f (t (suc i)) -ℤ f (t i))) refl
+          (λ m. ap₂ (λ (a b : Cell). minmod x (f a -ℤ f b)) (e (suc i) m) (e i l))
+
+      left : (y : ℤ) (i : ℕ) → i < r .n → withLeft (λ j. f (s j)) i y ≡ withLeft (λ j. f (t j)) i y
+      left y zero l = refl
+      left y (suc i) l = ap₂ (λ (a b : Cell). minmod y (f a -ℤ f b)) (e (suc i) l) (e i (omega arith))
+
+  limit-same : Same r (limit r c s) (limit r c t)
+  unfolding limit
+  limit-same i l =
+      let a : limited r (λ j. s j .e0) i (s i .e1) ≡ limited r (λ j. t j .e0) i (t i .e1) = limited-same (λ x. x .e0) (s i .e1) i l ∙ ap (λ (x : Cell). limited r (λ j. t j .e0) i (x .e1)) (e i l) in
+      let b : limited r (λ j. s j .q0) i (s i .q1) ≡ limited r (λ j. t j .q0) i (t i .q1) = limited-same (λ x. x .q0) (s i .q1) i l ∙ ap (λ (x : Cell). limited r (λ j. t j .q0) i (x .q1)) (e i l) in
+      λ k. record {
+        e0 = e i l k .e0;
+        e1 = cond (marked-same i l k) (a k) (e i l k .e1);
+        q0 = e i l k .q0;
+        q1 = cond (marked-same i l k) (b k) (e i l k .q1);
+      }
+
+-- ---- the step
+module _ (r : Reach) (c : Call) (s t : State) (e : Same r s t) where
+  pub finish-same : Same r (finish r c s) (finish r c t)
+  unfolding finish
+  finish-same i l = ap (λ (x : Cell). dried (c .dry) (under r i) (cut (under r i) x)) (limit-same r c s t e i l)
+
+  pub rubbed-same : Same r (rubbed r c s) (rubbed r c t)
+  unfolding rubbed
+  rubbed-same i l = ap (rubbedCell (c .dt) (c .dry) (c .rough i) (under r i)) (e i l)
+
+module _ (r : Reach) (c : Call) (s t : State) (e : Same r s t) where
+  pub stageOne-same : Same r (stageOne r c s) (stageOne r c t)
+  unfolding stageOne
+  stageOne-same = finish-same r c (stage r c (rubbed r c s)) (stage r c (rubbed r c t)) (stage-same r c (rubbed r c s) (rubbed r c t) (rubbed-same r c s t e))
+
+  pub carry-same : 0 < r .n → (i : ℕ) → i < suc (r .n) → carry r c s i ≡ carry r c t i
+  unfolding carry
+  carry-same o i l = ap₂ (λ (f g : Flux). half (volume (r .dx) (c .dt) f) (volume (r .dx) (c .dt) g))
+      (faceAt-same r c (rubbed r c s) (rubbed r c t) (rubbed-same r c s t e) o i l) (faceAt-same r c (stageOne r c s) (stageOne r c t) stageOne-same o i l)
+
+  joined-same : Same r (joined r c s) (joined r c t)
+  unfolding joined
+  joined-same i l =
+      ap₂ (λ (x y : Cell). joinedCell x y (carry r c s i) (carry r c s (suc i))) (rubbed-same r c s t e i l) (stage-same r c (stageOne r c s) (stageOne r c t) stageOne-same i l)
+      ∙ ap₂ (joinedCell (rubbed r c t i) (stage r c (stageOne r c t) i)) (carry-same (omega arith) i (omega arith)) (carry-same (omega arith) (suc i) (omega arith))
+
+  pub next-same : Same r (next r c s) (next r c t)
+  unfolding next
+  next-same = finish-same r c (joined r c s) (joined r c t) joined-same
+
+-- ---- refusals
+module _ (r : Reach) (c : Call) (o : 0 < r .n) (s t : State) (e : Same r s t) where
+  pub off-same : some (off r s) (r .n) ≡ some (off r t) (r .n)
+  unfolding off
+  off-same = some-same (off r s) (off r t) (r .n) (λ i l. ap (offCell (under r i)) (e i l))
+
+  pub fastFriction-same : some (fastFriction r c s) (r .n) ≡ some (fastFriction r c t) (r .n)
+  unfolding fastFriction
+  fastFriction-same = some-same (fastFriction r c s) (fastFriction r c t) (r .n) (λ i l. ap (fastCell (c .dry) (under r i)) (e i l))
+
+  fastFace-at : (i : ℕ) → i < suc (r .n) → fastFace r c s i ≡ fastFace r c t i
+  unfolding fastFace
+  fastFace-at zero l = ap fastSide (atLeft-same r c s t e zero o)
+  fastFace-at (suc i) l = by (eqb (suc i) (r .n))
+      (λ d. rw d (ap (λ (x : Side). fastSide x || false) (atRight-same r c s t e i (omega arith))))
+      (λ d. rw d (ap₂ (λ (x y : Side). fastSide x || fastSide y) (atRight-same r c s t e i (omega arith)) (atLeft-same r c s t e (suc i) (inside i (r .n) (omega arith) d))))
+
+  pub fastFace-same : some (fastFace r c s) (suc (r .n)) ≡ some (fastFace r c t) (suc (r .n))
+  fastFace-same = some-same (fastFace r c s) (fastFace r c t) (suc (r .n)) fastFace-at
+
+  pub fastGauss-same : some (fastGauss r c s) (r .n) ≡ some (fastGauss r c t) (r .n)
+  unfolding fastGauss
+  fastGauss-same = some-same (fastGauss r c s) (fastGauss r c t) (r .n) (λ i l. ap (fastPoints (c .dry) (under r i)) (e i l))
+
+  pub tooLong-same : some (tooLong r c s) (suc (r .n)) ≡ some (tooLong r c t) (suc (r .n))
+  unfolding tooLong
+  tooLong-same = some-same (tooLong r c s) (tooLong r c t) (suc (r .n)) (λ i l. ap (λ (f : Flux). ltZ (pos 4096 *ℤ r .dx) (pos 2 *ℤ c .dt *ℤ f .S)) (faceAt-same r c s t e o i l))
+
+  pub stageChecks-same : stageChecks r c s ≡ stageChecks r c t
+  unfolding stageChecks
+  stageChecks-same = λ k. chk 6 (fastFace-same k) ∷ chk 6 (fastGauss-same k) ∷ chk 7 (tooLong-same k) ∷ []
+
+module _ (r : Reach) (c : Call) (o : 0 < r .n) (s t : State) (e : Same r s t) where
+  pub refusal-same : refusal r c s ≡ refusal r c t
+  unfolding refusal checks early
+  refusal-same =
+      let a = off-same r c o s t e in
+      let b = fastFriction-same r c o s t e in
+      let d = stageChecks-same r c o (rubbed r c s) (rubbed r c t) (rubbed-same r c s t e) in
+      let f = off-same r c o (stageOne r c s) (stageOne r c t) (stageOne-same r c s t e) in
+      let g = stageChecks-same r c o (stageOne r c s) (stageOne r c t) (stageOne-same r c s t e) in
+      let h = off-same r c o (next r c s) (next r c t) (next-same r c s t e) in
+      λ k. verdict (chk 2 (badCall r c) ∷ chk 3 (some (λ i. badBed (r .bed i)) (suc (r .n))) ∷ chk 4 (some (λ i. badRough (c .rough i)) (r .n)) ∷ chk 5 (a k) ∷ chk 6 (b k) ∷ d k ++ chk 8 (f k) ∷ g k ++ chk 8 (h k) ∷ [])

@@ -1,0 +1,190 @@
+-- Demand 3: the laws of a call by its refusal number, and of any number of accepted calls on one reach.
+-- Assumes nothing.
+use mathlib.Core.Path.{_≡_, refl, sym, _∙_, ap, ap₂, subst}
+use mathlib.Core.Bool.{true, false, not}
+use mathlib.Core.List.{[], _∷_, _++_}
+use mathlib.Core.Logic.{_⊎_, inl, inr}
+use Prim.Native.Nat.{ℕ, suc, _%_, _<_}
+use native.Mathlib.Omega.{arith}
+use lib.Dec.{eqb, eqb→eq, ltb}
+use lib.IntN.{ℤ, pos, natAbs, _+ℤ_, _-ℤ_, _*ℤ_}
+use lib.Signed.{ltZ, _≤ℤ_, _<ℤ_}
+use Rattle.whole.specs.Flags.{or-l, or-r, not-f, held, by}
+use Rattle.whole.specs.Parts.{of-le}
+use Rattle.whole.specs.Difference.{at, lit, _⊞_, _⊟_, le!, lt!, eq! }
+use Rattle.whole.specs.Tests.{lt-no, lt-yes, no-lt}
+use Rattle.whole.specs.Choice.{sizeZ}
+use Rattle.tables.specs.Some.{some, some-none, some-yes}
+use Rattle.tables.specs.Cells.{Cell}
+use Rattle.rules.specs.Limits.{longestCell, longestStep, largestJump, highestBed, deepest, fullest}
+use Rattle.rules.specs.Lawful.{Lawful}
+use Rattle.rules.specs.Reach.{Reach, Call, State, ql, qr, Bed, under, h0, hl, hr}
+use Rattle.rules.specs.Stage.{faceAt}
+use Rattle.rules.specs.Step.{rubbed, stageOne, carry, next}
+use Rattle.rules.specs.Refusals.{outside, past, offCell, off, tooLong, badCall, badBed, chk, stageChecks, early, checks, verdict, refusal}
+use Rattle.rules.specs.AtRest.{AtRest}
+use Rattle.rules.specs.Laws.Agree.{Same}
+use Rattle.rules.specs.Laws.Accept.{Clear, any-none, One, any-one, passed}
+use Rattle.rules.specs.Laws.Positive.{Fine, Nonneg, Wet, mean≥0, Brief, stageOne-wet, next-wet}
+use Rattle.rules.specs.Laws.Balance.{sum-same, water, balanced}
+use Rattle.rules.specs.Laws.EvenBed.{even-of, EvenBed}
+use Rattle.rules.specs.Laws.Rest.{rest-same, next-rest, carry-none}
+
+-- ---- what the checks say
+-- a number that is not outside its list
+above-least : (a b x : ℤ) → outside a b x ≡ false → a ≤ℤ x
+above-least a b x e = lt-no x a (or-l (ltZ x a) (ltZ b x) e)
+
+fine : (r : Reach) (c : Call) → badCall r c ≡ false → Fine r c
+unfolding badCall
+fine r c e =
+    let f = any-none (outside (pos 1) longestCell (r .dx) ∷ outside (pos 1) longestStep (c .dt) ∷ outside (pos 0) largestJump (c .jump) ∷ ltb 1 (c .left) ∷ ltb 1 (c .right) ∷ []) e in
+    record {
+      dx = lt! (lit 0) (at (r .dx)) (omega (arith, of-le (above-least (pos 1) longestCell (r .dx) (f .0))));
+      dt = le! (lit 0) (at (c .dt)) (omega (arith, of-le (above-least (pos 1) longestStep (c .dt) (f .1 .0))));
+      jump = above-least (pos 0) largestJump (c .jump) (f .1 .1 .0);
+    }
+
+even-bed : (r : Reach) → some (λ i. badBed (r .bed i)) (suc (r .n)) ≡ false → EvenBed r
+unfolding badBed
+even-bed r e i l =
+    let z = r .bed i in let odd = eqb (natAbs z % 2) 0 in
+    let f : badBed z ≡ false = some-none (λ i. badBed (r .bed i)) (suc (r .n)) e i l in
+    even-of z (eqb→eq (natAbs z % 2) 0 (held odd (not-f odd (or-r (outside (pos 0) highestBed z) (not odd) f))))
+
+in-range : (r : Reach) (s : State) → some (off r s) (r .n) ≡ false → Wet r s
+unfolding off offCell
+in-range r s e i l =
+    let b = under r i in let x = s i in
+    let f = any-none (outside (pos 0) deepest (hl b x) ∷ outside (pos 0) deepest (hr b x) ∷ past fullest (ql x) ∷ past fullest (qr x) ∷ []) (some-none (off r s) (r .n) e i l) in
+    record { left = above-least (pos 0) deepest (hl b x) (f .0); right = above-least (pos 0) deepest (hr b x) (f .1 .0) }
+
+brief : (r : Reach) (c : Call) (s : State) → some (tooLong r c s) (suc (r .n)) ≡ false → Brief r c s
+unfolding tooLong
+brief r c s e i l = lt-no (pos 4096 *ℤ r .dx) (pos 2 *ℤ c .dt *ℤ faceAt r c s i .S) (some-none (tooLong r c s) (suc (r .n)) e i l)
+
+-- a call that passed the checks up to stage one's faces
+pub record Early (r : Reach) (c : Call) (s : State) : Type 0 where
+  pub fine : Fine r c
+  pub even : EvenBed r
+  pub wet : Wet r s
+  pub brief : Brief r c (rubbed r c s)
+
+early-of : (r : Reach) (c : Call) (s : State) → Clear (early r c s) → Early r c s
+unfolding early stageChecks
+early-of r c s k = record { fine = fine r c (k .0); even = even-bed r (k .1 .0); wet = in-range r s (k .1 .1 .1 .0); brief = brief r c (rubbed r c s) (k .1 .1 .1 .1 .1 .1 .1 .0) }
+
+-- ---- an 8 is due to a value too large, never to a depth below nought
+pub TooLarge : Bed → Cell → Type 0
+TooLarge b x = (deepest <ℤ hl b x) ⊎ ((deepest <ℤ hr b x) ⊎ ((fullest <ℤ sizeZ (ql x)) ⊎ (fullest <ℤ sizeZ (qr x))))
+
+-- every depth is at or above nought, and some value is too large
+pub record Large (r : Reach) (s : State) : Type 0 where
+  pub wet : Wet r s
+  pub place : ℕ
+  pub below : place < r .n
+  pub large : TooLarge (under r place) (s place)
+
+large-of : (r : Reach) (s : State) → Wet r s → some (off r s) (r .n) ≡ true → Large r s
+unfolding off offCell TooLarge
+large-of r s w e = let f = some-yes (off r s) (r .n) e in let i = f .0 in let b = under r i in let x = s i in
+    record {
+      wet = w;
+      place = i;
+      below = f .1;
+      large = go b x (w i (f .1)) (any-one (outside (pos 0) deepest (hl b x) ∷ outside (pos 0) deepest (hr b x) ∷ past fullest (ql x) ∷ past fullest (qr x) ∷ []) (f .2));
+    }
+  where
+    too-deep : (d : ℤ) → pos 0 ≤ℤ d → outside (pos 0) deepest d ≡ true → deepest <ℤ d
+    too-deep d h e = lt-yes deepest d (rw (no-lt d (pos 0) h) at e)
+
+    go : (b : Bed) (x : Cell) → Nonneg b x → One (outside (pos 0) deepest (hl b x) ∷ outside (pos 0) deepest (hr b x) ∷ past fullest (ql x) ∷ past fullest (qr x) ∷ []) → TooLarge b x
+    go b x n (inl a) = inl (too-deep (hl b x) (n .left) a)
+    go b x n (inr (inl a)) = inr (inl (too-deep (hr b x) (n .right) a))
+    go b x n (inr (inr (inl a))) = inr (inr (inl (lt-yes fullest (sizeZ (ql x)) a)))
+    go b x n (inr (inr (inr (inl a)))) = inr (inr (inr (lt-yes fullest (sizeZ (qr x)) a)))
+
+module _ (r : Reach) (law : Lawful (r .face)) (c : Call) (s : State) where
+  -- stage one's finished state, and the end state, have no depth below nought
+  pub wet-stageOne : Early r c s → Wet r (stageOne r c s)
+  wet-stageOne a = stageOne-wet r law c (a .fine) s (a .wet) (a .brief)
+
+  pub wet-next : Early r c s → Brief r c (stageOne r c s) → Wet r (next r c s)
+  wet-next a b = next-wet r law c (a .fine) s (a .wet) (a .brief) b
+
+  -- the two states whose range is checked by an 8: the finished stage one, and the end state
+  pub eight : refusal r c s ≡ 8 → Large r (stageOne r c s) ⊎ Large r (next r c s)
+  unfolding refusal checks early stageChecks verdict
+  eight e =
+      let a = some (off r (stageOne r c s)) (r .n) in let b = some (off r (next r c s)) (r .n) in
+      let p = passed 8 (early r c s) (chk 8 a ∷ stageChecks r c (stageOne r c s) ++ chk 8 b ∷ []) tt e in
+      let k : Early r c s = early-of r c s (p .0) in
+      by a
+      (λ d. inl (large-of r (stageOne r c s) (wet-stageOne k) d))
+      (λ d.
+      let q = passed 8 (stageChecks r c (stageOne r c s)) (chk 8 b ∷ []) tt (rw d at (p .1)) in
+      inr (large-of r (next r c s) (wet-next k (brief r c (stageOne r c s) (q .0 .1 .1 .0))) (by b (λ x. x) (λ x. let z : _≡_ {A = ℕ} 0 8 = rw x at (q .1) in let y : ⊥ = omega arith in absurd y))))
+
+-- ---- an accepted call
+pub record Accepted (r : Reach) (c : Call) (s : State) : Type 0 where
+  pub early : Early r c s
+  pub brief : Brief r c (stageOne r c s)
+  pub one : some (off r (stageOne r c s)) (r .n) ≡ false
+  pub end : some (off r (next r c s)) (r .n) ≡ false
+
+pub accepted : (r : Reach) (c : Call) (s : State) → refusal r c s ≡ 0 → Accepted r c s
+unfolding refusal checks early stageChecks
+accepted r c s e =
+    let a = some (off r (stageOne r c s)) (r .n) in let b = some (off r (next r c s)) (r .n) in
+    let p = passed 0 (early r c s) (chk 8 a ∷ stageChecks r c (stageOne r c s) ++ chk 8 b ∷ []) tt e in
+    let q = passed 0 (chk 8 a ∷ stageChecks r c (stageOne r c s) ++ chk 8 b ∷ []) [] tt (p .1) in
+    record { early = early-of r c s (p .0); brief = brief r c (stageOne r c s) (q .0 .1 .1 .1 .0); one = q .0 .0; end = q .0 .1 .1 .1 .1 .0 }
+
+-- no depth, mean or face, is below nought: in the state it starts from, in the finished stage one, in the end state
+pub record Depths (r : Reach) (s : State) : Type 0 where
+  pub faces : Wet r s
+  pub mean : (i : ℕ) → i < r .n → pos 0 ≤ℤ h0 (under r i) (s i)
+
+pub depths : (r : Reach) (s : State) → Wet r s → Depths r s
+depths r s w = record { faces = w; mean = λ i l. mean≥0 (under r i) (s i) (w i l) }
+
+pub accepted-depths : (r : Reach) → Lawful (r .face) → (c : Call) (s : State) → refusal r c s ≡ 0 → (Depths r s) × (Depths r (stageOne r c s)) × (Depths r (next r c s))
+accepted-depths r law c s e = let p = accepted r c s e in
+    (depths r s (p .early .wet), depths r (stageOne r c s) (wet-stageOne r law c s (p .early)), depths r (next r c s) (wet-next r law c s (p .early) (p .brief)))
+
+-- ---- any number of accepted calls, each from the state that the one before it left in the reach; a and b: what crossed face 0 and face n
+pub data Run (r : Reach) : State → State → ℤ → ℤ → Type 0 where
+  stop : (s : State) → Run r s s (pos 0) (pos 0)
+  step : (c : Call) (s m t : State) (a b : ℤ) → refusal r c s ≡ 0 → Same r m (next r c s) → Run r m t a b → Run r s t (carry r c s 0 +ℤ a) (carry r c s (r .n) +ℤ b)
+
+wet-same : (r : Reach) (s t : State) → Same r t s → Wet r s → Wet r t
+wet-same r s t e w i l = subst (Nonneg (under r i)) (sym (e i l)) (w i l)
+
+water-same : (r : Reach) (s t : State) → Same r t s → water r t ≡ water r s
+unfolding water
+water-same r s t e = sum-same (λ i. h0 (under r i) (t i)) (λ i. h0 (under r i) (s i)) (r .n) (λ i l. ap (h0 (under r i)) (e i l))
+
+-- the water changes by what crossed the ends, exactly
+pub run-balanced : (r : Reach) {s t : State} {a b : ℤ} → Run r s t a b → water r t ≡ water r s +ℤ a -ℤ b
+run-balanced r (stop s) = eq! (at (water r s)) (at (water r s) ⊞ lit 0 ⊟ lit 0) (omega arith)
+run-balanced r (step c s m t a b e f k) =
+    let w = water r s in let x = carry r c s 0 in let y = carry r c s (r .n) in
+    run-balanced r k ∙ ap (λ (z : ℤ). z +ℤ a -ℤ b) (water-same r (next r c s) m f ∙ balanced r c s)
+    ∙ eq! (at w ⊞ at x ⊟ at y ⊞ at a ⊟ at b) (at w ⊞ (at x ⊞ at a) ⊟ (at y ⊞ at b)) (omega arith)
+
+-- no depth falls below nought
+pub run-wet : (r : Reach) → Lawful (r .face) → {s t : State} {a b : ℤ} → Run r s t a b → Wet r s → Wet r t
+run-wet r law (stop s) w = w
+run-wet r law (step c s m t a b e f k) w = let p = accepted r c s e in run-wet r law k (wet-same r (next r c s) m f (wet-next r law c s (p .early) (p .brief)))
+
+-- a lake at rest keeps every number, and nothing crosses its ends
+pub run-rest : (r : Reach) → Lawful (r .face) → 0 < r .n → {s t : State} {a b : ℤ} → Run r s t a b → AtRest r s → (Same r t s) × (a ≡ pos 0) × (b ≡ pos 0)
+run-rest r law o (stop s) w = (λ i l. refl, refl, refl)
+run-rest r law o (step c s m t a b e f k) w =
+    let p = accepted r c s e in let ev = p .early .even in let j = p .early .fine .jump in
+    let same : Same r m s = λ i l. f i l ∙ next-rest r law ev o c j s w i l in
+    let q = run-rest r law o k (rest-same r s m same w) in (
+      λ i l. q .0 i l ∙ same i l,
+      ap₂ _+ℤ_ (carry-none r law ev o c j s w 0 (omega arith)) (q .1),
+      ap₂ _+ℤ_ (carry-none r law ev o c j s w (r .n) (omega arith)) (q .2),
+    )

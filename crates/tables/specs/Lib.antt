@@ -1,0 +1,4 @@
+-- Lists as tables: some entry with a property, rows made from an index, four numbers to a cell and back, what a loop has written so far.
+pub mod Some
+pub mod Rows
+pub mod Cells

@@ -1,0 +1,1 @@
+// No code: the laws of whole numbers that every crate above cites stand in specs/.

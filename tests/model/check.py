@@ -1,0 +1,221 @@
+"""Document 01's table, its run cases and demand 3, tried on the model.
+
+Prints a line for each row or case and last 'N passed, M failed'; the exit status
+is 1 when something failed.
+"""
+
+import random
+import sys
+
+import hard
+import model as m
+
+passed = failed = 0
+
+
+def case(name, found, wanted):
+    global passed, failed
+    if found == wanted:
+        passed += 1
+        print("passed  %s" % name)
+    else:
+        failed += 1
+        print("FAILED  %s: found %s, wanted %s" % (name, found, wanted))
+
+
+# ---- "Numbers on either side"
+
+def rows():
+    case("row 1: a(0), a(1), a(4096)", [m.wave_speed(h) for h in (0, 1, 4096)], [0, 200, 12829])
+    case("row 2: c at h0 = 5, 4096", [m.cube_root(h) for h in (5, 4096)], [437, 4096])
+    case("row 3: speed of 5000 at 4, of 160 at 5", [m.speed(5000, 4), m.speed(160, 5)], [0, 131072])
+    fast = m.step([5, 0, 161, 0], 4, [0, 0], [0], 4096, 1, 0, 0, 0)
+    case("row 4: speed of 161 at 5, so refusal 6", [m.speed(161, 5), fast], [131891, ("refused", 6)])
+    case("row 5: (0,0 | 0,0)", tuple(m.face(0, 0, 0, 0)), (0, 0, 0, 0))
+    case("row 6: (4096,0 | 4096,0)", tuple(m.face(4096, 0, 4096, 0)), (0, 16777216, 0, 12829))
+    case("row 7: (4096,0 | 0,0)", tuple(m.face(4096, 0, 0, 0)), (8552, 11184810, 0, 25658))
+    case("row 8: (0,0 | 4096,0)", tuple(m.face(0, 0, 4096, 0)), (-8552, 11184810, 0, 25658))
+    case("row 9: (4096,4096 | 4096,-4096)", tuple(m.face(4096, 4096, 4096, -4096)), (0, 16777216, 18973, 14877))
+    case("row 10: (4096,20480 | 4096,20480)", tuple(m.face(4096, 20480, 4096, 20480)), (20480, 16777216, 102400, 33309))
+    case("row 11: friction on q 4096, h0 4096, value 30, dt 4096", m.friction(4096, 0, 4096, 30, 4096), (578, 4060, 0))
+    case("row 12: minmod(3,5,2), minmod(3,-1,2)", [m.minmod(3, 5, 2), m.minmod(3, -1, 2)], [2, 0])
+
+
+# ---- "Run by a program"
+
+def still(n, level, z, dx, dt, left=0, right=0):
+    """n flat cells of one level on a flat bed."""
+    now = [level, 0, 0, 0] * n
+    return now, m.step(now, 4 * n, [z] * (n + 1), [0] * n, dx, dt, 0, left, right)
+
+
+def runs():
+    now, answer = still(1, 4096, 0, 4096, 653)
+    case("run: one flat cell, dt 653 accepted and unchanged", answer, ("accepted", now, 0, 0))
+    case("run: one flat cell, dt 654", still(1, 4096, 0, 4096, 654)[1], ("refused", 7))
+    # 01 leaves the ends of this case open: the inner face decides, whatever they are
+    dam = [4096, 0, 0, 0, 0, 0, 0, 0]
+    ends = [(left, right) for left in (0, 1) for right in (0, 1)]
+    case("run: levels 4096 and 0, dt 327", [m.step(dam, 8, [0] * 3, [0] * 2, 4096, 327, 0, *e) for e in ends],
+         [("refused", 7)] * 4)
+    now, answer = still(1024, 4096, 0, 4096, 653)
+    case("run: 1,024 cells", answer, ("accepted", now, 0, 0))
+    case("run: 1,025 cells", still(1025, 4096, 0, 4096, 653)[1], ("refused", 1))
+    now, answer = still(1, 1048576 + 4096, 1048576, 4096, 653)
+    case("run: bed 1,048,576", answer, ("accepted", now, 0, 0))
+    for z in (1048575, 1048578):
+        case("run: bed %d" % z, still(1, z + 4096, z, 4096, 653)[1], ("refused", 3))
+
+
+# ---- Limits of the public rules
+
+def limits():
+    h, q, u = 262144, 8388608, 131072
+    case("limits: speed", [m.speed(q, h), m.speed(-q, h), m.speed(q + 1, h), m.speed(-q - 1, h), m.speed(0, -1), m.speed(0, h + 1)],
+         [131072, -131072, None, None, None, None])
+    case("limits: wave speed and cube root",
+         [f(x) for f in (m.wave_speed, m.cube_root) for x in (-1, h, h + 1)], [None, 102632, None, None, 16384, None])
+    case("limits: face, depths", [m.face(a, 0, b, 0) is None for a, b in ((-1, 0), (0, -1), (h + 1, 0), (0, h + 1), (h, h))],
+         [True, True, True, True, False])
+    case("limits: face, speeds", [m.face(9, a, 9, b) is None for a, b in ((-u - 1, 0), (0, u + 1), (u + 1, 0), (0, -u - 1), (u, -u))],
+         [True, True, True, True, False])
+    case("limits: face, speeds at depth 0", tuple(m.face(0, u, 0, -u)), (0, 0, 0, 0))
+    # q 161 at depth 5 is too fast; at depth 4 it has no speed
+    case("limits: friction", [m.friction(*a) for a in ((160, 0, 5, 0, 1), (161, 0, 5, 0, 1), (161, 0, 4, 200, 1), (0, q + 1, 9, 0, 1),
+                                                       (0, 0, 9, 201, 1), (0, 0, 9, 0, 0), (0, 0, 9, 0, 4097), (0, 0, h + 1, 0, 1))],
+         [(0, 160, 0), None, (0, 161, 0)] + [None] * 5)
+
+
+# ---- Demand 3 on random calls
+
+def water(now, bed):
+    """The sum of mean depths."""
+    return sum(now[4 * i] - (bed[i] + bed[i + 1]) // 2 for i in range(len(bed) - 1))
+
+
+def watched(check_range, seen):
+    """check_range, noting a depth below nought in a state that is finished."""
+    def check(cells, call, number, name):
+        if number == 8:
+            for i, cell in enumerate(cells):
+                f = m.cell_faces(cell, call.bed[i], call.bed[i + 1])
+                low = min(cell.e0 - cell.e1 - call.bed[i], cell.e0 + cell.e1 - call.bed[i + 1])
+                seen["depths"] += 1
+                seen["below"] += low < 0
+                # the shortfall correction moved the bed the face reads
+                seen["corrected"] += (f.zl, f.zr) != (call.bed[i], call.bed[i + 1])
+        check_range(cells, call, number, name)
+    return check
+
+
+def calls_hold(seed, count):
+    accepted = unbalanced = leaking = 0
+    seen = dict(depths=0, below=0, corrected=0)
+    plain = m.check_range
+    m.check_range = watched(plain, seen)
+    try:
+        for call in hard.calls(seed, count):
+            now, _, bed, _, _, _, _, left, right = call
+            answer = m.step(*call)
+            if answer[0] == "accepted":
+                accepted += 1
+                _, new, W0, Wn = answer
+                unbalanced += water(new, bed) != water(now, bed) + W0 - Wn
+                leaking += (left == 0 and W0 != 0) or (right == 0 and Wn != 0)
+    finally:
+        m.check_range = plain
+    case("demand 3: water sum over %d accepted of %d random calls" % (accepted, count), unbalanced, 0)
+    case("demand 3: nothing passes a wall, same calls", leaking, 0)
+    case("demand 3: no depth below nought in %d finished cells, refused ones too" % seen["depths"], seen["below"], 0)
+    case("shortfall: nought in the same cells", seen["corrected"], 0)
+    case("random calls: at least three in ten accepted", 10 * accepted >= 3 * count, True)
+
+
+def at_rest(rnd, n):
+    """A state at rest: pools whose shores are exactly at faces, dry ground between them."""
+    bed, now = [0] * (n + 1), []
+    at, wet = 0, rnd.randrange(2)
+    while at < n:
+        k = rnd.randint(1, n - at)
+        level = 2 * rnd.randint(0, m.HIGHEST_BED // 2)
+        low = max(0, level - m.DEEPEST) if wet else 0
+        if wet and rnd.randrange(2):
+            low = max(low, level - 20000)
+        high = level if wet else m.HIGHEST_BED
+        for j in range(at + (at > 0), at + k + 1):
+            bed[j] = 2 * rnd.randint((low + 1) // 2, high // 2)
+        if wet and at > 0:
+            bed[at] = level
+        if wet and at + k < n:
+            bed[at + k] = level
+        elif wet and at == 0:
+            level = min(level + rnd.randrange(2), min(bed) + m.DEEPEST)   # no shore: the level may be odd
+        now += [(level, wet)] * k
+        at, wet = at + k, not wet
+    state = []
+    for i, (level, covered) in enumerate(now):
+        zl, zr = bed[i], bed[i + 1]
+        state += [level, 0, 0, 0] if covered else [(zl + zr) // 2, (zr - zl) // 2, 0, 0]
+    return state, bed
+
+
+def rest_holds(seed, count):
+    rnd = random.Random(seed)
+    accepted = moved = otherwise = 0
+    for _ in range(count):
+        n = rnd.choice((1, 2, 3, 5, 16))
+        now, bed = at_rest(rnd, n)
+        dx = rnd.choice((1, 4096, rnd.randint(1, m.LONGEST_DX)))
+        for _ in range(3):
+            dt = rnd.choice((1, rnd.randint(1, m.LONGEST_DT)))
+            friction = [rnd.randint(0, m.ROUGHEST) for _ in range(n)]
+            jump = rnd.choice((0, 0, rnd.randint(0, m.GREATEST_JUMP)))
+            answer = m.step(now, 4 * n, bed, friction, dx, dt, jump, rnd.randrange(2), rnd.randrange(2))
+            if answer[0] == "accepted":
+                accepted += 1
+                moved += answer != ("accepted", now, 0, 0)
+            else:
+                otherwise += answer != ("refused", 7)
+    case("demand 3: lake at rest stays, %d accepted of %d steps" % (accepted, 3 * count), moved, 0)
+    case("demand 3: a lake at rest is refused by 7 alone", otherwise, 0)
+    case("lakes at rest: at least half accepted", 2 * accepted >= 3 * count, True)
+
+
+def runs_hold(seed, count):
+    """Several steps of one bed, n and dx; dt, J, friction and ends differ from step to step."""
+    rnd = random.Random(seed)
+    steps = wrong = 0
+    for _ in range(count):
+        n = rnd.choice((1, 2, 3, 16))
+        bed = [2 * rnd.randrange(300) for _ in range(n + 1)]
+        now = []
+        for zl, zr in zip(bed, bed[1:]):
+            h = rnd.randint(600, 9000)
+            now += hard.placed(zl, zr, *hard.flowing(rnd, h, rnd.randint(-h // 9, h // 9), 4000))
+        dx, start, passed_in = rnd.randint(1, 60000), water(now, bed), 0
+        for _ in range(12):
+            friction = [rnd.randint(0, 60) for _ in range(n)]
+            answer = m.step(now, 4 * n, bed, friction, dx, rnd.randint(1, 1 + dx // 20 % 4096), rnd.choice((0, 10, 999)),
+                            rnd.randrange(2), rnd.randrange(2))
+            if answer[0] == "refused":
+                break
+            steps += 1
+            _, now, W0, Wn = answer
+            passed_in += W0 - Wn
+        wrong += water(now, bed) != start + passed_in
+    case("demand 3: water sum over runs, %d accepted steps in %d runs" % (steps, count), wrong, 0)
+
+
+def main():
+    rows()
+    runs()
+    limits()
+    calls_hold(3, 3000)
+    rest_holds(4, 800)
+    runs_hold(5, 150)
+    print("%d passed, %d failed" % (passed, failed))
+    return 1 if failed else 0
+
+
+if __name__ == "__main__":
+    sys.exit(main())

@@ -1,0 +1,465 @@
+"""Seeded random calls chosen to be hard, to compare the library with the model.
+
+calls(seed, count) yields the arguments of model.step, faces(seed, count) those of
+model.face.  Every table value fits its lent type (i32, u16), every other argument
+is at or above nought and fits an i32, so that each call can be made of the library.
+
+Run as a script it prints how the answers are spread:  hard.py [seed [count]]
+"""
+
+import random
+import sys
+import time
+from collections import Counter
+
+import model as m
+
+I32 = 2 ** 31
+
+
+# ---- Beds
+
+def beds(rnd, n):
+    """n + 1 even face values: flat, rolling, broken, steep, or the limits in turn."""
+    kind = rnd.choice((0, 0, 1, 2, 1, 2, 3, 3, 4, 5))
+    if kind == 0:
+        return [2 * rnd.randrange(m.HIGHEST_BED // 2 + 1)] * (n + 1)
+    if kind in (1, 2):
+        most = rnd.choice((1, 4, 40, 1000))
+        z = [2 * rnd.randrange(m.HIGHEST_BED // 2 + 1)]
+        for _ in range(n):
+            z.append(min(m.HIGHEST_BED, max(0, z[-1] + 2 * rnd.randint(-most, most))))
+        return z
+    if kind == 3:
+        low = 2 * rnd.randrange(20000)
+        return [low + 2 * rnd.randrange(3000) * rnd.randrange(2) for _ in range(n + 1)]
+    if kind == 4:
+        return [2 * rnd.randrange(m.HIGHEST_BED // 2 + 1) for _ in range(n + 1)]
+    return [rnd.choice((0, 0, 2, m.HIGHEST_BED, m.HIGHEST_BED - 2)) for _ in range(n + 1)]
+
+
+# ---- Cells, given as depth mean and slope, discharge mean and slope
+
+def flowing(rnd, h0, h1, fast):
+    """Discharges that give each face a speed of at most about `fast`."""
+    ql = (h0 - h1) * rnd.randint(-fast, fast) // m.UNIT
+    qr = (h0 + h1) * rnd.randint(-fast, fast) // m.UNIT
+    if rnd.randrange(3) == 0:           # one direction, as in a steady flow
+        qr = (h0 + h1) * ql // max(1, h0 - h1)
+    q0 = (ql + qr) // 2
+    return h0, h1, q0, qr - q0 if rnd.randrange(4) else 0
+
+
+def still_bed(rnd, fast):
+    """Depth 0; sometimes with a discharge that no face can show."""
+    if rnd.randrange(8):
+        return 0, 0, 0, 0
+    return 0, 0, rnd.randint(-m.GREATEST_Q // 2, m.GREATEST_Q // 2), rnd.randint(-99, 99)
+
+
+def thin(rnd, fast):
+    h0 = rnd.randint(0, 12)
+    return flowing(rnd, h0, rnd.randint(-h0, h0), fast)
+
+
+def shallow(rnd, fast):
+    h0 = rnd.randint(5, 400)
+    h1 = rnd.choice((0, h0, -h0, rnd.randint(-h0, h0), rnd.randint(-h0, h0)))
+    return flowing(rnd, h0, h1, fast)
+
+
+def ordinary(rnd, fast):
+    h0 = rnd.randint(400, 20000)
+    most = h0 // rnd.choice((1, 4, 50))
+    return flowing(rnd, h0, rnd.randint(-most, most), fast)
+
+
+def deep(rnd, fast):
+    """Near the depth limit at one face or both."""
+    top = m.DEEPEST - rnd.choice((0, 1, 3, 500, 9000))
+    h1 = rnd.choice((0, 0, rnd.randint(-top // 2, top // 2)))
+    return flowing(rnd, top - abs(h1), h1, fast)
+
+
+def full(rnd, fast):
+    """Near the discharge limit: deep enough that the speed still fits."""
+    h0 = rnd.randint(m.DEEPEST // 4, m.DEEPEST)
+    q1 = rnd.randint(-9, 9)
+    most = min(m.GREATEST_Q - abs(q1), 32 * h0)
+    return h0, 0, rnd.choice((-1, 1)) * (most - rnd.choice((0, 1, 5, 4000))), q1
+
+
+def racing(rnd, fast):
+    """Mean, face or Gauss speed at 131,072 or a little to either side of it."""
+    h0 = rnd.randint(5, rnd.choice((40, 4000, 200000)))
+    h1 = rnd.choice((0, 0, rnd.randint(-h0 // 2, h0 // 2)))
+    q0 = 32 * h0 + rnd.choice((-40, -1, 0, 0, 0, h0 // m.UNIT, 1 + h0 // m.UNIT))
+    q1 = 32 * h1 + rnd.choice((0, 0, -1, 1))
+    sign = rnd.choice((-1, 1))
+    return h0, h1, sign * q0, sign * q1
+
+
+KINDS = (still_bed, thin, shallow, ordinary, deep, full, racing)
+MIXES = (
+    (shallow, shallow, thin, still_bed),
+    (ordinary,),
+    (ordinary, ordinary, shallow),
+    (ordinary, shallow, still_bed),
+    (ordinary, ordinary, ordinary, ordinary, racing, full),
+    (thin, still_bed),
+    (ordinary, ordinary, thin),
+    (deep,),
+    (deep, ordinary),
+    (full,),
+    (full, deep, racing),
+    (racing, shallow),
+    (still_bed,),
+    KINDS,
+)
+
+
+def placed(zl, zr, h0, h1, q0, q1):
+    """The cell's four numbers over its bed, brought within the present state's range."""
+    h0 = min(h0, m.DEEPEST)
+    h1 = max(-h0, min(h0, h1))
+    h0 = min(h0, m.DEEPEST - abs(h1))
+    h1 = max(-h0, min(h0, h1))
+    q1 = max(-m.GREATEST_Q, min(m.GREATEST_Q, q1))
+    most = m.GREATEST_Q - abs(q1)
+    q0 = max(-most, min(most, q0))
+    return [h0 + (zl + zr) // 2, h1 + (zr - zl) // 2, q0, q1]
+
+
+def lake(rnd, bed):
+    """One level over every cell it covers, dry ground elsewhere."""
+    low, high = min(bed), max(bed)
+    level = min(low + m.DEEPEST, rnd.choice((high, high + rnd.randrange(5000), rnd.randint(low, high))))
+    now = []
+    for zl, zr in zip(bed, bed[1:]):
+        if level >= max(zl, zr) and level - min(zl, zr) <= m.DEEPEST:
+            now += [level, 0, 0, 0]
+        else:
+            now += [(zl + zr) // 2, (zr - zl) // 2, 0, 0]
+    return now
+
+
+def states(rnd, bed):
+    n = len(bed) - 1
+    if rnd.randrange(12) == 0:
+        now = lake(rnd, bed)
+        if rnd.randrange(2):
+            now[4 * rnd.randrange(n) + 2] += rnd.randint(-3, 3)
+        return now
+    mix = rnd.choice(MIXES)
+    fast = rnd.choice((0, 60, 2000, 2000, 9000, 30000, m.FASTEST))
+    now = []
+    for zl, zr in zip(bed, bed[1:]):
+        now += placed(zl, zr, *rnd.choice(mix)(rnd, fast))
+    return now
+
+
+def gentle(rnd, n):
+    """A reach with nothing extreme in it, as a long random one is refused nearly always."""
+    bed = [2 * rnd.randrange(20000)]
+    for _ in range(n):
+        bed.append(max(0, bed[-1] + 2 * rnd.randint(-20, 20)))
+    deep_, fast, now = rnd.randint(300, 12000), rnd.choice((200, 3000)), []
+    for zl, zr in zip(bed, bed[1:]):
+        h0 = deep_ + rnd.randint(-deep_ // 20, deep_ // 20)
+        now += placed(zl, zr, *flowing(rnd, h0, rnd.randint(-h0 // 30, h0 // 30), fast))
+    return bed, now
+
+
+# ---- dx, dt and J, chosen against the state
+
+def greatest_S(now, bed, friction, dt, left, right):
+    """The greatest S of stage one, or None where it refuses earlier."""
+    n = len(friction)
+    call = m.Call(n, bed, friction, m.LONGEST_DX, dt, 0, left, right)
+    try:
+        cells = m.cells_of(now)
+        m.check_range(cells, call, 5, "")
+        slow = m.after_friction(cells, call)
+        # a dt of nought keeps check 7 silent while S is looked for
+        return max(f.S for f in m.fluxes(m.face_speeds(slow, call, 1), call._replace(dt=0), 1))
+    except m.Refused:
+        return None
+
+
+def lengths_and_times(rnd, now, bed, friction, left, right):
+    """dx and dt at the limit of check 7, a little beside it, well within it, or free."""
+    dt = rnd.choice((1, rnd.randint(1, 60), rnd.randint(1, 700), rnd.randint(1, m.LONGEST_DT), m.LONGEST_DT))
+    S = greatest_S(now, bed, friction, dt, left, right)
+    how = rnd.randrange(20)
+    if how == 0 or not S:
+        return rnd.choice((1, rnd.randint(1, 99), rnd.randint(1, m.LONGEST_DX), m.LONGEST_DX)), dt
+    if how <= 4:
+        # the least dx that check 7 allows at this dt, and one to either side
+        dx = -(-2 * dt * S // m.UNIT) + rnd.choice((-1, 0, 0, 0, 0, 1))
+    elif how <= 7:
+        # 4096*dx/(2S) at a dx chosen first; friction moves S a little with dt
+        dx = rnd.randint(1 + 2 * S // m.UNIT, 5 + 8000 * S // m.UNIT)
+        dt = max(1, min(m.LONGEST_DT, m.UNIT * dx // (2 * S) + rnd.choice((-1, 0, 0, 1))))
+    else:
+        dx = (2 * dt * S // m.UNIT + 1) * rnd.choice((1, 2, 2, 3, 5, 20, 200)) + rnd.randrange(3)
+    return max(1, min(m.LONGEST_DX, dx)), dt
+
+
+def jumps(rnd, now, bed, friction, dx, dt, left, right):
+    """J: nought, free, or the very difference that an inner face of stage one shows."""
+    how = rnd.randrange(8)
+    if how < 2:
+        return 0
+    if how < 4:
+        return rnd.choice((1, rnd.randrange(50), rnd.randrange(3000), m.GREATEST_JUMP))
+    n = len(friction)
+    if n == 1:
+        return rnd.randrange(m.GREATEST_JUMP + 1)
+    call = m.Call(n, bed, friction, dx, dt, 0, left, right)
+    try:
+        cells = m.cells_of(now)
+        m.check_range(cells, call, 5, "")
+        one, _ = m.stage(m.after_friction(cells, call), call, 1)
+    except m.Refused:
+        return rnd.randrange(500)
+    i = rnd.randrange(n - 1)
+    d = abs((one[i].e0 + one[i].e1) - (one[i + 1].e0 - one[i + 1].e1)) - rnd.choice((0, 0, 1))
+    return max(0, min(m.GREATEST_JUMP, d))
+
+
+# ---- Faults, one or several at once, so that their order is tried
+
+def fault_lengths(rnd, c):
+    how = rnd.randrange(8)
+    if how == 0:
+        c["next_len"] = rnd.choice((0, 1, c["next_len"] + 1, c["next_len"] - 1, c["next_len"] + 4))
+    elif how == 1:
+        c["now"] = c["now"][:-1]
+    elif how == 2:
+        c["now"] = c["now"] + [0]
+    elif how == 3:
+        c["bed"] = c["bed"][:-1]
+    elif how == 4:
+        c["bed"] = c["bed"] + [0]
+    elif how == 5:
+        c["friction"] = []
+    elif how == 6:
+        c["friction"] = c["friction"] + [0]
+    else:
+        # every table fits, but there is no cell or one too many
+        n = rnd.choice((0, m.MOST_CELLS + 1))
+        c["friction"], c["bed"], c["now"], c["next_len"] = [0] * n, [0] * (n + 1), [0] * (4 * n), 4 * n
+
+
+def fault_numbers(rnd, c):
+    name = rnd.choice(("dx", "dt", "jump", "left", "right"))
+    beyond = {"dx": (0, m.LONGEST_DX + 1, I32 - 1), "dt": (0, m.LONGEST_DT + 1, 65535),
+              "jump": (m.GREATEST_JUMP + 1, I32 - 1), "left": (2, 3, 255), "right": (2, 3, 255)}
+    c[name] = rnd.choice(beyond[name])
+
+
+def fault_bed(rnd, c):
+    if c["bed"]:
+        k = rnd.choice((0, len(c["bed"]) - 1, rnd.randrange(len(c["bed"]))))
+        bed = list(c["bed"])
+        bed[k] = rnd.choice((-1, -2, 1, m.HIGHEST_BED - 1, m.HIGHEST_BED + 1, m.HIGHEST_BED + 2,
+                             bed[k] | 1, -I32, I32 - 1))
+        c["bed"] = bed
+
+
+def fault_friction(rnd, c):
+    if c["friction"]:
+        k = rnd.choice((0, len(c["friction"]) - 1, rnd.randrange(len(c["friction"]))))
+        friction = list(c["friction"])
+        friction[k] = rnd.choice((m.ROUGHEST + 1, 255, 65535))
+        c["friction"] = friction
+
+
+def fault_range(rnd, c):
+    """One face depth or discharge one beyond its range, or a number as wide as an i32."""
+    now, bed = list(c["now"]), c["bed"]
+    i = rnd.randrange(max(1, len(now) // 4))
+    if len(now) < 4 * i + 4 or len(bed) < i + 2:
+        return
+    how = rnd.randrange(6)
+    if how == 0:
+        now[4 * i + rnd.randrange(4)] = rnd.choice((-I32, I32 - 1, -I32 + 1))
+    else:
+        z0, z1 = (bed[i] + bed[i + 1]) // 2, (bed[i + 1] - bed[i]) // 2
+        h0, h1, q0, q1 = now[4 * i] - z0, now[4 * i + 1] - z1, now[4 * i + 2], now[4 * i + 3]
+        sign = rnd.choice((-1, 1))
+        if how == 1:
+            h1 = sign * (h0 + 1)
+        elif how == 2:
+            h0, h1 = m.DEEPEST - 7, sign * 8
+        elif how == 3:
+            h0, h1 = -1, 0
+        elif how == 4:
+            q0, q1 = sign * (m.GREATEST_Q + 1), 0
+        else:
+            q0, q1 = sign * (m.GREATEST_Q - 7), rnd.choice((-8, 8))
+        now[4 * i:4 * i + 4] = [h0 + z0, h1 + z1, q0, q1]
+    c["now"] = [max(-I32, min(I32 - 1, v)) for v in now]
+
+
+def fault_speed(rnd, c):
+    """A mean, face or Gauss speed beyond the limit in a state that is in range."""
+    now, bed = list(c["now"]), c["bed"]
+    i = rnd.randrange(max(1, len(now) // 4))
+    if len(now) < 4 * i + 4 or len(bed) < i + 2:
+        return
+    h0 = rnd.randint(5, 3000)
+    h1, q0, q1 = rnd.choice((
+        (0, 32 * h0 + 1 + h0 // 4096, 0),       # mean
+        (h0 - 5, 31 * h0, 0),                   # the shallow face alone
+        (0, 16 * h0, 17 * h0),                  # a face alone
+        (0, 16 * h0, 28 * h0),                  # face and Gauss point
+        (h0 - 4, 31 * h0, 0),                   # the Gauss point alone: the face has no speed
+    ))
+    now[4 * i:4 * i + 4] = placed(bed[i], bed[i + 1], h0, h1, q0, q1)
+    c["now"] = [max(-I32, min(I32 - 1, v)) for v in now]
+
+
+FAULTS = (fault_lengths, fault_numbers, fault_bed, fault_friction, fault_range, fault_speed)
+
+
+def spoiled(rnd, c):
+    # speeds and ranges are set on the bed as it is, so the bed's own fault comes after them
+    chosen = rnd.sample(FAULTS, rnd.choice((1, 1, 2, 3)))
+    for fault in sorted(chosen, key=FAULTS.index, reverse=True):
+        fault(rnd, c)
+    return c
+
+
+# ---- Whole calls
+
+ORDER = ("now", "next_len", "bed", "friction", "dx", "dt", "jump", "left", "right")
+
+
+def hard_call(rnd):
+    n = rnd.choice((1, 1, 2, 2, 2, 3, 3, 3, 16, 16, rnd.randint(4, 12)))
+    if rnd.randrange(400) == 0:
+        n = m.MOST_CELLS
+    if rnd.randrange(4) < (3 if n == m.MOST_CELLS else 1):
+        bed, now = gentle(rnd, n)
+    else:
+        bed = beds(rnd, n)
+        now = states(rnd, bed)
+    rough = rnd.choice((0, 0, 1, 30, m.ROUGHEST))
+    friction = [rnd.randint(0, rough) if rnd.randrange(2) else rough for _ in range(n)]
+    left, right = rnd.randrange(2), rnd.randrange(2)
+    dx, dt = lengths_and_times(rnd, now, bed, friction, left, right)
+    jump = jumps(rnd, now, bed, friction, dx, dt, left, right)
+    c = dict(now=now, next_len=4 * n, bed=bed, friction=friction, dx=dx, dt=dt, jump=jump,
+             left=left, right=right)
+    return spoiled(rnd, c) if rnd.randrange(9) == 0 else c
+
+
+def calls(seed, count):
+    rnd = random.Random(seed)
+    for _ in range(count):
+        c = hard_call(rnd)
+        yield tuple(c[name] for name in ORDER)
+
+
+# ---- Single faces
+
+def hard_face(rnd):
+    how = rnd.randrange(12)
+    h, u = m.DEEPEST, m.FASTEST
+
+    def speed_():
+        most = rnd.choice((1, 300, 9000, u))
+        return rnd.randint(-most, most)
+
+    def depth_():
+        return rnd.randint(0, rnd.choice((1, 4, 12, 500, 20000, h)))
+
+    if how == 0:
+        return 0, speed_(), 0, speed_()
+    if how == 1:
+        return 0, speed_(), depth_(), speed_()
+    if how == 2:
+        return depth_(), speed_(), 0, speed_()
+    if how == 3:
+        # about the critical speed, where the side's own bound crosses nought
+        d = 1 + depth_() % h
+        a = m.wave_speed(d)
+        sign = rnd.choice((-1, 1))
+        near = [sign * min(u, a + rnd.randint(-2, 2)) for _ in range(2)]
+        return (d, near[0], rnd.choice((d, depth_())), near[1])
+    if how == 4:
+        sign = rnd.choice((-1, 1))
+        return depth_() % 5000, sign * rnd.randint(30000, u), depth_() % 5000, sign * rnd.randint(30000, u)
+    if how == 5:
+        # drawn apart, so that the bracket of a* falls below nought
+        return depth_() % 2000, -rnd.randint(0, u), depth_() % 2000, rnd.randint(0, u)
+    if how == 6:
+        # driven together
+        return depth_(), rnd.randint(0, u), depth_(), -rnd.randint(0, u)
+    if how == 7:
+        d, v = depth_(), speed_()
+        return d, v, d, rnd.choice((v, -v, 0))
+    if how == 8:
+        corner_h, corner_u = (0, 1, 4, 5, h - 1, h), (-u, 1 - u, -1, 0, 1, u - 1, u)
+        return rnd.choice(corner_h), rnd.choice(corner_u), rnd.choice(corner_h), rnd.choice(corner_u)
+    if how == 9:
+        numbers = [depth_(), speed_(), depth_(), speed_()]
+        k = rnd.randrange(4)
+        numbers[k] = rnd.choice((-1, h + 1, I32 - 1, -I32) if k % 2 == 0 else (u + 1, -u - 1, I32 - 1, -I32))
+        return tuple(numbers)
+    return depth_(), speed_(), depth_(), speed_()
+
+
+def faces(seed, count):
+    rnd = random.Random(seed)
+    for _ in range(count):
+        yield hard_face(rnd)
+
+
+def branch(hL, uL, hR, uR):
+    """Which line of the face rule answers."""
+    if m.face(hL, uL, hR, uR) is None:
+        return "refused"
+    if hL == 0 and hR == 0:
+        return "both dry" + (", with a speed" if uL or uR else "")
+    sL, sR = m.wave_bounds(hL, uL, hR, uR)
+    side = "left dry, " if hL == 0 else "right dry, " if hR == 0 else ""
+    name = "left side alone" if sL >= 0 else "right side alone" if sR <= 0 else "middle"
+    return side + name + (", with a speed at depth 0" if hL == 0 and uL or hR == 0 and uR else "")
+
+
+# ---- Statistics
+
+def answered(call):
+    try:
+        m.worked(*call)
+        return "accepted"
+    except m.Refused as r:
+        return "%d %s" % (r.number, r.check)
+
+
+def main():
+    seed = int(sys.argv[1]) if len(sys.argv) > 1 else 1
+    count = int(sys.argv[2]) if len(sys.argv) > 2 else 4000
+    start = time.time()
+    made = list(calls(seed, count))
+    middle = time.time()
+    by_answer, by_n = Counter(), Counter()
+    for call in made:
+        answer = answered(call)
+        by_answer[answer] += 1
+        if answer == "accepted":
+            by_n[len(call[3])] += 1
+    for answer in sorted(by_answer):
+        print("%6d  %5.1f %%  %s" % (by_answer[answer], 100 * by_answer[answer] / count, answer))
+    print("accepted by number of cells: " + ", ".join("%d: %d" % (n, by_n[n]) for n in sorted(by_n)))
+    print("%d calls of seed %d: made in %.1f s, answered in %.1f s"
+          % (count, seed, middle - start, time.time() - middle))
+    by_branch = Counter(branch(*f) for f in faces(seed, count))
+    for name in sorted(by_branch):
+        print("%6d  %5.1f %%  face: %s" % (by_branch[name], 100 * by_branch[name] / count, name))
+
+
+if __name__ == "__main__":
+    main()
