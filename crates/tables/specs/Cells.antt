@@ -9,7 +9,7 @@ use borrow.Author.Count.{below-more}
 use lib.ListN.{length, getD, set, length-set}
 use lib.Seq.{getD-set-same, getD-set-other}
 use lib.IntN.{ℤ, pos}
-use Rattle.tables.specs.Rows.{row, row-same}
+use Rattle.tables.specs.Rows.{row, row-same, Written}
 
 -- the working state of one cell: level mean, level slope, discharge mean, discharge slope
 pub record Cell : Type 0 where
@@ -30,18 +30,9 @@ asCell l = record { e0 = getD l 0 (pos 0); e1 = getD l 1 (pos 0); q0 = getD l 2 
 abbrev pub seen : List (List ℤ) → ℕ → Cell
 seen a i = asCell (getD a i [])
 
--- what a loop has written so far: below i the stage has f's cells
+-- below i it has f's cells
 abbrev pub Holds : List (List ℤ) → ℕ → (ℕ → Cell) → Type 0
-Holds a i f = (k : ℕ) → k < i → getD a k [] ≡ asList (f k)
-
-pub holds-none : (a : List (List ℤ)) (f : ℕ → Cell) → Holds a 0 f
-holds-none a f k h = absurd (not-suc-le-zero h)
-
-pub holds-more : (a : List (List ℤ)) (i : ℕ) (f : ℕ → Cell) (v : List ℤ) → i < length a → Holds a i f → v ≡ asList (f i) → Holds (set a i v) (i + 1) f
-holds-more a i f v room old new =
-    below-more (λ k. getD (set a i v) k [] ≡ asList (f k)) i
-    (λ k l. getD-set-other a i k v [] (λ e. let z : k ≡ i = e in omega arith) ∙ old k l)
-    (getD-set-same a i v [] room ∙ new)
+Holds a i f = Written [] a i (λ k. asList (f k))
 
 -- ---- a lent table of numbers, four to a cell
 

@@ -1,0 +1,2 @@
+-- What the proofs of a face's functions share.
+pub mod Waves
