@@ -3,12 +3,12 @@
 // precision: the root, and the face. A public function answers every call: beyond the limits of
 // depth, speed and discharge it refuses.
 pub mod answer;
+mod choice;
+pub mod cube;
+pub mod double;
+pub mod flux;
+mod limits;
+pub mod root;
+mod search;
 pub mod speed;
 pub mod wave;
-pub mod cube;
-pub mod flux;
-pub mod root;
-pub mod double;
-mod limits;
-mod choice;
-mod search;

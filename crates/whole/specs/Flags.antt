@@ -43,6 +43,15 @@ pub and-r : (a b : Bool) → (a && b) ≡ true → b ≡ true
 and-r true b e = e
 and-r false b e = clash e
 
+-- what a function that tries one test and then another answers
+pub yes-or : (a b : Bool) → a ≡ true → true ≡ (a || b)
+yes-or true b e = refl
+yes-or false b e = clash e
+
+pub no-or : (a b : Bool) → a ≡ false → b ≡ (a || b)
+no-or true b e = clash (sym e)
+no-or false b e = refl
+
 -- the same of `T`, where the test computes
 pub fst : (a b : Bool) → T (a && b) → T a
 fst true b t = tt

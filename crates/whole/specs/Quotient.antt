@@ -42,7 +42,7 @@ abs-quot-le a b = rw abs-quot (NatL.div-mul-le-self (natAbs a) (natAbs b))
 pub b-quot : {a : ℤ} {A : ℕ} (b : ℤ) → Within A a → Within A (quotZ a b)
 b-quot {a} b h = record { abs = rw abs-quot (NatL.le-trans (NatL.div-le-self (natAbs a) (natAbs b)) (h .abs)) }
 
-div-mono : (a b d : ℕ) → a ≤ b → a / d ≤ b / d
+pub div-mono : (a b d : ℕ) → a ≤ b → a / d ≤ b / d
 div-mono a b zero h = rw (NatL.div-zero a, NatL.div-zero b) (NatL.le-refl 0)
 div-mono a b (suc d) h = NatL.le-div-iff-mul-le (NatL.zero-lt-suc d) .1 (NatL.le-trans (NatL.div-mul-le-self a (suc d)) h)
 
@@ -142,3 +142,14 @@ halves h a b h≥0 s = le! (lit 0) (at h ⊞ at (quotZ a (pos 2)) ⊟ at (quotZ 
     lost hu hd au ad bu bd x y z w e f g i h≥0 s (inl p) (inr q) = omega arith
     lost hu hd au ad bu bd x y z w e f g i h≥0 s (inr p) (inl q) = omega arith
     lost hu hd au ad bu bd x y z w e f g i h≥0 s (inr p) (inr q) = omega arith
+
+-- ---- of numbers that are not below nought
+pub quot-nonneg : (a d : ℤ) → pos 0 ≤ℤ a → pos 0 ≤ℤ d → pos 0 ≤ℤ quotZ a d
+quot-nonneg (pos a) (pos d) h k = le-of (pos 0) (pos (a / d)) (omega arith)
+quot-nonneg (pos a) (negsuc d) h k = absurd (k .le)
+quot-nonneg (negsuc a) d h k = absurd (h .le)
+
+-- a share, a over b of at most 1, of m
+pub share-le : (m a b : ℕ) → a ≤ b → m * a / b ≤ m
+share-le m a zero h = rw (NatL.div-zero (m * a)) (omega arith)
+share-le m a (suc b) h = NatL.le-trans (div-mono (m * a) (m * suc b) (suc b) (NatL.mul-le-mul-left m h)) (NatL.le-of-eq (NatL.mul-div-cancel m (NatL.zero-lt-suc b)))

@@ -1,0 +1,2 @@
+-- Laws of numbers with a sign.
+pub mod Signs

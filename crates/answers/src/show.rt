@@ -1,0 +1,75 @@
+// An answer and what `next` holds, in one line.
+use libc::STDOUT_FILENO;
+use std::num::wrapping_add_u64;
+use step::Answer;
+
+// The size of x. Not by -x, as the least i64 has no opposite.
+fn size(x: i64) -> u64 {
+    if x < 0 {
+        let y = -1 - x;
+        return wrapping_add_u64(1, y as u64);
+    }
+    x as u64
+}
+
+fn wide(x: i32) -> i64 {
+    x as i64
+}
+
+fn show(x: i64) {
+    if x < 0 {
+        io::write_all(STDOUT_FILENO, b" -");
+    } else {
+        io::write_all(STDOUT_FILENO, b" ");
+    }
+    io::print_decimal(STDOUT_FILENO, size(x));
+}
+
+fn show_table(t: &[i32]) {
+    let mut i: usize = 0;
+    while i < t.len() {
+        show(wide(t[i]));
+        i += 1;
+    }
+}
+
+// The sum of a table too long to be shown.
+fn show_sum(t: &[i32]) {
+    let mut sum = 0u64;
+    let mut i: usize = 0;
+    while i < t.len() {
+        sum = wrapping_add_u64(sum, size(wide(t[i])));
+        i += 1;
+    }
+    io::write_all(STDOUT_FILENO, b" ");
+    io::print_decimal(STDOUT_FILENO, sum);
+}
+
+pub fn answer(name: &[u8], a: Answer) {
+    io::write_all(STDOUT_FILENO, name);
+    match a {
+        Answer::Refused(k) => {
+            io::write_all(STDOUT_FILENO, b": refused");
+            show(k as i64);
+        }
+        Answer::Accepted(w, v) => {
+            io::write_all(STDOUT_FILENO, b": accepted");
+            show(w);
+            show(v);
+        }
+    }
+}
+
+pub fn line(name: &[u8], a: Answer, next: &[i32]) {
+    answer(name, a);
+    io::write_all(STDOUT_FILENO, b", next");
+    show_table(next);
+    io::write_all(STDOUT_FILENO, b"\n");
+}
+
+pub fn long_line(name: &[u8], a: Answer, next: &[i32]) {
+    answer(name, a);
+    io::write_all(STDOUT_FILENO, b", sum of next");
+    show_sum(next);
+    io::write_all(STDOUT_FILENO, b"\n");
+}

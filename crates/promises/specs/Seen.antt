@@ -1,0 +1,66 @@
+-- What a caller sees: the depths and the water of the lent tables, and calls one after another.
+use mathlib.Core.Path.{_≡_}
+use mathlib.Core.List.{List}
+use mathlib.Core.Logic.{_⊎_}
+use Prim.Native.Nat.{ℕ, zero, suc, _+_, _*_, _<_}
+use lib.ListN.{length, getD}
+use lib.IntN.{ℤ, pos, _+ℤ_, _-ℤ_}
+use lib.Signed.{quotZ, _≤ℤ_}
+use Rattle.rules.specs.Lent.{stepOf}
+use Rattle.step.specs.Gives.{lend, Gives}
+use Rattle.step.specs.declared.Answer.{Answer}
+use Rattle.step.specs.declared.Answer.the-variants.{Accepted}
+
+-- entry j of a table
+abbrev pub at : List ℤ → ℕ → ℤ
+at t j = getD t j (pos 0)
+
+-- ---- depths over the bed, of cell i of a state
+unfoldable pub meanBed : List ℤ → ℕ → ℤ
+meanBed bed i = quotZ (at bed i +ℤ at bed (suc i)) (pos 2)
+
+unfoldable pub bedSlope : List ℤ → ℕ → ℤ
+bedSlope bed i = quotZ (at bed (suc i) -ℤ at bed i) (pos 2)
+
+unfoldable pub meanDepth : List ℤ → List ℤ → ℕ → ℤ
+meanDepth bed t i = at t (4 * i) -ℤ meanBed bed i
+
+unfoldable pub leftDepth : List ℤ → List ℤ → ℕ → ℤ
+leftDepth bed t i = meanDepth bed t i -ℤ (at t (4 * i + 1) -ℤ bedSlope bed i)
+
+unfoldable pub rightDepth : List ℤ → List ℤ → ℕ → ℤ
+rightDepth bed t i = meanDepth bed t i +ℤ (at t (4 * i + 1) -ℤ bedSlope bed i)
+
+-- no depth, mean or face, is below nought
+pub record NoneBelow (bed t : List ℤ) (n : ℕ) : Type 0 where
+  pub mean : (i : ℕ) → i < n → pos 0 ≤ℤ meanDepth bed t i
+  pub left : (i : ℕ) → i < n → pos 0 ≤ℤ leftDepth bed t i
+  pub right : (i : ℕ) → i < n → pos 0 ≤ℤ rightDepth bed t i
+
+-- the water: the sum of the mean depths
+unfoldable pub water : List ℤ → List ℤ → ℕ → ℤ
+water bed t zero = pos 0
+water bed t (suc n) = water bed t n +ℤ meanDepth bed t n
+
+-- ---- a lake at rest: no discharge; each cell dry, or flat with its level at least both its face beds; one level at each inner face
+pub record Lake (bed t : List ℤ) (n : ℕ) : Type 0 where
+  pub mean : (i : ℕ) → i < n → at t (4 * i + 2) ≡ pos 0
+  pub slope : (i : ℕ) → i < n → at t (4 * i + 3) ≡ pos 0
+  pub cell : (i : ℕ) → i < n → ((at t (4 * i) ≡ meanBed bed i) × (at t (4 * i + 1) ≡ bedSlope bed i)) ⊎ ((at t (4 * i + 1) ≡ pos 0) × (at bed i ≤ℤ at t (4 * i)) × (at bed (suc i) ≤ℤ at t (4 * i)))
+  pub level : (i : ℕ) → suc i < n → (at t (4 * i) +ℤ at t (4 * i + 1)) ≡ (at t (4 * suc i) -ℤ at t (4 * suc i + 1))
+
+-- ---- calls
+-- one call on a bed with n cells of length dx: what was lent and given besides, and that the answer and the table are the contract's
+pub record Called (bed : List ℤ) (n dx : ℕ) (now : List ℤ) (a : Answer) (old new : List ℤ) : Type 0 where
+  pub friction : List ℕ
+  pub cells : length friction ≡ n
+  pub dt : ℕ
+  pub jump : ℕ
+  pub left : ℕ
+  pub right : ℕ
+  pub gave : Gives (stepOf (lend now (length old) bed friction dx dt jump left right)) a old new
+
+-- any number of accepted calls, each lent what the one before wrote; a and b: the sums of W at face 0 and at face n
+pub data Calls (bed : List ℤ) (n dx : ℕ) : List ℤ → List ℤ → ℤ → ℤ → Type 0 where
+  none : (t : List ℤ) → Calls bed n dx t t (pos 0) (pos 0)
+  more : (s m t old : List ℤ) (w v a b : ℤ) → Called bed n dx s (Accepted w v) old m → Calls bed n dx m t a b → Calls bed n dx s t (w +ℤ a) (v +ℤ b)

@@ -1,0 +1,1 @@
+// No code: what is promised of the public calls stands in specs/Promises.antt.

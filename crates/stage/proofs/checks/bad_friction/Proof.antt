@@ -1,0 +1,77 @@
+use mathlib.Core.Path.{_≡_, refl}
+use mathlib.Core.Bool.{Bool, true, false}
+use mathlib.Core.List.{List}
+use Prim.Native.Nat.{ℕ, _≤_, _<_, _-_}
+use native.Mathlib.Omega.{arith}
+use borrow.Author.Needs.{needs}
+use borrow.Author.Tests.{lt-ltb, le-ltb}
+use denote.Ref.{now}
+use lib.ListN.{getD, length}
+use lib.IntN.{pos}
+use Rattle.rules.specs.Refusals.{badRough}
+use Rattle.stage.specs.Scan.{Clear, clear-none, clear-more, found, clear-all}
+use Rattle.stage.proofs.checks.bad_friction.Statement.{statement}
+use Rattle.stage.proofs.checks.bad_friction.Tie as tie
+
+abbrev bad : List ℕ → ℕ → Bool
+bad friction k = badRough (pos (getD friction k 0))
+
+-- over 200 or not; no value is below nought
+over : (x : ℕ) → 200 < x → badRough (pos x) ≡ true
+unfolding badRough
+over x h = rw (le-ltb x 0 (omega arith), lt-ltb 200 x h)
+
+fine : (x : ℕ) → x ≤ 200 → badRough (pos x) ≡ false
+unfolding badRough
+fine x h = rw (le-ltb x 0 (omega arith), le-ltb 200 x h)
+
+abbrev Inv-loop : tie.InvT-loop
+Inv-loop friction i₀ i = (i ≤ length friction) × Clear (bad friction) i
+
+abbrev μ-loop : tie.MeasureT-loop
+μ-loop friction i₀ i = length friction - i
+
+loop-holds : tie.Need-loop-holds Inv-loop μ-loop
+loop-holds c = (omega arith, clear-none _)
+
+mul-if1 : tie.Need-mul-if1 Inv-loop μ-loop
+mul-if1 c = search needs
+
+shared-slice-read-if1 : tie.Need-shared-slice-read-if1 Inv-loop μ-loop
+shared-slice-read-if1 c = search needs
+
+returns : tie.Need-returns Inv-loop μ-loop
+returns c =
+    let a = c .before .before in let f = now (a .before .before .args .friction) in let i = a .before .loop .i in
+    found (bad f) (length f) i (a .loop-test .taken) (over (getD f i 0) (c .if1 .taken)) refl
+
+add-i : tie.Need-add-i Inv-loop μ-loop
+add-i c = search needs
+
+loop-less : tie.Need-loop-less Inv-loop μ-loop
+loop-less c = search needs
+
+loop-again : tie.Need-loop-again Inv-loop μ-loop
+loop-again c =
+    let l = c .before .before .before in let f = now (l .before .args .friction) in let i = l .loop .i in
+    (omega arith, clear-more (bad f) i (l .loop .inv .1) (fine (getD f i 0) (c .if1 .left)) refl)
+
+returns-2 : tie.Need-returns-2 Inv-loop μ-loop
+returns-2 c =
+    let l = c .before in let f = now (l .before .args .friction) in
+    clear-all (bad f) (length f) (l .loop .i) (c .loop-test .left) (l .loop .inv .1)
+
+pub bad-friction-spec : {M : Type 1} → statement M
+bad-friction-spec =
+    tie.close
+    (tie.spec
+    Inv-loop
+    μ-loop
+    loop-holds
+    mul-if1
+    shared-slice-read-if1
+    returns
+    add-i
+    loop-less
+    loop-again
+    returns-2)

@@ -1,0 +1,42 @@
+use mathlib.Core.Path.{refl}
+use Prim.Native.Nat.{_*_}
+use borrow.Author.Needs.{needs}
+use borrow.Author.Tests.{eq-eqb, ne-eqb, lt-ltb, le-ltb}
+use Rattle.rules.specs.Refusals.{any}
+use Rattle.rules.specs.Lent.{misfit}
+use Rattle.stage.proofs.checks.bad_lengths.Statement.{statement}
+use Rattle.stage.proofs.checks.bad_lengths.Tie as tie
+
+returns : tie.Need-returns
+unfolding misfit any
+returns c = rw (eq-eqb _ _ (c .if1 .taken))
+
+returns-2 : tie.Need-returns-2
+unfolding misfit any
+returns-2 c = rw (ne-eqb _ _ (c .before .if1 .left), lt-ltb _ _ (c .if2 .taken))
+
+mul-if3 : tie.Need-mul-if3
+mul-if3 c = search needs
+
+returns-3 : tie.Need-returns-3
+unfolding misfit any
+returns-3 c = let e = c .before in rw (ne-eqb _ _ (e .before .if1 .left), le-ltb _ _ (e .if2 .left), ne-eqb _ _ (c .if3 .taken))
+
+add-if4 : tie.Need-add-if4
+add-if4 c = search needs
+
+returns-4 : tie.Need-returns-4
+unfolding misfit any
+returns-4 c =
+    let f = c .before in let e = f .before in let m = 4 * e .before .before .args .n in
+    rw (ne-eqb _ _ (e .before .if1 .left), le-ltb _ _ (e .if2 .left), eq-eqb _ _ (f .if3 .left), eq-eqb m m refl, ne-eqb _ _ (c .if4 .taken))
+
+returns-5 : tie.Need-returns-5
+unfolding misfit any
+returns-5 c =
+    let f = c .before in let e = f .before in let m = 4 * e .before .before .args .n in
+    rw (ne-eqb _ _ (e .before .if1 .left), le-ltb _ _ (e .if2 .left), eq-eqb _ _ (f .if3 .left), eq-eqb m m refl, eq-eqb _ _ (c .if4 .left))
+
+pub bad-lengths-spec : {M : Type 1} → statement M
+bad-lengths-spec =
+    tie.close (tie.spec returns returns-2 mul-if3 returns-3 add-if4 returns-4 returns-5)

@@ -1,0 +1,83 @@
+use mathlib.Core.Path.{_≡_, sym, _∙_, subst}
+use mathlib.Core.Bool.{Bool}
+use mathlib.Core.List.{List}
+use Prim.Native.Nat.{ℕ, _≤_, _-_}
+use native.Mathlib.Omega.{arith}
+use borrow.Author.Needs.{needs}
+use denote.Ref.{now}
+use lib.IntN.{ℤ}
+use Rattle.tables.specs.Cells.{asCell, cellAt}
+use Rattle.rules.specs.Limits.{dryDepth}
+use Rattle.rules.specs.Refusals.{fastCell}
+use Rattle.stage.specs.Held.{asBed, bedAt, Inside}
+use Rattle.stage.specs.Scan.{Clear, clear-none, clear-more, found, clear-all}
+use Rattle.stage.proofs.checks.fast_lent.Statement.{statement}
+use Rattle.stage.proofs.checks.fast_lent.Tie as tie
+
+abbrev bad : List ℤ → List ℤ → ℕ → Bool
+bad state bed k = fastCell dryDepth (bedAt bed k) (cellAt state k)
+
+abbrev Inv-loop : tie.InvT-loop
+Inv-loop state bed n i₀ i = (i ≤ n) × Clear (bad state bed) i
+
+abbrev μ-loop : tie.MeasureT-loop
+μ-loop state bed n i₀ i = n - i
+
+loop-holds : tie.Need-loop-holds Inv-loop μ-loop
+loop-holds c = (omega arith, clear-none _)
+
+bed-of-requires : tie.Need-bed-of-requires Inv-loop μ-loop
+bed-of-requires c κs = (omega arith, omega arith)
+
+cell-of-requires : tie.Need-cell-of-requires Inv-loop μ-loop
+cell-of-requires c κs = (omega arith, omega arith)
+
+fast-cell-requires : tie.Need-fast-cell-requires Inv-loop μ-loop
+fast-cell-requires c κs =
+    let b = c .before in let a = b .before in let l = a .before in
+    subst (λ (k : List ℤ). Inside (asBed k) (asCell (c .cell-of .result))) (sym (b .bed-of .ensures))
+    (subst (λ (k : List ℤ). Inside (bedAt (now (l .before .args .bed)) (l .loop .i)) (asCell k)) (sym (c .cell-of .ensures)) (l .before .pre .1 (l .loop .i) (a .loop-test .taken)))
+
+-- what the test of this turn says
+here : (c : tie.After-fast-cell Inv-loop μ-loop) →
+    let l = c .before .before .before .before in bad (now (l .before .args .state)) (now (l .before .args .bed)) (l .loop .i) ≡ c .fast-cell .result
+here c =
+    let a = c .before in
+    sym (c .fast-cell .ensures ∙ (λ x. fastCell dryDepth (asBed (a .before .bed-of .ensures x)) (asCell (a .cell-of .ensures x))))
+
+returns : tie.Need-returns Inv-loop μ-loop
+returns c =
+    let b = c .before in let a = b .before .before .before in let s = a .before .before in
+    found (bad (now (s .args .state)) (now (s .args .bed))) (s .args .n) (a .before .loop .i) (a .loop-test .taken) (here b) (c .if1 .taken)
+
+add-i : tie.Need-add-i Inv-loop μ-loop
+add-i c = search needs
+
+loop-less : tie.Need-loop-less Inv-loop μ-loop
+loop-less c = search needs
+
+loop-again : tie.Need-loop-again Inv-loop μ-loop
+loop-again c =
+    let b = c .before in let l = b .before .before .before .before in let s = l .before in
+    (omega arith, clear-more (bad (now (s .args .state)) (now (s .args .bed))) (l .loop .i) (l .loop .inv .1) (here b) (c .if1 .left))
+
+returns-2 : tie.Need-returns-2 Inv-loop μ-loop
+returns-2 c =
+    let l = c .before in let s = l .before in
+    clear-all (bad (now (s .args .state)) (now (s .args .bed))) (s .args .n) (l .loop .i) (c .loop-test .left) (l .loop .inv .1)
+
+pub fast-lent-spec : {M : Type 1} → statement M
+fast-lent-spec =
+    tie.close
+    (tie.spec
+    Inv-loop
+    μ-loop
+    loop-holds
+    bed-of-requires
+    cell-of-requires
+    fast-cell-requires
+    returns
+    add-i
+    loop-less
+    loop-again
+    returns-2)

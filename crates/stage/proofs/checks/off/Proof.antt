@@ -1,0 +1,87 @@
+use mathlib.Core.Path.{_≡_, sym, _∙_, subst}
+use mathlib.Core.Bool.{Bool}
+use mathlib.Core.List.{List, []}
+use Prim.Native.Nat.{ℕ, _≤_, _-_}
+use native.Mathlib.Omega.{arith}
+use borrow.Author.Needs.{needs}
+use denote.Ref.{now}
+use lib.ListN.{getD}
+use lib.IntN.{ℤ}
+use Rattle.tables.specs.Cells.{asCell, seen}
+use Rattle.rules.specs.Refusals.{offCell}
+use Rattle.stage.specs.Held.{asBed, bedAt, Ground, Rough}
+use Rattle.stage.specs.Scan.{Clear, clear-none, clear-more, found, clear-all}
+use Rattle.stage.proofs.checks.off.Statement.{statement}
+use Rattle.stage.proofs.checks.off.Tie as tie
+
+abbrev bad : List (List ℤ) → List ℤ → ℕ → Bool
+bad t bed k = offCell (bedAt bed k) (seen t k)
+
+abbrev Inv-loop : tie.InvT-loop
+Inv-loop t bed n i₀ i = (i ≤ n) × Clear (bad t bed) i
+
+abbrev μ-loop : tie.MeasureT-loop
+μ-loop t bed n i₀ i = n - i
+
+loop-holds : tie.Need-loop-holds Inv-loop μ-loop
+loop-holds c = (omega arith, clear-none _)
+
+bed-of-requires : tie.Need-bed-of-requires Inv-loop μ-loop
+bed-of-requires c κs = (omega arith, omega arith)
+
+mul-off-cell : tie.Need-mul-off-cell Inv-loop μ-loop
+mul-off-cell c = search needs
+
+element-copy-out-off-cell : tie.Need-element-copy-out-off-cell Inv-loop μ-loop
+element-copy-out-off-cell c = omega arith
+
+off-cell-requires : tie.Need-off-cell-requires Inv-loop μ-loop
+off-cell-requires c κs =
+    let b = c .before in let a = b .before in let l = a .before in let s = l .before in
+    let x : Rough (bedAt (now (s .args .bed)) (l .loop .i)) (seen (now (s .args .t)) (l .loop .i)) = s .pre .1 (l .loop .i) (a .loop-test .taken) in
+    (subst (λ (k : List ℤ). Ground (asBed k)) (sym (b .bed-of .ensures)) (x .ground), x .wide)
+
+-- what the test of this turn says
+here : (c : tie.After-off-cell Inv-loop μ-loop) →
+    let l = c .before .before .before .before in bad (now (l .before .args .t)) (now (l .before .args .bed)) (l .loop .i) ≡ c .off-cell .result
+here c =
+    let b = c .before .before in let l = b .before .before in
+    sym (c .off-cell .ensures ∙ (λ x. offCell (asBed (b .bed-of .ensures x)) (asCell (getD (now (l .before .args .t)) (l .loop .i) []))))
+
+returns : tie.Need-returns Inv-loop μ-loop
+returns c =
+    let b = c .before in let a = b .before .before .before in let s = a .before .before in
+    found (bad (now (s .args .t)) (now (s .args .bed))) (s .args .n) (a .before .loop .i) (a .loop-test .taken) (here b) (c .if1 .taken)
+
+add-i : tie.Need-add-i Inv-loop μ-loop
+add-i c = search needs
+
+loop-less : tie.Need-loop-less Inv-loop μ-loop
+loop-less c = search needs
+
+loop-again : tie.Need-loop-again Inv-loop μ-loop
+loop-again c =
+    let b = c .before in let l = b .before .before .before .before in let s = l .before in
+    (omega arith, clear-more (bad (now (s .args .t)) (now (s .args .bed))) (l .loop .i) (l .loop .inv .1) (here b) (c .if1 .left))
+
+returns-2 : tie.Need-returns-2 Inv-loop μ-loop
+returns-2 c =
+    let l = c .before in let s = l .before in
+    clear-all (bad (now (s .args .t)) (now (s .args .bed))) (s .args .n) (l .loop .i) (c .loop-test .left) (l .loop .inv .1)
+
+pub off-spec : {M : Type 1} → statement M
+off-spec =
+    tie.close
+    (tie.spec
+    Inv-loop
+    μ-loop
+    loop-holds
+    bed-of-requires
+    mul-off-cell
+    element-copy-out-off-cell
+    off-cell-requires
+    returns
+    add-i
+    loop-less
+    loop-again
+    returns-2)

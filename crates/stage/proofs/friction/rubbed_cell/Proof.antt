@@ -1,0 +1,146 @@
+-- Friction leaves a dry cell as it is, and of any other the slowed discharge: its speed has been checked, so each product fits.
+use mathlib.Core.Path.{_≡_, sym, _∙_}
+use mathlib.Core.Bool.{true, false}
+use mathlib.Core.List.{[], _∷_}
+use lib.IntN.{ℤ, pos}
+use lib.Signed.{leZ, _≤ℤ_, _<ℤ_}
+use mir.Facts.{toZ-ofZ}
+use borrow.Author.Needs.{needs}
+use Rattle.whole.specs.Parts.{Within}
+use Rattle.whole.specs.Tests.{le-no}
+use Rattle.whole.specs.Machine.{back, back64}
+use Rattle.tables.specs.Cells.{Cell, asCell}
+use Rattle.rules.specs.Limits.{dryDepth}
+use Rattle.rules.specs.Face.{speed}
+use Rattle.rules.specs.Friction.{drag, slowed}
+use Rattle.rules.specs.Reach.{Bed, h0}
+use Rattle.rules.specs.Step.{rub, rubbedCell}
+use Rattle.rules.specs.Refusals.{fastCell}
+use Rattle.stage.specs.Held.{asBed}
+use Rattle.stage.specs.Four.{of-four}
+use Rattle.stage.specs.Kept.{kept, within-past}
+use Rattle.stage.specs.Drag.{drag-least, drag-most}
+use Rattle.stage.proofs.friction.rubbed_cell.Statement.{statement}
+use Rattle.stage.proofs.friction.rubbed_cell.Tie as tie
+
+depths-requires : tie.Need-depths-requires
+depths-requires c κs = (c .pre .1 .1 .0 .ground, kept (c .pre .1 .1 .0) .wide)
+
+array-copy-out-if1 : tie.Need-array-copy-out-if1
+array-copy-out-if1 c = search needs
+
+-- ---- what the rule says of either
+rub-dry : (dt d f : ℤ) (b : Bed) (x : Cell) (q : ℤ) → leZ (h0 b x) d ≡ true → rub dt d f b x q ≡ q
+unfolding rub
+rub-dry dt d f b x q e = rw e
+
+rub-wet : (dt d f : ℤ) (b : Bed) (x : Cell) (q : ℤ) → leZ (h0 b x) d ≡ false → rub dt d f b x q ≡ slowed (drag dt f (h0 b x) (speed d (x .q0) (h0 b x))) q
+unfolding rub
+rub-wet dt d f b x q e = rw e
+
+returns : tie.Need-returns
+unfolding rubbedCell
+returns c =
+    let a = c .before in let d = a .before in let s = d .before in let b = asBed (s .args .b) in let x = asCell (s .args .t4) in
+    let e : leZ (h0 b x) dryDepth ≡ true = rw (back (a .if12 .given), d .depths .ensures) at (c .if1 .taken) in
+    of-four (s .args .t4) (s .good .1 .1 .1 .0 .1 .0 .1)
+    ∙ (λ i. x .e0 ∷ x .e1 ∷ sym (rub-dry (s .args .dt) dryDepth (s .args .f) b x (x .q0) e) i ∷ sym (rub-dry (s .args .dt) dryDepth (s .args .f) b x (x .q1) e) i ∷ [])
+
+-- ---- water that moves
+module _ (s : tie.Start) where
+  bed : Bed
+  bed = asBed (s .args .b)
+
+  cell : Cell
+  cell = asCell (s .args .t4)
+
+  -- how strongly friction acts
+  strong : ℤ
+  strong = drag (s .args .dt) (s .args .f) (h0 bed cell) (speed dryDepth (cell .q0) (h0 bed cell))
+
+wet : (c : tie.Else1) → let s = c .before .before .before in leZ (h0 (bed s) (cell s)) dryDepth ≡ false
+unfolding bed cell
+wet c = let d = c .before .before in rw (back (c .before .if12 .given), d .depths .ensures) at (c .if1 .left)
+
+array-copy-out-strength : tie.Need-array-copy-out-strength
+array-copy-out-strength c = search needs
+
+array-copy-out-strength-2 : tie.Need-array-copy-out-strength-2
+array-copy-out-strength-2 c = search needs
+
+strength-requires : tie.Need-strength-requires
+unfolding bed cell fastCell
+strength-requires c κs =
+    let a = c .before in let e = a .before in let d = e .before .before in let s = d .before in let m = kept (s .pre .1 .1 .0) in
+    rw (toZ-ofZ (s .fits .dt), toZ-ofZ (s .fits .f), back (a .strength-arg .given), back (c .strength-arg2 .given), d .depths .ensures)
+    (s .pre .0, (s .pre .1 .0, (m .q0, ((le-no (h0 (bed s) (cell s)) dryDepth (wet e), m .mean-most), s .pre .1 .1 .1))))
+
+x-is : (c : tie.After-strength) → c .strength .result ≡ strong (c .before .before .before .before .before .before)
+unfolding bed cell strong
+x-is c =
+    let b = c .before in let a = b .before in let d = a .before .before .before in let s = d .before in
+    rw (toZ-ofZ (s .fits .dt), toZ-ofZ (s .fits .f), back (b .strength-arg2 .given), back (a .strength-arg .given), d .depths .ensures) at (c .strength .ensures)
+
+x-size : (c : tie.After-strength) → let s = c .before .before .before .before .before .before in (pos 0 ≤ℤ strong s) × Within 10786209068 (strong s)
+unfolding bed cell strong fastCell
+x-size c =
+    let e = c .before .before .before in let s = e .before .before .before in let m = kept (s .pre .1 .1 .0) in let p = s .args in
+    let h = h0 (bed s) (cell s) in let u = speed dryDepth (cell s .q0) h in
+    let low : dryDepth <ℤ h = le-no h dryDepth (wet e) in (
+      drag-least h low (m .mean-most) (p .dt) (p .f) u (s .pre .0 .0) (s .pre .1 .0 .0),
+      drag-most h low (m .mean-most) (p .dt) (p .f) u (s .pre .0 .1) (s .pre .1 .0 .1) (within-past 131072 u (s .pre .1 .1 .1)),
+    )
+
+array-copy-out-t12 : tie.Need-array-copy-out-t12
+array-copy-out-t12 c = search needs
+
+array-copy-out-t18 : tie.Need-array-copy-out-t18
+array-copy-out-t18 c = search needs
+
+array-copy-out-slowed-by : tie.Need-array-copy-out-slowed-by
+array-copy-out-slowed-by c = search needs
+
+slowed-by-requires : tie.Need-slowed-by-requires
+slowed-by-requires c κs =
+    let t = c .before .before .before in let s = t .before .before .before .before .before .before in
+    rw (back64 (t .strength .ok) (x-is t), back (c .slowed-by-arg .given)) (x-size t, kept (s .pre .1 .1 .0) .q0)
+
+array-copy-out-slowed-by-2 : tie.Need-array-copy-out-slowed-by-2
+array-copy-out-slowed-by-2 c = search needs
+
+slowed-by-requires-2 : tie.Need-slowed-by-requires-2
+slowed-by-requires-2 c κs =
+    let t = c .before .before .before .before .before in let s = t .before .before .before .before .before .before in
+    rw (back64 (t .strength .ok) (x-is t), back (c .slowed-by-arg2 .given)) (x-size t, kept (s .pre .1 .1 .0) .q1)
+
+returns-2 : tie.Need-returns-2
+unfolding rubbedCell bed cell strong
+returns-2 c =
+    let a2 = c .before in let b = a2 .before in let a1 = b .before in let t18 = a1 .before in let t12 = t18 .before in let t = t12 .before in
+    let e = t .before .before .before in let s = e .before .before .before in let p = s .args in
+    let x = back64 (t .strength .ok) (x-is t) in
+    let q0 = back64 (b .slowed-by .ok) (rw (x, back (a1 .slowed-by-arg .given)) at (b .slowed-by .ensures)) in
+    let q1 = back64 (c .slowed-by2 .ok) (rw (x, back (a2 .slowed-by-arg2 .given)) at (c .slowed-by2 .ensures)) in
+    λ i. back {z = cell s .e0} (t12 .t12 .given) i
+    ∷ back {z = cell s .e1} (t18 .t18 .given) i
+    ∷ (q0 ∙ sym (rub-wet (p .dt) dryDepth (p .f) (bed s) (cell s) (cell s .q0) (wet e))) i
+    ∷ (q1 ∙ sym (rub-wet (p .dt) dryDepth (p .f) (bed s) (cell s) (cell s .q1) (wet e))) i
+    ∷ []
+
+pub rubbed-cell-spec : {M : Type 1} → statement M
+rubbed-cell-spec =
+    tie.close
+    (tie.spec
+    depths-requires
+    array-copy-out-if1
+    returns
+    array-copy-out-strength
+    array-copy-out-strength-2
+    strength-requires
+    array-copy-out-t12
+    array-copy-out-t18
+    array-copy-out-slowed-by
+    slowed-by-requires
+    array-copy-out-slowed-by-2
+    slowed-by-requires-2
+    returns-2)

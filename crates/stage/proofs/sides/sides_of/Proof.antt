@@ -1,0 +1,49 @@
+-- The sides of a cell are those of its two depths and its two discharges.
+use Rattle.whole.specs.Machine.{back}
+use Rattle.rules.specs.Reach.{hl, hr, depthL, depthR, sideL, sideR}
+use Rattle.stage.specs.Kept.{kept}
+use borrow.Author.Needs.{needs}
+use Rattle.stage.proofs.sides.sides_of.Statement.{statement}
+use Rattle.stage.proofs.sides.sides_of.Tie as tie
+
+depths-requires : tie.Need-depths-requires
+depths-requires c κs = (c .pre .ground, kept (c .pre) .wide)
+
+array-copy-out-row-of : tie.Need-array-copy-out-row-of
+array-copy-out-row-of c = search needs
+
+array-copy-out-row-of-2 : tie.Need-array-copy-out-row-of-2
+array-copy-out-row-of-2 c = search needs
+
+array-copy-out-row-of-3 : tie.Need-array-copy-out-row-of-3
+array-copy-out-row-of-3 c = search needs
+
+array-copy-out-row-of-4 : tie.Need-array-copy-out-row-of-4
+array-copy-out-row-of-4 c = search needs
+
+row-of-requires : tie.Need-row-of-requires
+unfolding hl hr
+row-of-requires c κs =
+    let a4 = c in let a3 = a4 .before in let a2 = a3 .before in let a1 = a2 .before in let d = a1 .before in let s = d .before in
+    let m = kept (s .pre) in
+    rw (back (a1 .row-of-arg .given), back (a2 .row-of-arg2 .given), back (a3 .row-of-arg3 .given), back (a4 .row-of-arg4 .given), d .depths .ensures)
+    (record { left = m .left; left-most = m .left-most; right = m .right; right-most = m .right-most; ql = m .ql; qr = m .qr })
+
+returns : tie.Need-returns
+unfolding sideL sideR depthL depthR hl hr
+returns c =
+    let a4 = c .before in let a3 = a4 .before in let a2 = a3 .before in let a1 = a2 .before in let d = a1 .before in
+    rw (back (a1 .row-of-arg .given), back (a2 .row-of-arg2 .given), back (a3 .row-of-arg3 .given), back (a4 .row-of-arg4 .given), d .depths .ensures)
+    at (c .row-of .ensures)
+
+pub sides-of-spec : {M : Type 1} → statement M
+sides-of-spec =
+    tie.close
+    (tie.spec
+    depths-requires
+    array-copy-out-row-of
+    array-copy-out-row-of-2
+    array-copy-out-row-of-3
+    array-copy-out-row-of-4
+    row-of-requires
+    returns)

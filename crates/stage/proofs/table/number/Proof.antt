@@ -1,0 +1,22 @@
+use lib.ListN.{getD}
+use lib.IntN.{pos}
+use denote.Ref.{now}
+use Rattle.whole.specs.Machine.{widens, widened}
+use borrow.Author.Needs.{needs}
+use Rattle.stage.proofs.table.number.Statement.{statement}
+use Rattle.stage.proofs.table.number.Tie as tie
+
+mul-result : tie.Need-mul-result
+mul-result c = search needs
+
+shared-slice-copy-out-result : tie.Need-shared-slice-copy-out-result
+shared-slice-copy-out-result c = search needs
+
+cast-result : tie.Need-cast-result
+cast-result c = widens (getD (now (c .before .args .s)) (c .before .args .j) (pos 0)) (c .result .given)
+
+returns : tie.Need-returns
+returns c = widened (c .result .given)
+
+pub number-spec : {M : Type 1} → statement M
+number-spec = tie.close (tie.spec mul-result shared-slice-copy-out-result cast-result returns)

@@ -1,0 +1,15 @@
+// The two stages of a step, worked on tables of their own: friction, the speeds at faces and Gauss
+// points, the fluxes, the updates and finishing. The one public function, `worked::work`, checks
+// all that it is lent and answers every call; what it calls stands in modules that are not public.
+mod cell;
+mod checks;
+mod faces;
+mod finishing;
+mod friction;
+mod joining;
+mod points;
+mod sides;
+mod stages;
+mod table;
+mod update;
+pub mod worked;

@@ -1,0 +1,33 @@
+-- What the call says: one answer, and one content of the lent table.
+use mathlib.Core.Path.{_≡_, sym, _∙_}
+use mathlib.Core.List.{List}
+use Prim.Native.Nat.{ℕ}
+use lib.IntN.{ℤ}
+use Rattle.rules.specs.Lent.{Lent, Outcome, refused, accepted}
+use Rattle.step.specs.declared.Answer.{Answer}
+use Rattle.step.specs.declared.Answer.the-variants.{Refused, Accepted}
+
+-- what is lent and given
+abbrev pub lend : List ℤ → ℕ → List ℤ → List ℕ → ℕ → ℕ → ℕ → ℕ → ℕ → Lent
+lend state room bed friction dx dt jump left right = record { now = state; room = room; bed = bed; friction = friction; dx = dx; dt = dt; jump = jump; left = left; right = right }
+
+-- the answer of an outcome,
+unfoldable pub answer : Outcome → Answer
+answer (refused k) = Refused k
+answer (accepted t w v) = Accepted w v
+
+-- and what it leaves in the lent table
+unfoldable pub leaves : Outcome → List ℤ → List ℤ
+leaves (refused k) old = old
+leaves (accepted t w v) old = t
+
+pub record Gives (o : Outcome) (a : Answer) (old new : List ℤ) : Type 0 where
+  pub says : a ≡ answer o
+  pub table : new ≡ leaves o old
+
+-- one answer and one content
+pub one-answer : {o : Outcome} {a b : Answer} {old new new′ : List ℤ} → Gives o a old new → Gives o b old new′ → a ≡ b
+one-answer p q = p .says ∙ sym (q .says)
+
+pub one-table : {o : Outcome} {a b : Answer} {old new new′ : List ℤ} → Gives o a old new → Gives o b old new′ → new ≡ new′
+one-table p q = p .table ∙ sym (q .table)

@@ -1,0 +1,38 @@
+-- A number with a sign, and what of it is a u64.
+-- Assumes nothing.
+use mathlib.Core.Path.{_≡_, refl}
+use mathlib.Core.Bool.{true, false, true≢false}
+use Prim.Native.Nat.{ℕ, suc, _+_, _<_, _^_}
+use native.Mathlib.Nat.{not-suc-le-zero}
+use native.Mathlib.Omega.{arith}
+use borrow.Author.Tests.{ltb-true}
+use lib.Dec.{T}
+use lib.IntN.{ℤ, pos, negsuc, _-ℤ_, natAbs}
+use lib.Signed.{ltZ, nonNeg, mag}
+use mir.Facts.{toZ-ofZ}
+use mir.Syntax.{w32, w64}
+use mir.Val.{Fits, SFits, toZ}
+use Rattle.whole.specs.Parts.{Within, add-parts, b-lit, b-sub, eq-of, fit32}
+
+-- -1 - x of an x below nought
+flip : (a : ℕ) → negsuc 0 -ℤ negsuc a ≡ pos a
+flip a = eq-of (negsuc 0 -ℤ negsuc a) (pos a) (omega (arith, add-parts (negsuc 0) (pos (suc a))))
+
+pub flip-fits : (z : ℤ) → ltZ z (pos 0) ≡ true → mag z < 2 ^ 63 → SFits w64 (negsuc 0 -ℤ z)
+flip-fits (pos a) h m = absurd (not-suc-le-zero (ltb-true a 0 h))
+flip-fits (negsuc a) h m = rw (flip a) (record { sfits = omega arith })
+
+pub flip-size : (z : ℤ) → ltZ z (pos 0) ≡ true → mag z < 2 ^ 63 → T (nonNeg (negsuc 0 -ℤ z)) × Fits w64 (natAbs (negsuc 0 -ℤ z))
+flip-size (pos a) h m = absurd (not-suc-le-zero (ltb-true a 0 h))
+flip-size (negsuc a) h m = rw (flip a) (tt, record { fits = omega arith })
+
+pub above-size : (z : ℤ) → ltZ z (pos 0) ≡ false → mag z < 2 ^ 63 → T (nonNeg z) × Fits w64 (natAbs z)
+above-size (pos a) h m = (tt, record { fits = omega arith })
+above-size (negsuc a) h m = absurd (true≢false h)
+
+-- the opposite of a number below 2^31, as an i32
+minus-fits : (n : ℕ) → n < 2 ^ 31 → SFits w32 (pos 0 -ℤ pos n)
+minus-fits n h = let w : Within 2147483647 (pos n) = record { abs = omega arith } in fit32 (b-sub (b-lit (pos 0)) w) tt
+
+pub turned-fits : (n : ℕ) → n < 2 ^ 31 → SFits w32 (pos 0 -ℤ toZ w32 n)
+turned-fits n h = rw (toZ-ofZ {w = w32} {z = pos n} (record { sfits = h })) (minus-fits n h)

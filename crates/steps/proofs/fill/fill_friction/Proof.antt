@@ -1,0 +1,64 @@
+-- `fill_friction` ends, as i counts up to n, and keeps the table's length.
+use lib.ListN.{length}
+use mathlib.Core.Path.{_≡_}
+use Prim.Native.Nat.{_≤_, _-_}
+use borrow.Author.Needs.{needs}
+use Rattle.steps.proofs.fill.fill_friction.Statement.{statement}
+use Rattle.steps.proofs.fill.fill_friction.Tie as tie
+
+abbrev Inv-loop : tie.InvT-loop
+Inv-loop friction₀ r n x₀ i₀ friction x i = (i ≤ n) × (n ≤ 1024) × (length friction ≡ length friction₀)
+
+abbrev μ-loop : tie.MeasureT-loop
+μ-loop friction₀ r n x₀ i₀ friction x i = n - i
+
+upto-requires : tie.Need-upto-requires Inv-loop μ-loop
+upto-requires c κs = search needs
+
+following-requires : tie.Need-following-requires Inv-loop μ-loop
+following-requires c κs = search needs
+
+loop-holds : tie.Need-loop-holds Inv-loop μ-loop
+loop-holds c = search needs
+
+following-requires-2 : tie.Need-following-requires-2 Inv-loop μ-loop
+following-requires-2 c κs = search needs
+
+pick-requires : tie.Need-pick-requires Inv-loop μ-loop
+pick-requires c κs = search needs
+
+put-friction-requires : tie.Need-put-friction-requires Inv-loop μ-loop
+put-friction-requires c κs = search needs
+
+add-i : tie.Need-add-i Inv-loop μ-loop
+add-i c = search needs
+
+loop-less : tie.Need-loop-less Inv-loop μ-loop
+loop-less c = search needs
+
+loop-again : tie.Need-loop-again Inv-loop μ-loop
+loop-again c = search needs
+
+same-length : tie.Need-same-length Inv-loop μ-loop
+same-length c = search needs
+
+returns : tie.Need-returns Inv-loop μ-loop
+returns c = search needs
+
+pub fill-friction-spec : {M : Type 1} → statement M
+fill-friction-spec =
+    tie.close
+    (tie.spec
+    Inv-loop
+    μ-loop
+    upto-requires
+    following-requires
+    loop-holds
+    following-requires-2
+    pick-requires
+    put-friction-requires
+    add-i
+    loop-less
+    loop-again
+    same-length
+    returns)
