@@ -1,7 +1,7 @@
 -- From what a caller sees to the rules: the outcome of a call by its answer, tables as states, calls as a run.
 -- Assumes nothing.
-use mathlib.Core.Path.{_≡_, refl, sym, _∙_, ap, ap₂, subst}
-use mathlib.Core.Bool.{Bool, true, false, cond}
+use mathlib.Core.Path.{_≡_, refl, sym, _∙_, ap, subst}
+use mathlib.Core.Bool.{Bool, true, false}
 use mathlib.Core.List.{List, _∷_}
 use mathlib.Core.Logic.{_⊎_, inl, inr}
 use Prim.Native.Nat.{ℕ, zero, suc, _+_, _*_, _<_}
@@ -10,18 +10,18 @@ use borrow.Author.Tests.{eq-eqb, ne-eqb, eqb-false}
 use lib.Dec.{eqb, eqb→eq}
 use lib.ListN.{length, getD}
 use lib.IntN.{ℤ, pos, _+ℤ_}
-use Rattle.whole.specs.Flags.{by, held}
-use Rattle.tables.specs.Rows.{row}
-use Rattle.tables.specs.Cells.{Cell, cellAt, flat, flat-cells, flat-is, length-flat, cellAt-flat}
-use Rattle.rules.specs.Limits.{dryDepth}
+use lib.Signed.{_≤ℤ_}
+use Rattle.whole.specs.Flags.{by, held, clash}
+use Rattle.tables.specs.Cells.{cellAt, length-flat, cellAt-flat}
 use Rattle.rules.specs.Face.{face}
-use Rattle.rules.specs.Reach.{Reach, Call, State, under, z0, z1, h0, h1, hl, hr}
+use Rattle.rules.specs.Reach.{Reach, Call, under, z0, z1, h0, h1, hl, hr}
 use Rattle.rules.specs.Step.{carry, next}
 use Rattle.rules.specs.Refusals.{Check, chk, verdict, checks, refusal}
 use Rattle.rules.specs.Lent.{Lent, reachOf, callOf, stateOf, cellsOf, misfits, number, filled, crossed, Outcome, refused, accepted, stepOf}
-use Rattle.rules.specs.AtRest.{AtRest}
+use Rattle.rules.specs.AtRest.{Dry, Flat, AtRest}
 use Rattle.rules.specs.Laws.Agree.{Same}
-use Rattle.rules.specs.Laws.Lengths.{Fitted, fitted, fits, unrefused}
+use Rattle.rules.specs.Laws.Lengths.{fitted, first-number, later-number, fits, unrefused}
+use Rattle.rules.specs.Laws.Positive.{Wet}
 use Rattle.rules.specs.Laws.Balance as balance
 use Rattle.rules.specs.Laws.Runs.{Run, stop, step, Depths}
 use Rattle.step.specs.Gives.{lend, Gives, answer, leaves}
@@ -62,10 +62,36 @@ module _ (l : Lent) where
     pub coded : code a ≡ number l
     coded = ap code (g .says) ∙ code-number
 
+-- a refused call: its number, which is not nought, and its table
 module _ (l : Lent) (k : ℕ) (old new : List ℤ) (g : Gives (stepOf l) (Refused k) old new) where
   pub refused-number : number l ≡ k
   unfolding code
   refused-number = sym (coded l g)
+
+  met : number l ≡ 0 → ⊥
+  unfolding answer
+  met e = clash (ap taking (g .says ∙ ap answer (accepts l e)))
+    where
+      taking : Answer → Bool
+      taking (Refused k) = false
+      taking (Accepted w v) = true
+
+  pub refused-some : 0 < k
+  refused-some = omega (arith, met, refused-number)
+
+  pub refused-table : new ≡ old
+  unfolding leaves
+  refused-table = g .table ∙ ap (λ (o : Outcome). leaves o old) (refuses l met)
+
+  pub refused-later : k ≡ 8 → refusal (reachOf l) (callOf l) (stateOf l) ≡ 8
+  refused-later e = by (misfits l)
+      (λ b. let z = first-number l b in let w : ⊥ = omega (arith, refused-number) in absurd w)
+      (λ b. sym (later-number l b) ∙ refused-number ∙ e)
+
+-- and one whose number is not nought
+pub refuses-with : (l : Lent) (k : ℕ) (a : Answer) (old new : List ℤ) → number l ≡ k → 0 < k → Gives (stepOf l) a old new → a ≡ Refused k
+unfolding answer
+refuses-with l k a old new e p g = g .says ∙ ap answer (refuses l (λ z. let w : ⊥ = omega arith in w)) ∙ ap Refused e
 
 -- an accepted call: its number, its volumes and its table
 pub record Taken (l : Lent) (w v : ℤ) (new : List ℤ) : Type 0 where
@@ -88,3 +114,77 @@ taken l w v old new g =
     snd : Answer → ℤ
     snd (Refused k) = pos 0
     snd (Accepted w v) = v
+
+-- ---- tables as states
+abbrev pub reachAt : List ℤ → ℕ → ℕ → Reach
+reachAt bed n dx = record { n = n; dx = pos dx; bed = λ i. getD bed i (pos 0); face = face }
+
+module _ (bed t : List ℤ) (dx : ℕ) where
+  pub none-below : (n : ℕ) → Depths (reachAt bed n dx) (cellAt t) → NoneBelow bed t n
+  unfolding meanDepth leftDepth rightDepth meanBed bedSlope h0 h1 hl hr z0 z1
+  none-below n d = record { mean = d .mean; left = λ i l. d .faces i l .left; right = λ i l. d .faces i l .right }
+
+  pub wet : (n : ℕ) → NoneBelow bed t n → Wet (reachAt bed n dx) (cellAt t)
+  unfolding meanDepth leftDepth rightDepth meanBed bedSlope h0 h1 hl hr z0 z1
+  wet n d i l = record { left = d .left i l; right = d .right i l }
+
+  pub water-is : (n : ℕ) → water bed t n ≡ balance.water (reachAt bed n dx) (cellAt t)
+  unfolding balance.water water balance.sum meanDepth meanBed h0 z0
+  water-is n = go n
+    where
+      go : (m : ℕ) → water bed t m ≡ balance.sum (λ i. h0 (under (reachAt bed n dx) i) (cellAt t i)) m
+      go zero = refl
+      go (suc m) = ap (λ (x : ℤ). x +ℤ meanDepth bed t m) (go m)
+
+  pub at-rest : (n : ℕ) → Lake bed t n → AtRest (reachAt bed n dx) (cellAt t)
+  unfolding meanBed bedSlope z0 z1
+  at-rest n k = record { calm = λ i l. record { q0 = k .mean i l; q1 = k .slope i l }; cell = λ i l. kind i (k .cell i l); level = k .level }
+    where
+      kind : (i : ℕ) → ((at t (4 * i) ≡ meanBed bed i) × (at t (4 * i + 1) ≡ bedSlope bed i)) ⊎ ((at t (4 * i + 1) ≡ pos 0) × (at bed i ≤ℤ at t (4 * i)) × (at bed (suc i) ≤ℤ at t (4 * i)))
+          → Dry (under (reachAt bed n dx) i) (cellAt t i) ⊎ Flat (under (reachAt bed n dx) i) (cellAt t i)
+      kind i (inl d) = inl (record { mean = d .0; slope = d .1 })
+      kind i (inr f) = inr (record { slope = f .0; left = f .1; right = f .2 })
+
+-- ---- an accepted call as a step of the rules
+pub record One (bed : List ℤ) (n dx : ℕ) (c : Call) (s m : List ℤ) (w v : ℤ) : Type 0 where
+  pub some : 0 < n
+  pub now : length s ≡ 4 * n
+  pub size : length m ≡ 4 * n
+  pub unstopped : refusal (reachAt bed n dx) c (cellAt s) ≡ 0
+  pub same : Same (reachAt bed n dx) (cellAt m) (next (reachAt bed n dx) c (cellAt s))
+  pub left : w ≡ carry (reachAt bed n dx) c (cellAt s) 0
+  pub right : v ≡ carry (reachAt bed n dx) c (cellAt s) n
+
+module _ {bed : List ℤ} {n dx : ℕ} {s : List ℤ} {a : Answer} {old m : List ℤ} (c : Called bed n dx s a old m) where
+  -- what was lent to a call, and what it may change
+  abbrev pub lent : Lent
+  lent = lend s (length old) bed (c .friction) dx (c .dt) (c .jump) (c .left) (c .right)
+
+  abbrev pub call : Call
+  call = callOf lent
+
+pub one : (bed : List ℤ) (n dx : ℕ) (s : List ℤ) (w v : ℤ) (old m : List ℤ) (c : Called bed n dx s (Accepted w v) old m) → One bed n dx (call c) s m w v
+unfolding filled crossed
+one bed n dx s w v old m c = subst (λ (k : ℕ). One bed k dx (call c) s m w v) (c .cells) whole
+  where
+    whole : One bed (length (c .friction)) dx (call c) s m w v
+    whole =
+        let t = taken (lent c) w v old m (c .gave) in
+        let f = fitted (length s) (length old) (length bed) (length (c .friction)) (fits (lent c) (t .number)) in
+        let y = next (reachOf (lent c)) (call c) (cellAt s) in let k = length (c .friction) in
+        record {
+          some = f .some;
+          now = f .now;
+          size = ap length (t .table) ∙ length-flat k y;
+          unstopped = unrefused (lent c) (t .number);
+          same = λ i l. ap (λ (x : List ℤ). cellAt x i) (t .table) ∙ cellAt-flat k y i l;
+          left = t .left;
+          right = t .right;
+        }
+
+-- ---- calls as a run
+pub run : (bed : List ℤ) (n dx : ℕ) {s t : List ℤ} {a b : ℤ} → Calls bed n dx s t a b → Run (reachAt bed n dx) (cellAt s) (cellAt t) a b
+run bed n dx (none t) = stop (cellAt t)
+run bed n dx (more s m t old w v a b c k) =
+    let o = one bed n dx s w v old m c in
+    rw (o .left, o .right) (step (call c) (cellAt s) (cellAt m) (cellAt t) a b (o .unstopped) (o .same) (run bed n dx k))

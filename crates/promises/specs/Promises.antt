@@ -1,1 +1,133 @@
--- x
+-- The three demands, said of the calls themselves: of the tables lent and written, the answers and the volumes.
+--
+-- `Called` and `Calls` (in `Seen`) are calls of `step` as a caller sees them. That every call ends, does nothing undefined and meets its
+-- contract for all that it is lent is what the toolchain proves of each public function, none of which asks anything of its caller.
+--
+-- Nothing here would be worth much of a step that copies `now` to `next`, gives two noughts for the volumes and never refuses: it balances,
+-- keeps every lake and every depth. But `Called` holds the contract, `Gives (stepOf ..)`, which leaves one answer and one table
+-- (`step-answer`, `step-table`): those of the rules' two stages. So what follows is said of that step, and of no other.
+-- Assumes nothing.
+use mathlib.Core.Path.{_≡_, refl, sym, _∙_, ap, ap₂, subst}
+use mathlib.Core.List.{List, []}
+use mathlib.Core.Logic.{_⊎_}
+use Prim.Native.Nat.{ℕ, _<_}
+use lib.IntN.{ℤ, pos, _+ℤ_, _-ℤ_}
+use lib.Ieee.{Float}
+use Rattle.rules.specs.Face.{Side}
+use Rattle.tables.specs.Cells.{cellAt, flat-is, flat-cells}
+use Rattle.rules.specs.Step.{stageOne, next}
+use Rattle.rules.specs.Refusals.{checks, early, stageChecks}
+use Rattle.rules.specs.Lent.{Lent, cellsOf, reachOf, callOf, stateOf, number, filled, crossed, stepOf}
+use Rattle.rules.specs.Laws.Accept.{Clear, passed}
+use Rattle.rules.specs.Laws.Face.{lawful}
+use Rattle.rules.specs.Laws.Runs.{stop, step, Large, Depths, depths, eight, accepted-depths, run-balanced, run-wet, run-rest}
+use Rattle.face.specs.Given.{speedGiven, waveGiven, cubeGiven, faceGiven}
+use Rattle.face.specs.Answers.{flux}
+use Rattle.face.specs.Answers.{number as worth}
+use Rattle.face.specs.Root.{RootIs}
+use Rattle.face.specs.Double.{FaceIs}
+use Rattle.face.specs.declared.answer.Whole.{Whole}
+use Rattle.face.specs.declared.answer.Carried.{Carried}
+use Rattle.face.specs.declared.root.RootAnswer.{RootAnswer}
+use Rattle.face.specs.declared.double.DoubleAnswer.{DoubleAnswer}
+use Rattle.face.proofs.Unique.{speed-unique, wave-unique, cube-unique, face-unique}
+use Rattle.face.proofs.root.Unique.{root-unique}
+use Rattle.face.proofs.double.Unique as doubles
+use Rattle.stage.specs.Worked.{WorkedSays}
+use Rattle.stage.specs.Unique.{one-said}
+use Rattle.stage.specs.declared.worked.Worked.{Worked}
+use Rattle.step.specs.Gives.{Gives, one-answer, one-table}
+use Rattle.step.specs.declared.Answer.{Answer}
+use Rattle.step.specs.declared.Answer.the-variants.{Refused, Accepted}
+use Rattle.promises.specs.Seen.{NoneBelow, water, Lake, Called, Calls, none, more}
+use Rattle.promises.specs.First.{FirstMet, first-verdict, verdict-first, first-listed}
+use Rattle.promises.specs.Outcomes.{allChecks, number-is, refuses-with, refused-number, refused-some, refused-table, refused-later, taken, reachAt, lent, call, one, none-below, wet, water-is, at-rest, run}
+
+-- ---- demand 1: one answer, one content of the table
+pub step-answer : (l : Lent) {a b : Answer} {old new new′ : List ℤ} → Gives (stepOf l) a old new → Gives (stepOf l) b old new′ → a ≡ b
+step-answer l p q = one-answer p q
+
+pub step-table : (l : Lent) {a b : Answer} {old new new′ : List ℤ} → Gives (stepOf l) a old new → Gives (stepOf l) b old new′ → new ≡ new′
+step-table l p q = one-table p q
+
+-- and so of every other public function
+pub work-one : (l : Lent) (old new new′ : List (List ℤ)) (a b : Worked) → WorkedSays l a old new → WorkedSays l b old new′ → (a ≡ b) × (new ≡ new′)
+work-one l old new new′ a b p q = one-said (reachOf l) (callOf l) (stateOf l) (number l) old new new′ a b p q
+
+pub speed-one : (q h : ℤ) (a b : Whole) → worth a ≡ speedGiven q h → worth b ≡ speedGiven q h → a ≡ b
+speed-one q h a b x y = speed-unique q h a b x y
+
+pub wave-one : (h : ℤ) (a b : Whole) → worth a ≡ waveGiven h → worth b ≡ waveGiven h → a ≡ b
+wave-one h a b x y = wave-unique h a b x y
+
+pub cube-one : (h : ℤ) (a b : Whole) → worth a ≡ cubeGiven h → worth b ≡ cubeGiven h → a ≡ b
+cube-one h a b x y = cube-unique h a b x y
+
+pub face-one : (l r : Side) (a b : Carried) → flux a ≡ faceGiven l r → flux b ≡ faceGiven l r → a ≡ b
+face-one l r a b x y = face-unique l r a b x y
+
+pub root-one : {x : Float} {a b : RootAnswer} → RootIs x a → RootIs x b → a ≡ b
+root-one p q = root-unique p q
+
+pub double-one : (hl ul hr ur : Float) (a b : DoubleAnswer) → FaceIs hl ul hr ur a → FaceIs hl ul hr ur b → a ≡ b
+double-one hl ul hr ur a b x y = doubles.face-unique hl ul hr ur a b x y
+
+-- a call is refused with k exactly when a check numbered k is the first one met,
+pub refused-first : (l : Lent) (k : ℕ) (old new : List ℤ) → Gives (stepOf l) (Refused k) old new → FirstMet k (allChecks l)
+refused-first l k old new g = verdict-first k (allChecks l) (refused-some l k old new g) (sym (number-is l) ∙ refused-number l k old new g)
+
+pub first-refused : (l : Lent) (k : ℕ) (a : Answer) (old new : List ℤ) → FirstMet k (allChecks l) → Gives (stepOf l) a old new → a ≡ Refused k
+unfolding allChecks checks early stageChecks
+first-refused l k a old new f g = refuses-with l k a old new (number-is l ∙ first-verdict k f) (first-listed k f tt .0) g
+
+-- a number from 1 to 8; and the table is then what it was
+pub refused-listed : (l : Lent) (k : ℕ) (old new : List ℤ) → Gives (stepOf l) (Refused k) old new → (0 < k) × (k < 9)
+unfolding allChecks checks early stageChecks
+refused-listed l k old new g = first-listed k (refused-first l k old new g) tt
+
+pub refused-untouched : (l : Lent) (k : ℕ) (old new : List ℤ) → Gives (stepOf l) (Refused k) old new → new ≡ old
+refused-untouched l k old new g = refused-table l k old new g
+
+-- it is accepted exactly when none is met
+pub accepted-clear : (l : Lent) (w v : ℤ) (old new : List ℤ) → Gives (stepOf l) (Accepted w v) old new → Clear (allChecks l)
+unfolding allChecks checks early stageChecks
+accepted-clear l w v old new g = passed 0 (allChecks l) [] tt (sym (number-is l) ∙ taken l w v old new g .number) .0
+
+-- ---- demand 2: an accepted call's table and volumes are those of the rules' two stages, number for number
+pub accepted-rules : (l : Lent) (w v : ℤ) (old new : List ℤ) → Gives (stepOf l) (Accepted w v) old new → (new ≡ filled l) × (w ≡ crossed l 0) × (v ≡ crossed l (cellsOf l))
+accepted-rules l w v old new g = let t = taken l w v old new g in (t .table, t .left, t .right)
+
+-- ---- demand 3, over any number of accepted calls on one bed with n cells of length dx
+module _ (bed : List ℤ) (n dx : ℕ) where
+  -- the water balances with what the ends bring and take, to the unit
+  pub water-balances : {s t : List ℤ} {a b : ℤ} → Calls bed n dx s t a b → water bed t n ≡ water bed s n +ℤ a -ℤ b
+  water-balances {s} {t} {a} {b} k =
+      water-is bed t dx n ∙ run-balanced (reachAt bed n dx) (run bed n dx k) ∙ ap (λ (x : ℤ). x +ℤ a -ℤ b) (sym (water-is bed s dx n))
+
+  -- no depth is below nought: in the state that an accepted call is lent, in its finished first stage, and in the state that it or a later one writes,
+  pub none-below-now : (s : List ℤ) (w v : ℤ) (old m : List ℤ) → Called bed n dx s (Accepted w v) old m → NoneBelow bed s n
+  none-below-now s w v old m c = let o = one bed n dx s w v old m c in none-below bed s dx n (accepted-depths (reachAt bed n dx) lawful (call c) (cellAt s) (o .unstopped) .0)
+
+  pub none-below-stage : (s : List ℤ) (w v : ℤ) (old m : List ℤ) (c : Called bed n dx s (Accepted w v) old m) → Depths (reachAt bed n dx) (stageOne (reachAt bed n dx) (call c) (cellAt s))
+  none-below-stage s w v old m c = let o = one bed n dx s w v old m c in accepted-depths (reachAt bed n dx) lawful (call c) (cellAt s) (o .unstopped) .1
+
+  pub none-below-next : {s t : List ℤ} {a b : ℤ} → Calls bed n dx s t a b → NoneBelow bed s n → NoneBelow bed t n
+  none-below-next {s} {t} k d = none-below bed t dx n (depths (reachAt bed n dx) (cellAt t) (run-wet (reachAt bed n dx) lawful (run bed n dx k) (wet bed s dx n d)))
+
+  pub none-below-written : (s : List ℤ) (w v : ℤ) (old m : List ℤ) → Called bed n dx s (Accepted w v) old m → NoneBelow bed m n
+  none-below-written s w v old m c = none-below-next (more s m m old w v (pos 0) (pos 0) c (none m)) (none-below-now s w v old m c)
+
+  -- and no call is refused because one would have been: after an 8 some value is too large, and every depth at or above nought
+  pub eight-too-large : (s : List ℤ) (old new : List ℤ) (c : Called bed n dx s (Refused 8) old new) → let r = reachOf (lent c) in
+      Large r (stageOne r (call c) (cellAt s)) ⊎ Large r (next r (call c) (cellAt s))
+  eight-too-large s old new c = eight (reachOf (lent c)) lawful (call c) (cellAt s) (refused-later (lent c) 8 old new (c .gave) refl)
+
+  -- a lake at rest keeps every number of its table, and nothing crosses its ends
+  pub lake-rests : {s t : List ℤ} {a b : ℤ} → Calls bed n dx s t a b → Lake bed s n → (t ≡ s) × (a ≡ pos 0) × (b ≡ pos 0)
+  lake-rests (none s) k = (refl, refl, refl)
+  lake-rests (more s m t old w v a b c q) k =
+      let o = one bed n dx s w v old m c in let r = reachAt bed n dx in
+      let z = run-rest r lawful (o .some) (step (call c) (cellAt s) (cellAt m) (cellAt m) (pos 0) (pos 0) (o .unstopped) (o .same) (stop (cellAt m))) (at-rest bed s dx n k) in
+      let e : m ≡ s = flat-is n m (cellAt s) (o .size) (z .0) ∙ flat-cells n s (o .now) in
+      let d = lake-rests q (subst (λ (x : List ℤ). Lake bed x n) (sym e) k) in
+      (d .0 ∙ e, ap₂ _+ℤ_ (o .left) (d .1) ∙ z .1, ap₂ _+ℤ_ (o .right) (d .2) ∙ z .2)
