@@ -24,7 +24,7 @@ use Rattle.rules.specs.Laws.Lengths.{fitted, first-number, later-number, fits, 
 use Rattle.rules.specs.Laws.Positive.{Wet}
 use Rattle.rules.specs.Laws.Balance as balance
 use Rattle.rules.specs.Laws.Runs.{Run, stop, step, Depths}
-use Rattle.step.specs.Gives.{lend, Gives, answer, leaves}
+use Rattle.step.specs.Gives.{lend, code, atLeft, atRight, Gives, answer, leaves}
 use Rattle.step.specs.declared.Answer.{Answer}
 use Rattle.step.specs.declared.Answer.the-variants.{Refused, Accepted}
 use Rattle.promises.specs.Seen.{at, meanBed, bedSlope, meanDepth, leftDepth, rightDepth, NoneBelow, water, Lake, Called, Calls, none, more}
@@ -33,11 +33,6 @@ use Rattle.promises.specs.Seen.{at, meanBed, bedSlope, meanDepth, leftDe
 -- all the checks of a call, in their order
 unfoldable pub allChecks : Lent → List Check
 allChecks l = chk 1 (misfits l) ∷ checks (reachOf l) (callOf l) (stateOf l)
-
--- the number that an answer carries: 0 for an accepted call
-unfoldable pub code : Answer → ℕ
-code (Refused k) = k
-code (Accepted w v) = 0
 
 module _ (l : Lent) where
   pub number-is : number l ≡ verdict (allChecks l)
@@ -101,19 +96,11 @@ pub record Taken (l : Lent) (w v : ℤ) (new : List ℤ) : Type 0 where
   pub table : new ≡ filled l
 
 pub taken : (l : Lent) (w v : ℤ) (old new : List ℤ) → Gives (stepOf l) (Accepted w v) old new → Taken l w v new
-unfolding code answer leaves
+unfolding code answer leaves atLeft atRight
 taken l w v old new g =
     let e : number l ≡ 0 = sym (coded l g) in
     let p : Accepted w v ≡ Accepted (crossed l 0) (crossed l (cellsOf l)) = g .says ∙ ap answer (accepts l e) in
-    record { number = e; left = ap fst p; right = ap snd p; table = g .table ∙ ap (λ (o : Outcome). leaves o old) (accepts l e) }
-  where
-    fst : Answer → ℤ
-    fst (Refused k) = pos 0
-    fst (Accepted w v) = w
-
-    snd : Answer → ℤ
-    snd (Refused k) = pos 0
-    snd (Accepted w v) = v
+    record { number = e; left = ap atLeft p; right = ap atRight p; table = g .table ∙ ap (λ (o : Outcome). leaves o old) (accepts l e) }
 
 -- ---- tables as states
 abbrev pub reachAt : List ℤ → ℕ → ℕ → Reach

@@ -2,7 +2,7 @@
 use mathlib.Core.Path.{_≡_, sym, _∙_}
 use mathlib.Core.List.{List}
 use Prim.Native.Nat.{ℕ}
-use lib.IntN.{ℤ}
+use lib.IntN.{ℤ, pos}
 use Rattle.rules.specs.Lent.{Lent, Outcome, refused, accepted}
 use Rattle.step.specs.declared.Answer.{Answer}
 use Rattle.step.specs.declared.Answer.the-variants.{Refused, Accepted}
@@ -10,6 +10,19 @@ use Rattle.step.specs.declared.Answer.the-variants.{Refused, Accepted}
 -- what is lent and given
 abbrev pub lend : List ℤ → ℕ → List ℤ → List ℕ → ℕ → ℕ → ℕ → ℕ → ℕ → Lent
 lend state room bed friction dx dt jump left right = record { now = state; room = room; bed = bed; friction = friction; dx = dx; dt = dt; jump = jump; left = left; right = right }
+
+-- the scope document's number and values of each answer: the refusal's number, 0 for an accepted step; and W at face 0 and at face n
+unfoldable pub code : Answer → ℕ
+code (Refused k) = k
+code (Accepted w v) = 0
+
+unfoldable pub atLeft : Answer → ℤ
+atLeft (Refused k) = pos 0
+atLeft (Accepted w v) = w
+
+unfoldable pub atRight : Answer → ℤ
+atRight (Refused k) = pos 0
+atRight (Accepted w v) = v
 
 -- the answer of an outcome,
 unfoldable pub answer : Outcome → Answer
