@@ -1,0 +1,98 @@
+// The library for callers in C: numbers, tables as pointer and length, and a number for an answer.
+// include/bassoonsun.h declares these functions.
+use face::answer::Carried;
+use face::double::DoubleAnswer;
+use face::root::RootAnswer;
+use step::Answer;
+ghost use lib.ListN.{length};
+ghost use Rattle.rules.specs.Lent.{stepOf};
+ghost use Rattle.face.specs.Given.{side, faceGiven};
+ghost use Rattle.step.specs.Gives.{lend};
+ghost use Rattle.editor.specs.Told.{StepTold, FaceTold, DoubleTold, RootTold};
+
+// 0 when the step is accepted, else the refusal's number; `volumes`, W at face 0 and at face n, is
+// written only when it is accepted.
+#[no_mangle]
+pub extern "C" fn bassoonsun_step(
+    state: &[i32],
+    next: &mut [i32],
+    bed: &[i32],
+    friction: &[u16],
+    dx: u32,
+    dt: u32,
+    jump: u32,
+    left: u32,
+    right: u32,
+    volumes: &mut [i64; 2],
+) -> u32
+    ensures { λ r. ⌜ StepTold (stepOf (lend (now (state .entry)) (length (now (next .entry))) (now (bed .entry)) (now (friction .entry)) dx dt jump left right)) r (now (next .entry)) (now (next .exit)) (now (volumes .entry)) (now (volumes .exit)) ⌝ }
+{
+    let a = step::step(state, next, bed, friction, dx, dt, jump, left, right);
+    match a {
+        Answer::Refused(k) => k,
+        Answer::Accepted(w, v) => {
+            volumes[0] = w;
+            volumes[1] = v;
+            0
+        }
+    }
+}
+
+// 0 when the sides are within the limits, else 1; `flux`, F, K, A and S, is written only for 0.
+#[no_mangle]
+pub extern "C" fn bassoonsun_face(hl: i64, ul: i64, hr: i64, ur: i64, flux: &mut [i64; 4]) -> u32
+    ensures { λ r. ⌜ FaceTold (faceGiven (side hl ul) (side hr ur)) r (now (flux .entry)) (now (flux .exit)) ⌝ }
+{
+    let c = face::flux::face(hl, ul, hr, ur);
+    match c {
+        Carried::Flux(f, k, a, s) => {
+            flux[0] = f;
+            flux[1] = k;
+            flux[2] = a;
+            flux[3] = s;
+            0
+        }
+        Carried::Refused => 1,
+    }
+}
+
+// 0 for a flux (mass, pressure, advection, top speed), 1 when both sides are dry, 2 when refused;
+// `flux` is written only for 0.
+#[no_mangle]
+pub extern "C" fn bassoonsun_face_double(
+    hl: f64,
+    ul: f64,
+    hr: f64,
+    ur: f64,
+    flux: &mut [f64; 4],
+) -> u32
+    ensures { λ r. ⌜ DoubleTold hl ul hr ur r (now (flux .entry)) (now (flux .exit)) ⌝ }
+{
+    let c = face::double::face(hl, ul, hr, ur);
+    match c {
+        DoubleAnswer::Flux(m, p, a, s) => {
+            flux[0] = m;
+            flux[1] = p;
+            flux[2] = a;
+            flux[3] = s;
+            0
+        }
+        DoubleAnswer::Dry => 1,
+        DoubleAnswer::Refused => 2,
+    }
+}
+
+// 0 when x has a root, else 1; `root` is written only for 0.
+#[no_mangle]
+pub extern "C" fn bassoonsun_root(x: f64, root: &mut [f64; 1]) -> u32
+    ensures { λ r. ⌜ RootTold x r (now (root .entry)) (now (root .exit)) ⌝ }
+{
+    let c = face::root::root(x);
+    match c {
+        RootAnswer::Root(y) => {
+            root[0] = y;
+            0
+        }
+        RootAnswer::Refused => 1,
+    }
+}
