@@ -1,0 +1,116 @@
+/* One step of shallow flow along a straight reach of equal cells, and the flux at one face.
+ *
+ * Built by `rt staticlib editor` as target/staticlib/libeditor.a (x86-64, System V calling
+ * convention); it needs memcpy and memset of the C library and nothing else. examples/leat.c
+ * shows its use, and `bash examples/run` builds and runs that example.
+ *
+ * UNITS. Whole numbers count 1/4096 of a metre, a second, m/s or m2/s: a level of 6144 is 1.5 m,
+ * a time step of 204 is about 1/20 s. Discharge is for one metre of width, rightward positive.
+ * The two functions on doubles take and give plain metres and seconds.
+ *
+ * WHO OWNS WHAT. Every table is the caller's, before, during and after the call. The library
+ * allocates nothing, keeps no pointer once it has returned, and has no state of its own, so calls
+ * from several threads do not disturb each other if what they write is not shared.
+ *
+ * WHAT THE CALLER SEES TO. The contracts are proved; these few things C leaves to the caller:
+ * - every pointer is non-null and aligned for its type, also where the length is 0;
+ * - a length counts elements, not bytes, and at least so many elements are there;
+ * - a table that is written (next, volumes, flux, root) overlaps no other table of the call.
+ *   now, bed and friction are only read;
+ * - the processor's floating point is as a program finds it: rounding to nearest, and tiny
+ *   numbers not flushed to 0. Only bassoonsun_face_double and bassoonsun_root depend on it.
+ * Anything else may be lent: whatever the numbers and lengths are, what does not fit is refused.
+ */
+#ifndef BASSOONSUN_H
+#define BASSOONSUN_H
+
+#include <stddef.h>
+#include <stdint.h>
+
+#ifdef __cplusplus
+extern "C" {
+#endif
+
+/* One step of the water. Gives 0 when the step is accepted, else the number of its refusal.
+ *
+ * The number of cells n is friction_len, 1 to 1024. Cell i lies between faces i and i + 1.
+ *
+ *   now       4n numbers, the present state. Cell i has at 4i the mean of the level, then its
+ *             slope, the mean of the discharge, and its slope. A cell shows mean - slope at its
+ *             left face and mean + slope at its right face. The depth at a face is the level
+ *             there less the bed. Face depths are 0 to 262144 (64 m), face discharges within
+ *             8388608 of nought (2048 m2/s).
+ *   next      4n numbers, where the new state goes, laid out like now
+ *   bed       n + 1 numbers, the bed at the faces: 0 to 1048576 (256 m), each even
+ *   friction  n Manning values in 1/1000, 0 to 200
+ *   dx        length of a cell, 1 to 1048576 (256 m)
+ *   dt        time step, 1 to 4096 (1 s)
+ *   jump      J, 0 to 262144 (64 m): at a face where the levels of two cells differ by more than
+ *             J, the slopes of both are limited
+ *   left      kind of the left end: 0 a wall, 1 open (the water outside is as deep and as fast as
+ *             that at the end face)
+ *   right     kind of the right end, likewise
+ *   volumes   what crossed face 0 and what crossed face n, rightward positive, as depth over one
+ *             cell: volumes[0] came in at the left, volumes[1] went out at the right
+ *
+ * When 0 is given, all of next and both volumes are written, and the sum of the n mean depths of
+ * next is that of now + volumes[0] - volumes[1], exactly. (The mean depth of a cell is the mean
+ * of its level less half the sum of the bed at its two faces.)
+ *
+ * After a refusal next and volumes hold what they held before. The checks are made in this order,
+ * each over the whole reach, and the first that applies is given:
+ *
+ *   1  the tables do not fit each other: friction_len is 0 or over 1024, or now_len or next_len is
+ *      not 4n, or bed_len is not n + 1
+ *   2  dx, dt, jump, left or right is outside its range
+ *   3  a bed value is out of range or odd
+ *   4  a friction value is over 200
+ *   5  the present state has a face depth or a face discharge out of range
+ *   6  the water is faster than 32 m/s: in a cell before friction, at a face, or at a Gauss point
+ *   7  the time step is too long for the top speed S at some face: 2*dt*S is over 4096*dx.
+ *      Try a shorter dt
+ *   8  after stage one, or at the end, a depth or a discharge is too large. It is never a depth
+ *      below nought
+ *
+ * 6 (at faces and Gauss points), 7 and 8 are made for stage one and then again for stage two. A
+ * dam break onto dry ground soon comes to a 6, whatever dt; a wave over a wet bed runs between
+ * walls. An open end is for water that leaves faster than its waves run: when slower water reaches
+ * it, water was seen to come in from outside, and after a wave of 0.5 m on 1 m of water the level at
+ * the end rose until a 7. These are trials of the rules and no theorems.
+ *
+ * The call works on the stack, in about 300 KiB however short the reach: lend a worker thread that
+ * calls it 512 KiB. */
+uint32_t bassoonsun_step(const int32_t *now, size_t now_len, int32_t *next, size_t next_len,
+                         const int32_t *bed, size_t bed_len, const uint16_t *friction,
+                         size_t friction_len, uint32_t dx, uint32_t dt, uint32_t jump,
+                         uint32_t left, uint32_t right, int64_t volumes[2]);
+
+/* What crosses one face between water of depth hl and speed ul on its left and of depth hr and
+ * speed ur on its right, in whole numbers. Depths 0 to 262144 (64 m), speeds within 131072 of
+ * nought (32 m/s).
+ *
+ * Gives 0 and writes flux: [0] F, the discharge in 1/4096 m2/s; [1] K, the mean square of the depth
+ * in (1/4096 m)^2, for the pressure; [2] A, the momentum carried along, in 1/4096 m3/s2; [3] S, the
+ * top speed in 1/4096 m/s. Gives 1 when a depth or a speed is out of range; flux is then as it
+ * was. Two dry sides are no fault: all four are 0. */
+uint32_t bassoonsun_face(int64_t hl, int64_t ul, int64_t hr, int64_t ur, int64_t flux[4]);
+
+/* The same face in double precision, in metres and seconds, each operation rounded once. Depths 0
+ * to 64 (-0 is read as +0), speeds within 32 of nought.
+ *
+ * Gives 0 and writes flux: [0] mass (m2/s), [1] pressure, as the square of the depth (m2),
+ * [2] advection (m3/s2), [3] top speed (m/s). Gives 1 when both sides are dry, and 2 when a depth or
+ * a speed is out of range or is a NaN; flux is then as it was. */
+uint32_t bassoonsun_face_double(double hl, double ul, double hr, double ur, double flux[4]);
+
+/* The square root of x as IEEE 754 has it: the double nearest the exact root; -0 for -0.
+ *
+ * Gives 0 and writes root[0]. Gives 1 for a NaN, an infinity and what is below nought; root is
+ * then as it was. */
+uint32_t bassoonsun_root(double x, double root[1]);
+
+#ifdef __cplusplus
+}
+#endif
+
+#endif

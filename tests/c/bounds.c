@@ -1,0 +1,214 @@
+/* Calls the library with every table at the very end of its pages, and again at the very start,
+ * with pages behind and before them that may not be touched: a read or a write one element off
+ * would end this program. The tables that are only read lie in pages that cannot be written.
+ * Checks the answer, that a refused call leaves next and volumes as they were, and that an
+ * accepted one keeps the water. The last line is 'N passed, M failed'. */
+#define _DEFAULT_SOURCE
+#include <bassoonsun.h>
+#include <math.h>
+#include <stdio.h>
+#include <stdlib.h>
+#include <sys/mman.h>
+#include <unistd.h>
+
+enum { METRE = 4096, DX = METRE, DT = METRE / 20, MARK = -77 };
+
+static int passed, failed;
+
+static void check(int good, const char *what, size_t n, int at_end)
+{
+    if (good)
+        passed++;
+    else
+        failed++, printf("failed: %s, n %zu, tables at the %s\n", what, n, at_end ? "end" : "start");
+}
+
+/* A table of some bytes between two pages that may not be touched. */
+typedef struct {
+    void *first;      /* its first element */
+    char *whole;      /* the pages, with the two */
+    size_t size;      /* of the pages, without the two */
+} Fenced;
+
+static Fenced fence(size_t bytes, int at_end)
+{
+    size_t page = (size_t)sysconf(_SC_PAGESIZE);
+    Fenced f;
+    f.size = (bytes / page + 1) * page;
+    f.whole = mmap(NULL, f.size + 2 * page, PROT_NONE, MAP_PRIVATE | MAP_ANONYMOUS, -1, 0);
+    if (f.whole == MAP_FAILED || mprotect(f.whole + page, f.size, PROT_READ | PROT_WRITE) != 0) {
+        perror("bounds: no pages");
+        exit(2);
+    }
+    f.first = f.whole + page + (at_end ? f.size - bytes : 0);
+    return f;
+}
+
+static void only_read(Fenced f)
+{
+    size_t page = (size_t)sysconf(_SC_PAGESIZE);
+    if (mprotect(f.whole + page, f.size, PROT_READ) != 0) {
+        perror("bounds: pages cannot be shut");
+        exit(2);
+    }
+}
+
+static void unfence(Fenced f)
+{
+    munmap(f.whole, f.size + 2 * (size_t)sysconf(_SC_PAGESIZE));
+}
+
+/* A call to be made: what differs from a good call on n cells, and the answer that is due. */
+typedef struct {
+    const char *what;
+    uint32_t due;
+    int now_more, next_more, bed_more;      /* elements over what fits n */
+    uint32_t dx, dt, jump, left, right;
+    int32_t last_bed;                       /* the last face's bed, */
+    uint16_t last_friction;                 /* the last cell's friction */
+    int32_t last_level, last_discharge;     /* and means */
+} Call;
+
+typedef struct {
+    Fenced now, next, bed, friction, volumes;
+    size_t now_len, next_len, bed_len, n;
+} Lent;
+
+/* Water over a bed that goes up and down, 0.8 m deep or more, with a wave at the left. */
+static void fill(const Lent *t, const Call *c)
+{
+    int32_t *now = t->now.first, *next = t->next.first, *bed = t->bed.first;
+    uint16_t *friction = t->friction.first;
+    int64_t *volumes = t->volumes.first;
+    for (size_t i = 0; i < t->bed_len; i++)
+        bed[i] = i == t->n ? c->last_bed : (int32_t)(i % 8) * 64;
+    for (size_t i = 0; i < t->now_len; i++) {
+        int last = i / 4 + 1 == t->n;
+        int32_t level = last ? c->last_level : i < 16 ? 3 * METRE / 2 : 5 * METRE / 4;
+        now[i] = i % 4 == 0 ? level : i % 4 == 2 && last ? c->last_discharge : 0;
+    }
+    for (size_t i = 0; i < t->n; i++)
+        friction[i] = i + 1 == t->n ? c->last_friction : 30;
+    for (size_t i = 0; i < t->next_len; i++)
+        next[i] = MARK;
+    volumes[0] = volumes[1] = MARK;
+}
+
+static Lent lend(const Call *c, size_t n, int at_end)
+{
+    Lent t = {.n = n};
+    t.now_len = 4 * n + c->now_more, t.next_len = 4 * n + c->next_more, t.bed_len = n + 1 + c->bed_more;
+    t.now = fence(t.now_len * sizeof(int32_t), at_end);
+    t.next = fence(t.next_len * sizeof(int32_t), at_end);
+    t.bed = fence(t.bed_len * sizeof(int32_t), at_end);
+    t.friction = fence(n * sizeof(uint16_t), at_end);
+    t.volumes = fence(2 * sizeof(int64_t), at_end);
+    fill(&t, c);
+    only_read(t.now);
+    only_read(t.bed);
+    only_read(t.friction);
+    return t;
+}
+
+static int untouched(const Lent *t)
+{
+    const int32_t *next = t->next.first;
+    const int64_t *volumes = t->volumes.first;
+    for (size_t i = 0; i < t->next_len; i++)
+        if (next[i] != MARK)
+            return 0;
+    return volumes[0] == MARK && volumes[1] == MARK;
+}
+
+/* The beds are the same before and after, so that sums of levels do for sums of depths. */
+static int keeps_water(const Lent *t)
+{
+    const int32_t *now = t->now.first, *next = t->next.first;
+    const int64_t *volumes = t->volumes.first;
+    int64_t sum = volumes[0] - volumes[1];
+    for (size_t i = 0; i < t->n; i++)
+        sum += (int64_t)now[4 * i] - next[4 * i];
+    return sum == 0 && volumes[0] != MARK && volumes[1] != MARK;
+}
+
+static void try_call(const Call *c, size_t n, int at_end)
+{
+    Lent t = lend(c, n, at_end);
+    uint32_t given = bassoonsun_step(t.now.first, t.now_len, t.next.first, t.next_len,
+                                     t.bed.first, t.bed_len, t.friction.first, n,
+                                     c->dx, c->dt, c->jump, c->left, c->right, t.volumes.first);
+    check(given == c->due, c->what, n, at_end);
+    check(given == 0 ? keeps_water(&t) : untouched(&t), c->what, n, at_end);
+    unfence(t.now), unfence(t.next), unfence(t.bed), unfence(t.friction), unfence(t.volumes);
+}
+
+#define GOOD .dx = DX, .dt = DT, .jump = 64, .left = 0, .right = 1, \
+             .last_bed = 128, .last_friction = 30, .last_level = 5 * METRE / 4
+
+/* A later member of a list takes the place of the same one in GOOD; that is meant here. */
+#pragma GCC diagnostic ignored "-Woverride-init"
+static const Call calls[] = {
+    {GOOD, .what = "accepted", .due = 0},
+    {GOOD, .what = "accepted, ends the other way", .due = 0, .left = 1, .right = 0},
+    {GOOD, .what = "now too long", .due = 1, .now_more = 1},
+    {GOOD, .what = "now too short", .due = 1, .now_more = -1},
+    {GOOD, .what = "next too long", .due = 1, .next_more = 1},
+    {GOOD, .what = "next too short", .due = 1, .next_more = -1},
+    {GOOD, .what = "bed too long", .due = 1, .bed_more = 1},
+    {GOOD, .what = "bed too short", .due = 1, .bed_more = -1},
+    {GOOD, .what = "dx 0", .due = 2, .dx = 0},
+    {GOOD, .what = "dx too large", .due = 2, .dx = 1048577},
+    {GOOD, .what = "dt 0", .due = 2, .dt = 0},
+    {GOOD, .what = "dt too large", .due = 2, .dt = 4097},
+    {GOOD, .what = "J too large", .due = 2, .jump = 262145},
+    {GOOD, .what = "left end 2", .due = 2, .left = 2},
+    {GOOD, .what = "right end 2", .due = 2, .right = 2},
+    {GOOD, .what = "odd bed", .due = 3, .last_bed = 127},
+    {GOOD, .what = "bed below nought", .due = 3, .last_bed = -2},
+    {GOOD, .what = "bed too high", .due = 3, .last_bed = 1048578},
+    {GOOD, .what = "friction 201", .due = 4, .last_friction = 201},
+    {GOOD, .what = "level below the bed", .due = 5, .last_level = -1},
+    {GOOD, .what = "level too high", .due = 5, .last_level = 300000},
+    {GOOD, .what = "discharge too large", .due = 5, .last_discharge = 8388609},
+    {GOOD, .what = "water too fast", .due = 6, .last_discharge = 8388608},
+    {GOOD, .what = "time step too long", .due = 7, .dt = 4096},
+};
+
+/* The faces and the root. Their tables are fenced too, and change only where 0 is given. */
+static void try_faces(int at_end)
+{
+    Fenced whole = fence(4 * sizeof(int64_t), at_end), real = fence(4 * sizeof(double), at_end);
+    Fenced one = fence(sizeof(double), at_end);
+    int64_t *flux = whole.first;
+    double *parts = real.first, *root = one.first;
+    for (int i = 0; i < 4; i++)
+        flux[i] = parts[i] = MARK;
+    root[0] = MARK;
+#define MARKED(t) ((t)[0] == MARK && (t)[1] == MARK && (t)[2] == MARK && (t)[3] == MARK)
+    check(bassoonsun_face(-1, 0, 4096, 0, flux) == 1 && MARKED(flux), "face refused", 0, at_end);
+    check(bassoonsun_face(4096, 0, 0, 0, flux) == 0, "face given", 0, at_end);
+    check(flux[0] == 8552 && flux[1] == 11184810 && flux[2] == 0 && flux[3] == 25658, "face", 0, at_end);
+    check(bassoonsun_face_double(0, 0, -0.0, 0, parts) == 1 && MARKED(parts), "dry double face", 0, at_end);
+    check(bassoonsun_face_double(NAN, 0, 1, 0, parts) == 2 && MARKED(parts), "double face refused", 0, at_end);
+    check(bassoonsun_face_double(1, 20, 1, 20, parts) == 0, "double face given", 0, at_end);
+    check(parts[0] == 20 && parts[1] == 1 && parts[2] == 400 && parts[3] > 20, "double face", 0, at_end);
+    check(bassoonsun_root(-1, root) == 1 && root[0] == MARK, "root refused", 0, at_end);
+    check(bassoonsun_root(2.25, root) == 0 && root[0] == 1.5, "root", 0, at_end);
+    unfence(whole), unfence(real), unfence(one);
+}
+
+int main(void)
+{
+    static const size_t cells[] = {1, 2, 16, 1024};
+    static const Call good = {GOOD, .what = "too many cells or none", .due = 1};
+    for (int at_end = 0; at_end <= 1; at_end++) {
+        for (size_t k = 0; k < sizeof cells / sizeof *cells; k++)
+            for (size_t c = 0; c < sizeof calls / sizeof *calls; c++)
+                try_call(&calls[c], cells[k], at_end);
+        try_call(&good, 0, at_end);
+        try_call(&good, 1025, at_end);
+        try_faces(at_end);
+    }
+    printf("%d passed, %d failed\n", passed, failed);
+    return failed != 0;
+}
