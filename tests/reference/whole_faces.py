@@ -1,7 +1,10 @@
 """20,000 whole-number faces in 100 blocks of 200, with a hash after each block.
 
-The same walk is written again over the library; both print 100 equal lines, kept in
-whole_faces.txt.  All of it is additions, remainders by constants, shifts and xor:
+The program whole_faces makes the same walk over the library; its stored text is made by
+
+    python3 tests/reference/whole_faces.py > crates/whole_faces/stdout
+
+All of it is additions, remainders by constants, shifts and xor:
 
   x, h are u64, x starts at 88172645463325252, h at 0, c (a class, 0 to 9) at 0.
 

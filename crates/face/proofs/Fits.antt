@@ -8,10 +8,10 @@ use Rattle.whole.specs.Flags.{and-l, and-r}
 use Rattle.whole.specs.Parts.{Within, b-range, range-b}
 use Rattle.whole.specs.Tests.{le-yes, yes-le}
 use Rattle.rules.specs.Limits.{deepest, fullest, fastest, dryDepth}
-use Rattle.rules.specs.Face.{Side, speed, wave, face}
+use Rattle.rules.specs.Face.{Side, speed, face}
 use Rattle.rules.specs.Friction.{cube}
 use Rattle.rules.specs.Laws.Sizes.{Sound}
-use Rattle.face.specs.Given.{given, liesBetween, depthFits, speedFits, dischargeFits, sideFits, speedGiven, waveGiven, cubeGiven, faceGiven}
+use Rattle.face.specs.Given.{given, liesBetween, depthFits, speedFits, dischargeFits, sideFits, speedGiven, cubeGiven, faceGiven}
 
 -- ---- from the tests
 lies-in : (low x high : ℤ) → liesBetween low x high ≡ true → (low ≤ℤ x) × (x ≤ℤ high)
@@ -59,10 +59,6 @@ in-side x s =
 pub speed-given : (q h : ℤ) → Within 8388608 q → pos 0 ≤ℤ h → h ≤ℤ deepest → speedGiven q h ≡ given (speed dryDepth q h)
 unfolding speedGiven
 speed-given q h w a b = rw (in-discharge q w, in-depth h a b)
-
-pub wave-given : (h : ℤ) → pos 0 ≤ℤ h → h ≤ℤ deepest → waveGiven h ≡ given (wave h)
-unfolding waveGiven
-wave-given h a b = rw (in-depth h a b)
 
 pub cube-given : (h : ℤ) → pos 0 ≤ℤ h → h ≤ℤ deepest → cubeGiven h ≡ given (cube h)
 unfolding cubeGiven

@@ -12,22 +12,23 @@ use lib.ListN.{length, getD}
 use lib.IntN.{ℤ, pos, _+ℤ_}
 use lib.Signed.{_≤ℤ_}
 use Rattle.whole.specs.Flags.{by, held, clash}
-use Rattle.tables.specs.Cells.{cellAt, length-flat, cellAt-flat}
+use Rattle.tables.specs.Rows.{row}
+use Rattle.tables.specs.Cells.{cellAt, flat, length-flat, cellAt-flat}
 use Rattle.rules.specs.Face.{face}
-use Rattle.rules.specs.Reach.{Reach, Call, under, z0, z1, h0, h1, hl, hr}
+use Rattle.rules.specs.Reach.{Reach, Call, State, under, z0, z1, h0, h1, hl, hr}
 use Rattle.rules.specs.Step.{carry, next}
 use Rattle.rules.specs.Refusals.{Check, chk, verdict, checks, refusal}
 use Rattle.rules.specs.Lent.{Lent, reachOf, callOf, stateOf, cellsOf, misfits, number, filled, crossed, Outcome, refused, accepted, stepOf}
 use Rattle.rules.specs.AtRest.{Dry, Flat, AtRest}
 use Rattle.rules.specs.Laws.Agree.{Same}
 use Rattle.rules.specs.Laws.Lengths.{fitted, first-number, later-number, fits, unrefused}
-use Rattle.rules.specs.Laws.Positive.{Wet}
+use Rattle.rules.specs.Laws.Positive.{Nonneg, Wet}
 use Rattle.rules.specs.Laws.Balance as balance
-use Rattle.rules.specs.Laws.Runs.{Run, stop, step, Depths}
+use Rattle.rules.specs.Laws.Runs.{Run, stop, step, Depths, depths, TooLarge, Large}
 use Rattle.step.specs.Gives.{lend, code, atLeft, atRight, Gives, answer, leaves}
 use Rattle.step.specs.declared.Answer.{Answer}
 use Rattle.step.specs.declared.Answer.the-variants.{Refused, Accepted}
-use Rattle.promises.specs.Seen.{at, meanBed, bedSlope, meanDepth, leftDepth, rightDepth, NoneBelow, water, Lake, Called, Calls, none, more}
+use Rattle.promises.specs.Seen.{at, meanBed, bedSlope, meanDepth, leftDepth, rightDepth, NoneBelow, Excess, water, Lake, Called, Calls, none, more}
 
 -- ---- an outcome by its number
 -- all the checks of a call, in their order
@@ -131,6 +132,21 @@ module _ (bed t : List ℤ) (dx : ℕ) where
           → Dry (under (reachAt bed n dx) i) (cellAt t i) ⊎ Flat (under (reachAt bed n dx) i) (cellAt t i)
       kind i (inl d) = inl (record { mean = d .0; slope = d .1 })
       kind i (inr f) = inr (record { slope = f .0; left = f .1; right = f .2 })
+
+-- ---- states written as tables
+module _ (bed : List ℤ) (n dx : ℕ) (s : State) where
+  abbrev table : List ℤ
+  table = flat (row n s)
+
+  wet-table : Wet (reachAt bed n dx) s → Wet (reachAt bed n dx) (cellAt table)
+  wet-table w i l = subst (Nonneg (under (reachAt bed n dx) i)) (sym (cellAt-flat n s i l)) (w i l)
+
+  pub none-below-table : Wet (reachAt bed n dx) s → NoneBelow bed table n
+  none-below-table w = none-below bed table dx n (depths (reachAt bed n dx) (cellAt table) (wet-table w))
+
+  pub excess-table : (k : Large (reachAt bed n dx) s) → Excess bed table n
+  unfolding leftDepth rightDepth meanDepth meanBed bedSlope h0 h1 hl hr z0 z1
+  excess-table k = record { cell = k .place; below = k .below; large = subst (TooLarge (under (reachAt bed n dx) (k .place))) (sym (cellAt-flat n s (k .place) (k .below))) (k .large) }
 
 -- ---- an accepted call as a step of the rules
 pub record One (bed : List ℤ) (n dx : ℕ) (c : Call) (s m : List ℤ) (w v : ℤ) : Type 0 where

@@ -9,18 +9,22 @@
 -- Assumes nothing.
 use mathlib.Core.Path.{_≡_, refl, sym, _∙_, ap, ap₂, subst}
 use mathlib.Core.List.{List, []}
-use mathlib.Core.Logic.{_⊎_}
+use mathlib.Core.Logic.{_⊎_, inl, inr, ⊎-elim}
 use Prim.Native.Nat.{ℕ, _<_}
+use lib.ListN.{length}
 use lib.IntN.{ℤ, pos, _+ℤ_, _-ℤ_}
 use lib.Ieee.{Float}
 use Rattle.rules.specs.Face.{Side}
-use Rattle.tables.specs.Cells.{cellAt, flat-is, flat-cells}
+use Rattle.tables.specs.Cells.{cellAt, flat, flat-is, flat-cells}
+use Rattle.tables.specs.Rows.{row}
+use Rattle.rules.specs.Reach.{State}
+use Rattle.rules.specs.Laws.Lengths.{unrefused}
 use Rattle.rules.specs.Step.{stageOne, next}
 use Rattle.rules.specs.Refusals.{checks, early, stageChecks}
 use Rattle.rules.specs.Lent.{Lent, cellsOf, reachOf, callOf, stateOf, number, filled, crossed, stepOf}
 use Rattle.rules.specs.Laws.Accept.{Clear, passed}
 use Rattle.rules.specs.Laws.Face.{lawful}
-use Rattle.rules.specs.Laws.Runs.{stop, step, Large, Depths, depths, eight, accepted-depths, run-balanced, run-wet, run-rest}
+use Rattle.rules.specs.Laws.Runs.{stop, step, Large, depths, eight, accepted-depths, run-balanced, run-wet, run-rest}
 use Rattle.face.specs.Given.{speedGiven, waveGiven, cubeGiven, faceGiven}
 use Rattle.face.specs.Answers.{flux}
 use Rattle.face.specs.Answers.{number as worth}
@@ -39,9 +43,9 @@ use Rattle.stage.specs.declared.worked.Worked.{Worked}
 use Rattle.step.specs.Gives.{Gives, one-answer, one-table}
 use Rattle.step.specs.declared.Answer.{Answer}
 use Rattle.step.specs.declared.Answer.the-variants.{Refused, Accepted}
-use Rattle.promises.specs.Seen.{NoneBelow, water, Lake, Called, Calls, none, more}
+use Rattle.promises.specs.Seen.{NoneBelow, Excess, stageTable, water, Lake, Called, Calls, none, more}
 use Rattle.promises.specs.First.{FirstMet, first-verdict, verdict-first, first-listed}
-use Rattle.promises.specs.Outcomes.{allChecks, number-is, refuses-with, refused-number, refused-some, refused-table, refused-later, taken, reachAt, lent, call, one, none-below, wet, water-is, at-rest, run}
+use Rattle.promises.specs.Outcomes.{allChecks, number-is, refuses-with, refused-number, refused-some, refused-table, refused-later, taken, reachAt, lent, call, one, none-below, none-below-table, excess-table, wet, water-is, at-rest, run}
 
 -- ---- demand 1: one answer, one content of the table
 pub step-answer : (l : Lent) {a b : Answer} {old new new′ : List ℤ} → Gives (stepOf l) a old new → Gives (stepOf l) b old new′ → a ≡ b
@@ -108,8 +112,11 @@ module _ (bed : List ℤ) (n dx : ℕ) where
   pub none-below-now : (s : List ℤ) (w v : ℤ) (old m : List ℤ) → Called bed n dx s (Accepted w v) old m → NoneBelow bed s n
   none-below-now s w v old m c = let o = one bed n dx s w v old m c in none-below bed s dx n (accepted-depths (reachAt bed n dx) lawful (call c) (cellAt s) (o .unstopped) .0)
 
-  pub none-below-stage : (s : List ℤ) (w v : ℤ) (old m : List ℤ) (c : Called bed n dx s (Accepted w v) old m) → Depths (reachAt bed n dx) (stageOne (reachAt bed n dx) (call c) (cellAt s))
-  none-below-stage s w v old m c = let o = one bed n dx s w v old m c in accepted-depths (reachAt bed n dx) lawful (call c) (cellAt s) (o .unstopped) .1
+  pub none-below-stage : (s : List ℤ) (w v : ℤ) (old m : List ℤ) (c : Called bed n dx s (Accepted w v) old m) → NoneBelow bed (stageTable (lent c)) n
+  unfolding stageTable
+  none-below-stage s w v old m c = let l = lent c in
+      subst (λ (k : ℕ). NoneBelow bed (stageTable l) k) (c .cells)
+      (none-below-table bed (length (c .friction)) dx (stageOne (reachOf l) (call c) (cellAt s)) (accepted-depths (reachOf l) lawful (call c) (cellAt s) (unrefused l (taken l w v old m (c .gave) .number)) .1 .faces))
 
   pub none-below-next : {s t : List ℤ} {a b : ℤ} → Calls bed n dx s t a b → NoneBelow bed s n → NoneBelow bed t n
   none-below-next {s} {t} k d = none-below bed t dx n (depths (reachAt bed n dx) (cellAt t) (run-wet (reachAt bed n dx) lawful (run bed n dx k) (wet bed s dx n d)))
@@ -118,9 +125,15 @@ module _ (bed : List ℤ) (n dx : ℕ) where
   none-below-written s w v old m c = none-below-next (more s m m old w v (pos 0) (pos 0) c (none m)) (none-below-now s w v old m c)
 
   -- and no call is refused because one would have been: after an 8 some value is too large, and every depth at or above nought
-  pub eight-too-large : (s : List ℤ) (old new : List ℤ) (c : Called bed n dx s (Refused 8) old new) → let r = reachOf (lent c) in
-      Large r (stageOne r (call c) (cellAt s)) ⊎ Large r (next r (call c) (cellAt s))
-  eight-too-large s old new c = eight (reachOf (lent c)) lawful (call c) (cellAt s) (refused-later (lent c) 8 old new (c .gave) refl)
+  pub eight-too-large : (s : List ℤ) (old new : List ℤ) (c : Called bed n dx s (Refused 8) old new)
+      → (NoneBelow bed (stageTable (lent c)) n × Excess bed (stageTable (lent c)) n) ⊎ (NoneBelow bed (filled (lent c)) n × Excess bed (filled (lent c)) n)
+  unfolding stageTable filled
+  eight-too-large s old new c = let l = lent c in
+      subst (λ (k : ℕ). (NoneBelow bed (stageTable l) k × Excess bed (stageTable l) k) ⊎ (NoneBelow bed (filled l) k × Excess bed (filled l) k)) (c .cells)
+      (⊎-elim (λ h. inl (both (stageOne (reachOf l) (call c) (cellAt s)) h)) (λ h. inr (both (next (reachOf l) (call c) (cellAt s)) h)) (eight (reachOf l) lawful (call c) (cellAt s) (refused-later l 8 old new (c .gave) refl)))
+    where
+      both : (t : State) → Large (reachOf (lent c)) t → NoneBelow bed (flat (row (length (c .friction)) t)) (length (c .friction)) × Excess bed (flat (row (length (c .friction)) t)) (length (c .friction))
+      both t h = (none-below-table bed (length (c .friction)) dx t (h .wet), excess-table bed (length (c .friction)) dx t h)
 
   -- a lake at rest keeps every number of its table, and nothing crosses its ends
   pub lake-rests : {s t : List ℤ} {a b : ℤ} → Calls bed n dx s t a b → Lake bed s n → (t ≡ s) × (a ≡ pos 0) × (b ≡ pos 0)

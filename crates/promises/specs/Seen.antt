@@ -5,8 +5,13 @@ use mathlib.Core.Logic.{_⊎_}
 use Prim.Native.Nat.{ℕ, zero, suc, _+_, _*_, _<_}
 use lib.ListN.{length, getD}
 use lib.IntN.{ℤ, pos, _+ℤ_, _-ℤ_}
-use lib.Signed.{quotZ, _≤ℤ_}
-use Rattle.rules.specs.Lent.{stepOf}
+use lib.Signed.{quotZ, _≤ℤ_, _<ℤ_}
+use Rattle.whole.specs.Choice.{sizeZ}
+use Rattle.tables.specs.Rows.{row}
+use Rattle.tables.specs.Cells.{flat}
+use Rattle.rules.specs.Limits.{deepest, fullest}
+use Rattle.rules.specs.Step.{stageOne}
+use Rattle.rules.specs.Lent.{Lent, cellsOf, reachOf, callOf, stateOf, stepOf}
 use Rattle.step.specs.Gives.{lend, Gives}
 use Rattle.step.specs.declared.Answer.{Answer}
 use Rattle.step.specs.declared.Answer.the-variants.{Accepted}
@@ -36,6 +41,16 @@ pub record NoneBelow (bed t : List ℤ) (n : ℕ) : Type 0 where
   pub mean : (i : ℕ) → i < n → pos 0 ≤ℤ meanDepth bed t i
   pub left : (i : ℕ) → i < n → pos 0 ≤ℤ leftDepth bed t i
   pub right : (i : ℕ) → i < n → pos 0 ≤ℤ rightDepth bed t i
+
+-- some value is too large: a depth at a face is over 262,144, or a discharge there over 8,388,608 either way
+pub record Excess (bed t : List ℤ) (n : ℕ) : Type 0 where
+  pub cell : ℕ
+  pub below : cell < n
+  pub large : (deepest <ℤ leftDepth bed t cell) ⊎ ((deepest <ℤ rightDepth bed t cell) ⊎ ((fullest <ℤ sizeZ (at t (4 * cell + 2) -ℤ at t (4 * cell + 3))) ⊎ (fullest <ℤ sizeZ (at t (4 * cell + 2) +ℤ at t (4 * cell + 3)))))
+
+-- the finished stage one of a call, written as a table
+unfoldable pub stageTable : Lent → List ℤ
+stageTable l = flat (row (cellsOf l) (stageOne (reachOf l) (callOf l) (stateOf l)))
 
 -- the water: the sum of the mean depths
 unfoldable pub water : List ℤ → List ℤ → ℕ → ℤ

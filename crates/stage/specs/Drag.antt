@@ -1,21 +1,15 @@
 -- How strongly friction can act, where the speed has been checked: never below nought, and at most 10,786,209,068.
 -- Assumes nothing.
-use Prim.Native.Nat.{_/_}
 use native.Mathlib.Omega.{arith}
-use lib.IntN.{ℤ, pos, negsuc, _*ℤ_}
-use lib.Signed.{quotZ, _≤ℤ_, _<ℤ_}
+use lib.IntN.{ℤ, pos, _*ℤ_}
+use lib.Signed.{_≤ℤ_, _<ℤ_}
 use Rattle.whole.specs.Parts.{Within, b-mul, b-lit, b-up, b-nonneg, cross, le-lit, le-trans, lt-le, le-lt-trans, lt-le-trans, lt-suc, nat-nonneg}
 use Rattle.whole.specs.Difference.{lit, nonneg, _⊠_, le!, le?, mul-nonneg}
-use Rattle.whole.specs.Quotient.{b-quot-ge}
+use Rattle.whole.specs.Quotient.{quot-nonneg, b-quot-ge}
 use Rattle.whole.specs.Choice.{sizeZ, size-nonneg, b-size}
 use Rattle.rules.specs.Limits.{dryDepth, deepest}
 use Rattle.rules.specs.Friction.{cube, drag}
 use Rattle.rules.specs.Laws.Speeds.{cube-least}
-
-quot-least : (a b : ℤ) → pos 0 ≤ℤ a → pos 0 <ℤ b → pos 0 ≤ℤ quotZ a b
-quot-least (pos a) (pos b) p q = nat-nonneg (a / b)
-quot-least (pos a) (negsuc b) p q = absurd (q .lt)
-quot-least (negsuc a) b p q = absurd (p .le)
 
 -- ---- of water that is not dry
 module _ (h : ℤ) (low : dryDepth <ℤ h) (high : h ≤ℤ deepest) where
@@ -38,10 +32,10 @@ module _ (h : ℤ) (low : dryDepth <ℤ h) (high : h ≤ℤ deepest) where
   pub drag-least : (dt f u : ℤ) → pos 0 ≤ℤ dt → pos 0 ≤ℤ f → pos 0 ≤ℤ drag dt f h u
   unfolding drag
   drag-least dt f u p q =
-      quot-least (pos 256 *ℤ pos 981 *ℤ dt *ℤ (f *ℤ f) *ℤ sizeZ u) (pos 390625 *ℤ h *ℤ cube h)
+      quot-nonneg (pos 256 *ℤ pos 981 *ℤ dt *ℤ (f *ℤ f) *ℤ sizeZ u) (pos 390625 *ℤ h *ℤ cube h)
       (mul-nonneg (pos 256 *ℤ pos 981 *ℤ dt *ℤ (f *ℤ f)) (sizeZ u)
       (mul-nonneg (pos 256 *ℤ pos 981 *ℤ dt) (f *ℤ f) (mul-nonneg (pos 256 *ℤ pos 981) dt (nat-nonneg 251136) p) (mul-nonneg f f q q)) (size-nonneg u))
-      divisor-pos
+      (lt-le divisor-pos)
 
   pub drag-most : (dt f u : ℤ) → Within 4096 dt → Within 200 f → Within 131072 u → Within 10786209068 (drag dt f h u)
   unfolding drag

@@ -75,7 +75,7 @@ unfolding early stageChecks
 early-of r c s k = record { fine = fine r c (k .0); even = even-bed r (k .1 .0); wet = in-range r s (k .1 .1 .1 .0); brief = brief r c (rubbed r c s) (k .1 .1 .1 .1 .1 .1 .1 .0) }
 
 -- ---- an 8 is due to a value too large, never to a depth below nought
-pub TooLarge : Bed → Cell → Type 0
+abbrev pub TooLarge : Bed → Cell → Type 0
 TooLarge b x = (deepest <ℤ hl b x) ⊎ ((deepest <ℤ hr b x) ⊎ ((fullest <ℤ sizeZ (ql x)) ⊎ (fullest <ℤ sizeZ (qr x))))
 
 -- every depth is at or above nought, and some value is too large
@@ -86,7 +86,7 @@ pub record Large (r : Reach) (s : State) : Type 0 where
   pub large : TooLarge (under r place) (s place)
 
 large-of : (r : Reach) (s : State) → Wet r s → some (off r s) (r .n) ≡ true → Large r s
-unfolding off offCell TooLarge
+unfolding off offCell
 large-of r s w e = let f = some-yes (off r s) (r .n) e in let i = f .0 in let b = under r i in let x = s i in
     record {
       wet = w;
