@@ -1,4 +1,4 @@
-# Shared by examples/run and tests/c/run: builds a C program against the library, and runs it.
+# Read by every script that builds a C program against the library and runs it.
 # The library is x86-64 code. On another machine Debian's cross compiler links it and qemu runs it.
 root=$(cd "$(dirname "${BASH_SOURCE[0]}")/.." && pwd)
 
@@ -17,23 +17,24 @@ need() {
         { echo "install ${*:2} first" >&2; exit 2; }
 }
 
-# Builds target/staticlib/libeditor.a; what rt says is shown only where it fails.
+# Builds target/libbassoonsun.a; what rt says is shown only where it fails.
 build_library() {
     command -v rt >/dev/null 2>&1 || { echo "the Rattle toolchain's command rt is not on PATH" >&2; exit 2; }
     mkdir -p "$root/target"
     (cd "$root" && rt staticlib editor) >"$root/target/staticlib.log" 2>&1 ||
         { cat "$root/target/staticlib.log" >&2; echo "rt staticlib editor failed" >&2; exit 2; }
+    cp "$root/target/staticlib/libeditor.a" "$root/target/libbassoonsun.a" || exit 2
 }
 
-# Compiles the C file $1 and links it with the library, as $2.
+# Compiles the C file $1 and links it with the library, as $2; more arguments go to the compiler.
 build_program() {
     if [ "${#emulator[@]}" -eq 0 ]; then
         need "$compiler" gcc libc6-dev
     else
         need "$compiler" gcc-x86-64-linux-gnu libc6-dev-amd64-cross
     fi
-    "$compiler" -std=c11 -O1 -Wall -Wextra -Werror -I "$root/include" \
-        "$1" "$root/target/staticlib/libeditor.a" -o "$2" || exit 2
+    "$compiler" -std=c11 -O2 -Wall -Wextra -Werror -I "$root/include" "${@:3}" \
+        "$1" "$root/target/libbassoonsun.a" -o "$2" -lm || exit 2
 }
 
 # Runs the program $1 with the arguments after it.

@@ -2,7 +2,7 @@
 // slow, fast, at the limits and beyond them. A line gives how many faces of a block had a flux, were
 // dry and were refused, and the running sum of the answers. What it must write comes from
 // tests/reference/double_faces.py.
-use face::double::DoubleAnswer;
+use double::face::DoubleAnswer;
 use libc::STDOUT_FILENO;
 use std::num::wrapping_add_u64;
 
@@ -70,7 +70,7 @@ fn speed(x: u64) -> f64 {
 
 // The tally with one more face.
 fn told(t: Tally, hl: f64, ul: f64, hr: f64, ur: f64) -> Tally {
-    let answer = face::double::face(hl, ul, hr, ur);
+    let answer = double::face::face(hl, ul, hr, ur);
     match answer {
         DoubleAnswer::Flux(mass, pressure, advection, top) => Tally {
             fluxes: wrapping_add_u64(t.fluxes, 1),

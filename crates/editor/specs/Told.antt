@@ -12,14 +12,14 @@ use Rattle.face.specs.Given.{Perhaps}
 use Rattle.face.specs.Given as given
 use Rattle.face.specs.Answers.{flux}
 use Rattle.face.specs.declared.answer.Carried.the-variants as carried
-use Rattle.face.specs.Root.{RootIs}
-use Rattle.face.specs.Double.{FaceIs}
-use Rattle.face.specs.declared.root.RootAnswer.{RootAnswer}
-use Rattle.face.specs.declared.root.RootAnswer.the-variants as root
-use Rattle.face.specs.declared.double.DoubleAnswer.{DoubleAnswer}
-use Rattle.face.specs.declared.double.DoubleAnswer.the-variants as double
-use Rattle.face.proofs.root.Unique.{root-unique}
-use Rattle.face.proofs.double.Unique as doubles
+use Rattle.double.specs.Root.{RootIs}
+use Rattle.double.specs.Face.{FaceIs}
+use Rattle.double.specs.declared.root.RootAnswer.{RootAnswer}
+use Rattle.double.specs.declared.root.RootAnswer.the-variants as root
+use Rattle.double.specs.declared.face.DoubleAnswer.{DoubleAnswer}
+use Rattle.double.specs.declared.face.DoubleAnswer.the-variants as double
+use Rattle.double.proofs.root.Unique.{root-unique}
+use Rattle.double.proofs.face.Unique as doubles
 use Rattle.step.specs.Gives.{answer, leaves, code}
 use Rattle.step.specs.declared.Answer.{Answer}
 use Rattle.step.specs.declared.Answer.the-variants.{Refused, Accepted}

@@ -1,8 +1,8 @@
 // The library for callers in C: numbers, tables as pointer and length, and a number for an answer.
 // include/bassoonsun.h declares these functions.
+use double::face::DoubleAnswer;
+use double::root::RootAnswer;
 use face::answer::Carried;
-use face::double::DoubleAnswer;
-use face::root::RootAnswer;
 use step::Answer;
 ghost use lib.ListN.{length};
 ghost use Rattle.rules.specs.Lent.{stepOf};
@@ -68,7 +68,7 @@ pub extern "C" fn bassoonsun_face_double(
 ) -> u32
     ensures { λ r. ⌜ DoubleTold hl ul hr ur r (now (flux .entry)) (now (flux .exit)) ⌝ }
 {
-    let c = face::double::face(hl, ul, hr, ur);
+    let c = double::face::face(hl, ul, hr, ur);
     match c {
         DoubleAnswer::Flux(m, p, a, s) => {
             flux[0] = m;
@@ -87,7 +87,7 @@ pub extern "C" fn bassoonsun_face_double(
 pub extern "C" fn bassoonsun_root(x: f64, root: &mut [f64; 1]) -> u32
     ensures { λ r. ⌜ RootTold x r (now (root .entry)) (now (root .exit)) ⌝ }
 {
-    let c = face::root::root(x);
+    let c = double::root::root(x);
     match c {
         RootAnswer::Root(y) => {
             root[0] = y;

@@ -2,8 +2,3 @@
 pub mod Given
 pub mod Answers
 pub mod Sides
-pub mod Root
-pub mod DoubleConstants
-pub mod Double
-pub mod RootParts
-pub mod DoubleParts

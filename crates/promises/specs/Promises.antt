@@ -28,15 +28,15 @@ use Rattle.rules.specs.Laws.Runs.{stop, step, Large, depths, eight, accepted-de
 use Rattle.face.specs.Given.{speedGiven, waveGiven, cubeGiven, faceGiven}
 use Rattle.face.specs.Answers.{flux}
 use Rattle.face.specs.Answers.{number as worth}
-use Rattle.face.specs.Root.{RootIs}
-use Rattle.face.specs.Double.{FaceIs}
+use Rattle.double.specs.Root.{RootIs}
+use Rattle.double.specs.Face.{FaceIs}
 use Rattle.face.specs.declared.answer.Whole.{Whole}
 use Rattle.face.specs.declared.answer.Carried.{Carried}
-use Rattle.face.specs.declared.root.RootAnswer.{RootAnswer}
-use Rattle.face.specs.declared.double.DoubleAnswer.{DoubleAnswer}
+use Rattle.double.specs.declared.root.RootAnswer.{RootAnswer}
+use Rattle.double.specs.declared.face.DoubleAnswer.{DoubleAnswer}
 use Rattle.face.proofs.Unique.{speed-unique, wave-unique, cube-unique, face-unique}
-use Rattle.face.proofs.root.Unique.{root-unique}
-use Rattle.face.proofs.double.Unique as doubles
+use Rattle.double.proofs.root.Unique.{root-unique}
+use Rattle.double.proofs.face.Unique as doubles
 use Rattle.stage.specs.Worked.{WorkedSays}
 use Rattle.stage.specs.Unique.{one-said}
 use Rattle.stage.specs.declared.worked.Worked.{Worked}

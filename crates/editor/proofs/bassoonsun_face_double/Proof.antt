@@ -1,7 +1,7 @@
 -- The double face's answer, as a number and what is written.
 use denote.Ref.{now}
 use mathlib.Core.Path.{sym, ap}
-use Rattle.face.specs.declared.double.DoubleAnswer.{DoubleAnswer}
+use Rattle.double.specs.declared.face.DoubleAnswer.{DoubleAnswer}
 use Rattle.editor.specs.Told.{doubleCode, doubleInto}
 use borrow.Author.Needs.{needs}
 use Rattle.editor.proofs.bassoonsun_face_double.Statement.{statement}
