@@ -19,8 +19,9 @@ use Rattle.rules.specs.Stage.{outer, leftEnd, rightEnd, atLeft, atRight, faceRi
 use Rattle.rules.specs.Refusals.{fastSide, fastFace, chk, verdict}
 use Rattle.rules.specs.Laws.Agree.{inside}
 use Rattle.rules.specs.Laws.Positive.{inner}
-use Rattle.stage.specs.Held.{bedAt}
-use Rattle.stage.specs.Narrow.{reachBy, callBy}
+use Rattle.finishing.specs.Held.{bedAt}
+use Rattle.finishing.specs.Narrow.{reachBy}
+use Rattle.stage.specs.Narrow.{callBy}
 use Rattle.stage.specs.Rows.{leftIn, rightIn, sidesAt, fastSides, faceRow, crossAt, pushBy, tiltBy, updateBy}
 
 -- ---- a side that is too fast is so at its face: by cells and by faces it is one check

@@ -17,8 +17,10 @@ use Rattle.rules.specs.Finishing.{cut, dried, finish}
 use Rattle.rules.specs.Step.{half, joinedCell}
 use Rattle.rules.specs.Refusals.{offCell, off, fastFace, fastGauss, tooLong, chk, verdict, stageChecks}
 use Rattle.rules.specs.Laws.Agree.{Same, finish-same}
-use Rattle.stage.specs.Held.{bedAt, Wide, Small, Smalls, Grounds, Ranged, Unfinished}
-use Rattle.stage.specs.Narrow.{reachBy, callBy, limitIn, jumpBy, cellsBy, face-call, stage-call, checks-call, finish-call}
+use Rattle.finishing.specs.Held.{bedAt, Wide, Grounds, Unfinished}
+use Rattle.stage.specs.Held.{Small, Smalls, Ranged}
+use Rattle.finishing.specs.Narrow.{reachBy, limitIn, jumpBy, cellsBy, finish-call}
+use Rattle.stage.specs.Narrow.{callBy, face-call, stage-call, checks-call}
 use Rattle.stage.specs.Rows.{faceRow}
 use Rattle.stage.specs.Kept.{FaceRows}
 use Rattle.stage.specs.Small.{small-wide, joined-small, finish-wide}

@@ -19,7 +19,8 @@ use Rattle.rules.specs.Refusals.{outside, badCall, badBed, badRough, offCell, o
 use Rattle.rules.specs.Laws.Accept.{any-none}
 use Rattle.rules.specs.Laws.Lengths.{wrong-room, first-number, later-number}
 use Rattle.rules.specs.Lent.{Lent, reachOf, callOf, stateOf, misfit, misfits, number}
-use Rattle.stage.specs.Held.{bedAt, Ranged, Slows}
+use Rattle.finishing.specs.Held.{bedAt}
+use Rattle.stage.specs.Held.{Ranged, Slows}
 use Rattle.stage.specs.Narrow.{badNumbers}
 use Rattle.stage.specs.Says.{Numbers, readyChecks}
 use Rattle.stage.specs.Readied.{grounds, ranged, slows}

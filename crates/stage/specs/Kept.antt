@@ -14,7 +14,7 @@ use Rattle.whole.specs.Parts.{Within, b-add, b-sub, b-lit, b-up, b-range, range
 use Rattle.whole.specs.Difference.{at, lit, _⊞_, _⊟_, ⊖, le!, eq!, le?}
 use Rattle.whole.specs.Quotient.{b-quot-by, abs-quot}
 use Rattle.whole.specs.Tests.{lt-no}
-use Rattle.whole.specs.Choice.{sizeZ, size-ge, size-ge-neg}
+use Rattle.whole.specs.Choice.{within-past}
 use Rattle.tables.specs.Cells.{Cell}
 use Rattle.rules.specs.Limits.{deepest, fullest}
 use Rattle.rules.specs.Reach.{Bed, ql, qr, z0, z1, h0, h1, hl, hr}
@@ -22,7 +22,8 @@ use Rattle.rules.specs.Stage.{share, depthBefore, depthBehind, flowBefore, flow
 use Rattle.rules.specs.Step.{half}
 use Rattle.rules.specs.Refusals.{outside, past, offCell}
 use Rattle.rules.specs.Laws.Accept.{any-none}
-use Rattle.stage.specs.Held.{Ground, Wide, Inside}
+use Rattle.finishing.specs.Held.{Ground, Wide}
+use Rattle.stage.specs.Held.{Inside}
 
 -- ---- the lines of an update
 unfoldable pub slopeOf : ℤ → ℤ → ℤ → ℤ
@@ -97,11 +98,6 @@ share-size {A} x w = record { abs = small (natAbs x) (natAbs (quotZ (pos 37837 *
     small m q e l = omega arith
 
 -- ---- from the two limits of each face
-pub within-past : (m : ℕ) (x : ℤ) → past (pos m) x ≡ false → Within m x
-within-past m x e =
-    let s : sizeZ x ≤ℤ pos m = lt-no (pos m) (sizeZ x) e in
-    b-range (le! (⊖ (lit m)) (at x) (omega (arith, le? (⊖ (at x)) (lit m) (le-trans (size-ge-neg x) s)))) (le-trans (size-ge x) s)
-
 inner-of : (h : ℤ) → outside (pos 0) deepest h ≡ false → (pos 0 ≤ℤ h) × (h ≤ℤ deepest)
 inner-of h e = (lt-no h (pos 0) (or-l (ltZ h (pos 0)) (ltZ deepest h) e), lt-no deepest h (or-r (ltZ h (pos 0)) (ltZ deepest h) e))
 

@@ -11,9 +11,6 @@ pub mod Four
 pub mod Told
 pub mod Lines
 pub mod Crossings
-pub mod Past
-pub mod Finished
-pub mod Scan
 pub mod Agreed
 pub mod Small
 pub mod Rubbed

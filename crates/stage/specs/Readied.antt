@@ -16,7 +16,8 @@ use Rattle.tables.specs.Some.{some, some-none}
 use Rattle.rules.specs.Limits.{highestBed, dryDepth}
 use Rattle.rules.specs.Reach.{State}
 use Rattle.rules.specs.Refusals.{outside, badBed, badRough, offCell, fastCell, chk, verdict}
-use Rattle.stage.specs.Held.{bedAt, Grounds, Ranged, Slows}
+use Rattle.finishing.specs.Held.{bedAt, Grounds}
+use Rattle.stage.specs.Held.{Ranged, Slows}
 
 -- ---- in their order
 module _ (a b c d : Bool) where

@@ -13,7 +13,7 @@ use Rattle.rules.specs.Reach.{State, Bed, short, z1, h0, h1, depthL, depthR, gr
 use Rattle.rules.specs.Stage.{outer, volume, carried, flowBefore, flowBehind, depthBefore, depthBehind, gauss}
 use Rattle.rules.specs.Refusals.{fastSide}
 use Rattle.rules.specs.Laws.Sizes.{Sound}
-use Rattle.stage.specs.Held.{bedAt}
+use Rattle.finishing.specs.Held.{bedAt}
 
 -- ---- sides: depth and speed at the left face, depth and speed at the right
 abbrev pub sideRow : Side → Side → List ℤ

@@ -15,8 +15,9 @@ use Rattle.rules.specs.Stage.{faceAt, volume, stage}
 use Rattle.rules.specs.Finishing.{finish}
 use Rattle.rules.specs.Step.{half, joinedCell}
 use Rattle.rules.specs.Refusals.{badBed, badRough, offCell, off, fastCell, Check, chk, verdict, stageChecks}
-use Rattle.stage.specs.Held.{bedAt, Smalls}
-use Rattle.stage.specs.Narrow.{reachBy, callWith}
+use Rattle.finishing.specs.Held.{bedAt}
+use Rattle.stage.specs.Held.{Smalls}
+use Rattle.finishing.specs.Narrow.{reachBy, callWith}
 use Rattle.stage.specs.Rows.{faceRow}
 use Rattle.stage.specs.Kept.{FaceRows}
 

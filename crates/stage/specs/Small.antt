@@ -22,10 +22,12 @@ use Rattle.rules.specs.Step.{half, joinedCell}
 use Rattle.rules.specs.Refusals.{past, fastSide, fastPoints}
 use Rattle.rules.specs.Laws.Positive.{depthL-is, depthR-is}
 use Rattle.rules.specs.Laws.Sizes.{Sound}
-use Rattle.stage.specs.Held.{bedAt, Ground, Wide, Small, Inside, Ranged}
+use Rattle.finishing.specs.Held.{bedAt, Ground, Wide}
+use Rattle.stage.specs.Held.{Small, Inside, Ranged}
 use Rattle.stage.specs.Rows.{sidesAt, fastSides, Sounds}
-use Rattle.stage.specs.Kept.{Row, kept, within-past}
-use Rattle.stage.specs.Finished.{limited-size, clip-size}
+use Rattle.whole.specs.Choice.{within-past}
+use Rattle.stage.specs.Kept.{Row, kept}
+use Rattle.finishing.specs.Finished.{limited-size, clip-size}
 use Rattle.stage.specs.Agreed.{left-in, right-in}
 
 -- ---- sides that passed check 6

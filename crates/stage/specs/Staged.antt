@@ -15,8 +15,10 @@ use Rattle.rules.specs.Limits.{dryDepth}
 use Rattle.rules.specs.Reach.{State}
 use Rattle.rules.specs.Stage.{faceRight, faceAt, gauss, stage}
 use Rattle.rules.specs.Refusals.{fastFace, fastPoints, fastGauss, tooLong, verdict, stageChecks}
-use Rattle.stage.specs.Held.{bedAt, Small, Smalls, Ranged}
-use Rattle.stage.specs.Narrow.{reachBy, callBy}
+use Rattle.finishing.specs.Held.{bedAt}
+use Rattle.stage.specs.Held.{Small, Smalls, Ranged}
+use Rattle.finishing.specs.Narrow.{reachBy}
+use Rattle.stage.specs.Narrow.{callBy}
 use Rattle.stage.specs.Rows.{sidesAt, fastSides, faceRow, longFlux, crossAt, updateBy}
 use Rattle.stage.specs.Kept.{FaceRows, Momenta}
 use Rattle.stage.specs.Lines.{update-small}

@@ -15,7 +15,8 @@ use Rattle.rules.specs.Finishing.{finish}
 use Rattle.rules.specs.Step.{rubbed, stageOne, half, carry, joinedCell, joined, next}
 use Rattle.rules.specs.Refusals.{off, fastFace, fastGauss, tooLong, badCall, badBed, badRough, fastFriction, Check, chk, verdict, stageChecks, early, checks, refusal}
 use Rattle.rules.specs.Laws.Agree.{Same, faceAt-same, stage-same, finish-same, off-same, stageChecks-same}
-use Rattle.stage.specs.Narrow.{reachBy, callWith, face-call, stage-call, checks-call, finish-call}
+use Rattle.finishing.specs.Narrow.{reachBy, callWith, finish-call}
+use Rattle.stage.specs.Narrow.{face-call, stage-call, checks-call}
 use Rattle.stage.specs.Says.{endChecks, stageCall, ending, RowsOf}
 
 -- the checks from stage one on

@@ -13,7 +13,7 @@ use Rattle.rules.specs.Reach.{Reach, Call, State}
 use Rattle.rules.specs.Step.{carry, next}
 use Rattle.rules.specs.Refusals.{verdict}
 use Rattle.rules.specs.Lent.{Lent, reachOf, callOf, stateOf, number}
-use Rattle.stage.specs.Narrow.{reachBy, callWith}
+use Rattle.finishing.specs.Narrow.{reachBy, callWith}
 use Rattle.stage.specs.Whole.{bothChecks}
 use Rattle.stage.specs.declared.worked.Worked.{Worked}
 use Rattle.stage.specs.declared.worked.Worked.the-variants.{Refused, Done}

@@ -9,7 +9,7 @@ ghost use Rattle.tables.specs.Cells.{asCell};
 ghost use Rattle.rules.specs.Limits.{deepest, fullest, fastest};
 ghost use Rattle.rules.specs.Reach.{h0, h1};
 ghost use Rattle.rules.specs.Refusals.{outside, past, offCell};
-ghost use Rattle.stage.specs.Held.{asBed, Ground, Wide};
+ghost use Rattle.finishing.specs.Held.{asBed, Ground, Wide};
 
 pub const DEEPEST: i64 = 262144;
 

@@ -20,7 +20,8 @@ ghost use Rattle.rules.specs.Face.{speed};
 ghost use Rattle.rules.specs.Friction.{cube, drag, slowed};
 ghost use Rattle.rules.specs.Step.{rubbedCell};
 ghost use Rattle.rules.specs.Refusals.{past, fastCell};
-ghost use Rattle.stage.specs.Held.{asBed, bedAt, Inside, Ranged, Slows};
+ghost use Rattle.finishing.specs.Held.{asBed, bedAt};
+ghost use Rattle.stage.specs.Held.{Inside, Ranged, Slows};
 
 // c, the cube-root number of a depth.
 fn cube_of(h: i64) -> i64

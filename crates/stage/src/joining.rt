@@ -7,7 +7,7 @@ ghost use lib.IntN.{pos, _+ℤ_, _-ℤ_};
 ghost use Rattle.whole.specs.Parts.{Within};
 ghost use Rattle.tables.specs.Cells.{asCell, asList, seen, Holds};
 ghost use Rattle.rules.specs.Step.{half, joinedCell};
-ghost use Rattle.stage.specs.Held.{Wide, Wides};
+ghost use Rattle.finishing.specs.Held.{Wide, Wides};
 ghost use Rattle.stage.specs.Kept.{Row, FaceRows};
 
 fn half_of(a: i64, b: i64) -> i64

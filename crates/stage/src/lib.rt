@@ -4,7 +4,7 @@
 mod cell;
 mod checks;
 mod faces;
-mod finishing;
+mod finish;
 mod friction;
 mod joining;
 mod points;

@@ -16,7 +16,8 @@ ghost use Rattle.tables.specs.Cells.{asCell, seen};
 ghost use Rattle.rules.specs.Limits.{dryDepth};
 ghost use Rattle.rules.specs.Stage.{share, gauss};
 ghost use Rattle.rules.specs.Refusals.{fastPoints};
-ghost use Rattle.stage.specs.Held.{asBed, bedAt, Inside, Ranged};
+ghost use Rattle.finishing.specs.Held.{asBed, bedAt};
+ghost use Rattle.stage.specs.Held.{Inside, Ranged};
 ghost use Rattle.stage.specs.Around.{Around};
 ghost use Rattle.stage.specs.Rows.{pointsBy, pointRow};
 

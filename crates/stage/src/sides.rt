@@ -19,7 +19,8 @@ ghost use Rattle.rules.specs.Limits.{dryDepth, deepest, fastest};
 ghost use Rattle.rules.specs.Face.{speed};
 ghost use Rattle.rules.specs.Reach.{short, sideL, sideR};
 ghost use Rattle.rules.specs.Refusals.{past};
-ghost use Rattle.stage.specs.Held.{asBed, Inside, Ranged};
+ghost use Rattle.finishing.specs.Held.{asBed};
+ghost use Rattle.stage.specs.Held.{Inside, Ranged};
 ghost use Rattle.stage.specs.Around.{Around};
 ghost use Rattle.stage.specs.Rows.{sideBy, sideRow, sidesAt, fastSides};
 

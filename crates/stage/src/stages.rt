@@ -12,7 +12,8 @@ ghost use Rattle.whole.specs.Parts.{Within};
 ghost use Rattle.tables.specs.Cells.{seen};
 ghost use Rattle.stage.specs.Held.{Ranged};
 ghost use Rattle.stage.specs.Says.{StageSays};
-ghost use Rattle.stage.specs.Narrow.{reachBy, callBy};
+ghost use Rattle.finishing.specs.Narrow.{reachBy};
+ghost use Rattle.stage.specs.Narrow.{callBy};
 
 // A stage from the state t: 6 or 7 where it may not go on, else 0, with the rows of its faces in f
 // and the unfinished state in u.

@@ -4,7 +4,7 @@ ghost use Prim.Native.Nat.{_+_, _*_, _<_};
 ghost use lib.ListN.{getD, length};
 ghost use lib.IntN.{pos};
 ghost use Rattle.tables.specs.Cells.{asList, cellAt};
-ghost use Rattle.stage.specs.Held.{bedList, bedAt};
+ghost use Rattle.finishing.specs.Held.{bedList, bedAt};
 
 fn number(s: &[i32], j: usize) -> i64
     requires { ⌜ j < length (now s) ⌝ }

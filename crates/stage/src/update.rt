@@ -10,7 +10,8 @@ ghost use lib.IntN.{pos, _+ℤ_, _-ℤ_, _*ℤ_};
 ghost use lib.Signed.{quotZ, _<ℤ_};
 ghost use Rattle.whole.specs.Parts.{Within};
 ghost use Rattle.tables.specs.Cells.{asCell, asList, seen, Holds};
-ghost use Rattle.stage.specs.Held.{asBed, bedAt, Inside, Ranged};
+ghost use Rattle.finishing.specs.Held.{asBed, bedAt};
+ghost use Rattle.stage.specs.Held.{Inside, Ranged};
 ghost use Rattle.stage.specs.Kept.{Row, FaceRows, Momenta, slopeOf, thrust};
 ghost use Rattle.stage.specs.Rows.{pushBy, tiltBy, updateBy};
 

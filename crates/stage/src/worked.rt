@@ -6,7 +6,7 @@ use crate::checks::bad_numbers;
 use crate::checks::fast_lent;
 use crate::checks::off;
 use crate::checks::off_lent;
-use crate::finishing::finish;
+use crate::finish::finish;
 use crate::friction::rub;
 use crate::joining::end_volume;
 use crate::joining::join;

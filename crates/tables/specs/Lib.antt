@@ -1,4 +1,5 @@
 -- Lists as tables: some entry with a property, rows made from an index, four numbers to a cell and back, what a loop has written so far.
 pub mod Some
+pub mod Scan
 pub mod Rows
 pub mod Cells

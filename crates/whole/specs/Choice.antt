@@ -8,9 +8,9 @@ use native.Mathlib.Omega.{arith}
 use lib.IntN.{ℤ, pos, negsuc, negℤ, natAbs}
 use lib.Signed.{leZ, ltZ, _≤ℤ_, _<ℤ_}
 use Rattle.whole.specs.Flags.{cond-ind, cond-same}
-use Rattle.whole.specs.Parts.{Within, abs-parts, abs-neg, one-part, le-of, of-le, eq-of, lt-le, le-refl, le-trans, lt-le-trans}
+use Rattle.whole.specs.Parts.{Within, abs-parts, abs-neg, one-part, le-of, of-le, eq-of, lt-le, le-refl, le-trans, lt-le-trans, b-range}
 use Rattle.whole.specs.Difference.{at, lit, nlit, ⊖, le!, lt!, eq!, le?, lt?}
-use Rattle.whole.specs.Tests.{le-yes, le-no, yes-lt, no-lt}
+use Rattle.whole.specs.Tests.{le-yes, le-no, lt-no, yes-lt, no-lt}
 
 unfoldable pub minZ : ℤ → ℤ → ℤ
 minZ a b = cond (leZ a b) a b
@@ -132,7 +132,12 @@ unfolding sizeZ
 beyond-high m (pos n) h = refl
 beyond-high m (negsuc n) h = sym (no-lt (pos m) (pos (suc n)) (le-of (pos (suc n)) (pos m) (omega (arith, le? (⊖ (lit m)) (nlit n) h))))
 
--- a number within m is not beyond it
+-- a number within m is not beyond it, and the other way
 pub not-beyond : (m : ℕ) (x : ℤ) → Within m x → ltZ (pos m) (sizeZ x) ≡ false
 unfolding sizeZ
 not-beyond m x w = no-lt (pos m) (pos (natAbs x)) (le-of (pos (natAbs x)) (pos m) (omega (arith, w .abs)))
+
+pub within-past : (m : ℕ) (x : ℤ) → ltZ (pos m) (sizeZ x) ≡ false → Within m x
+within-past m x e =
+    let s : sizeZ x ≤ℤ pos m = lt-no (pos m) (sizeZ x) e in
+    b-range (le! (⊖ (lit m)) (at x) (omega (arith, le? (⊖ (at x)) (lit m) (le-trans (size-ge-neg x) s)))) (le-trans (size-ge x) s)

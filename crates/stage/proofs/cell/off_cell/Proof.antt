@@ -13,7 +13,7 @@ use Rattle.tables.specs.Cells.{asCell}
 use Rattle.rules.specs.Limits.{deepest, fullest}
 use Rattle.rules.specs.Reach.{h0, h1, hl, hr, ql, qr}
 use Rattle.rules.specs.Refusals.{any, outside, past, offCell}
-use Rattle.stage.specs.Held.{asBed}
+use Rattle.finishing.specs.Held.{asBed}
 use Rattle.stage.specs.Kept.{h0-size, h1-size}
 use borrow.Author.Needs.{needs}
 use Rattle.stage.proofs.cell.off_cell.Statement.{statement}

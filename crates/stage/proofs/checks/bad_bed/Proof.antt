@@ -9,7 +9,7 @@ use lib.ListN.{getD, length}
 use lib.IntN.{ℤ, pos}
 use Rattle.whole.specs.Machine.{back64}
 use Rattle.rules.specs.Refusals.{badBed}
-use Rattle.stage.specs.Scan.{Clear, clear-none, clear-more, found, clear-all}
+use Rattle.tables.specs.Scan.{Clear, clear-none, clear-more, found, clear-all}
 use Rattle.stage.proofs.checks.bad_bed.Statement.{statement}
 use Rattle.stage.proofs.checks.bad_bed.Tie as tie
 

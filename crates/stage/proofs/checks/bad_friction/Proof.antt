@@ -9,7 +9,7 @@ use denote.Ref.{now}
 use lib.ListN.{getD, length}
 use lib.IntN.{pos}
 use Rattle.rules.specs.Refusals.{badRough}
-use Rattle.stage.specs.Scan.{Clear, clear-none, clear-more, found, clear-all}
+use Rattle.tables.specs.Scan.{Clear, clear-none, clear-more, found, clear-all}
 use Rattle.stage.proofs.checks.bad_friction.Statement.{statement}
 use Rattle.stage.proofs.checks.bad_friction.Tie as tie
 

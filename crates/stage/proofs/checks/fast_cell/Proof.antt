@@ -9,7 +9,7 @@ use Rattle.rules.specs.Limits.{dryDepth, fastest}
 use Rattle.rules.specs.Face.{speed}
 use Rattle.rules.specs.Reach.{Bed, h0}
 use Rattle.rules.specs.Refusals.{past, fastCell}
-use Rattle.stage.specs.Held.{asBed}
+use Rattle.finishing.specs.Held.{asBed}
 use Rattle.stage.specs.Kept.{Kept, kept}
 use Rattle.stage.proofs.checks.fast_cell.Statement.{statement}
 use Rattle.stage.proofs.checks.fast_cell.Tie as tie

@@ -9,8 +9,9 @@ use lib.IntN.{ℤ}
 use Rattle.tables.specs.Cells.{asCell, cellAt}
 use Rattle.rules.specs.Limits.{dryDepth}
 use Rattle.rules.specs.Refusals.{fastCell}
-use Rattle.stage.specs.Held.{asBed, bedAt, Inside}
-use Rattle.stage.specs.Scan.{Clear, clear-none, clear-more, found, clear-all}
+use Rattle.finishing.specs.Held.{asBed, bedAt}
+use Rattle.stage.specs.Held.{Inside}
+use Rattle.tables.specs.Scan.{Clear, clear-none, clear-more, found, clear-all}
 use Rattle.stage.proofs.checks.fast_lent.Statement.{statement}
 use Rattle.stage.proofs.checks.fast_lent.Tie as tie
 

@@ -9,8 +9,8 @@ use lib.ListN.{getD}
 use lib.IntN.{ℤ}
 use Rattle.tables.specs.Cells.{asCell, seen}
 use Rattle.rules.specs.Refusals.{offCell}
-use Rattle.stage.specs.Held.{asBed, bedAt, Ground, Rough}
-use Rattle.stage.specs.Scan.{Clear, clear-none, clear-more, found, clear-all}
+use Rattle.finishing.specs.Held.{asBed, bedAt, Ground, Rough}
+use Rattle.tables.specs.Scan.{Clear, clear-none, clear-more, found, clear-all}
 use Rattle.stage.proofs.checks.off.Statement.{statement}
 use Rattle.stage.proofs.checks.off.Tie as tie
 

@@ -10,7 +10,7 @@ use lib.Signed.{mag, natAbs-le}
 use Rattle.whole.specs.Parts.{Within, b-up}
 use Rattle.whole.specs.Machine.{widens, widened}
 use Rattle.rules.specs.Refusals.{offCell}
-use Rattle.stage.specs.Held.{asBed, Ground}
+use Rattle.finishing.specs.Held.{asBed, Ground}
 use Rattle.stage.proofs.checks.off_at.Statement.{statement}
 use Rattle.stage.proofs.checks.off_at.Tie as tie
 

@@ -8,8 +8,8 @@ use denote.Ref.{now}
 use lib.IntN.{ℤ}
 use Rattle.tables.specs.Cells.{cellAt}
 use Rattle.rules.specs.Refusals.{offCell}
-use Rattle.stage.specs.Held.{bedAt}
-use Rattle.stage.specs.Scan.{Clear, clear-none, clear-more, found, clear-all}
+use Rattle.finishing.specs.Held.{bedAt}
+use Rattle.tables.specs.Scan.{Clear, clear-none, clear-more, found, clear-all}
 use Rattle.stage.proofs.checks.off_lent.Statement.{statement}
 use Rattle.stage.proofs.checks.off_lent.Tie as tie
 

@@ -15,7 +15,7 @@ use Rattle.tables.specs.Rows.{written-none, written-more}
 use Rattle.tables.specs.Cells.{Cell, asList, cellAt, Holds}
 use Rattle.rules.specs.Limits.{dryDepth}
 use Rattle.rules.specs.Step.{rubbedCell}
-use Rattle.stage.specs.Held.{bedAt}
+use Rattle.finishing.specs.Held.{bedAt}
 use borrow.Author.Needs.{needs}
 use Rattle.stage.proofs.friction.rub.Statement.{statement}
 use Rattle.stage.proofs.friction.rub.Tie as tie

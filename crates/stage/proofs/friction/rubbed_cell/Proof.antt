@@ -16,9 +16,10 @@ use Rattle.rules.specs.Friction.{drag, slowed}
 use Rattle.rules.specs.Reach.{Bed, h0}
 use Rattle.rules.specs.Step.{rub, rubbedCell}
 use Rattle.rules.specs.Refusals.{fastCell}
-use Rattle.stage.specs.Held.{asBed}
+use Rattle.finishing.specs.Held.{asBed}
 use Rattle.stage.specs.Four.{of-four}
-use Rattle.stage.specs.Kept.{kept, within-past}
+use Rattle.whole.specs.Choice.{within-past}
+use Rattle.stage.specs.Kept.{kept}
 use Rattle.stage.specs.Drag.{drag-least, drag-most}
 use Rattle.stage.proofs.friction.rubbed_cell.Statement.{statement}
 use Rattle.stage.proofs.friction.rubbed_cell.Tie as tie

@@ -5,7 +5,7 @@ use Rattle.whole.specs.Parts.{lt-le}
 use Rattle.whole.specs.Machine.{back64}
 use Rattle.rules.specs.Limits.{dryDepth}
 use Rattle.rules.specs.Face.{speed}
-use Rattle.stage.specs.Kept.{within-past}
+use Rattle.whole.specs.Choice.{within-past}
 use Rattle.stage.specs.Drag.{wet}
 use Rattle.stage.proofs.friction.strength.Statement.{statement}
 use Rattle.stage.proofs.friction.strength.Tie as tie

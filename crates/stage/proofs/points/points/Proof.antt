@@ -12,7 +12,7 @@ use Rattle.tables.specs.Cells.{seen}
 use Rattle.rules.specs.Limits.{dryDepth}
 use Rattle.rules.specs.Stage.{gauss}
 use Rattle.rules.specs.Refusals.{fastPoints}
-use Rattle.stage.specs.Held.{bedAt}
+use Rattle.finishing.specs.Held.{bedAt}
 use Rattle.stage.specs.Rows.{pointRow}
 use Rattle.stage.specs.Filling.{Filling, fill-none, fill-more, fill-stops, fill-ends}
 use borrow.Author.Needs.{needs}

@@ -5,7 +5,7 @@ use Rattle.whole.specs.Machine.{back, back64}
 use Rattle.tables.specs.Cells.{asCell}
 use Rattle.rules.specs.Reach.{h1}
 use Rattle.rules.specs.Stage.{share, gauss}
-use Rattle.stage.specs.Held.{asBed}
+use Rattle.finishing.specs.Held.{asBed}
 use Rattle.stage.specs.Rows.{pointRow}
 use Rattle.stage.specs.Kept.{kept}
 use borrow.Author.Needs.{needs}

@@ -13,8 +13,9 @@ use Rattle.tables.specs.Cells.{asList, seen}
 use Rattle.rules.specs.Limits.{dryDepth}
 use Rattle.rules.specs.Stage.{faceAt}
 use Rattle.rules.specs.Refusals.{fastPoints}
-use Rattle.stage.specs.Held.{bedAt}
-use Rattle.stage.specs.Narrow.{reachBy, callBy}
+use Rattle.finishing.specs.Held.{bedAt}
+use Rattle.finishing.specs.Narrow.{reachBy}
+use Rattle.stage.specs.Narrow.{callBy}
 use Rattle.stage.specs.Rows.{Sounds, fastSides, faceRow, longFlux, crossAt}
 use Rattle.stage.specs.Small.{sounds}
 use Rattle.stage.specs.Staged.{says-fast, says-points, says-long, says-none, rows-are, momenta, cells-are, smalls}

@@ -8,7 +8,7 @@ use Rattle.whole.specs.Parts.{Within, b-up}
 use Rattle.whole.specs.Machine.{X, v, _⊕_, _⊝_, _⊗_, Entry, loc, got, need, value}
 use Rattle.tables.specs.Cells.{asCell}
 use Rattle.rules.specs.Reach.{h0, h1, hl, hr, short, depthL, depthR, groundL, groundR}
-use Rattle.stage.specs.Held.{asBed}
+use Rattle.finishing.specs.Held.{asBed}
 use Rattle.stage.specs.Kept.{kept}
 use Rattle.stage.specs.Rows.{pushBy}
 use Rattle.stage.specs.Lines.{sized, mean-read, slope-read, left-short, right-short}

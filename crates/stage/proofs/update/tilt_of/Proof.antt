@@ -9,7 +9,7 @@ use borrow.Author.Needs.{needs}
 use Rattle.whole.specs.Machine.{X, v, k, _⊕_, _⊝_, _⊗_, _⊘_, Entry, need, value}
 use Rattle.tables.specs.Cells.{asCell}
 use Rattle.rules.specs.Reach.{h0, h1, z1}
-use Rattle.stage.specs.Held.{asBed}
+use Rattle.finishing.specs.Held.{asBed}
 use Rattle.stage.specs.Kept.{kept}
 use Rattle.stage.specs.Rows.{tiltBy}
 use Rattle.stage.specs.Lines.{sized, mean-read, slope-read}

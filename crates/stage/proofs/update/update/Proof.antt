@@ -13,7 +13,8 @@ use mir.Facts.{toZ-ofZ}
 use Rattle.whole.specs.Parts.{fit}
 use Rattle.tables.specs.Rows.{written-none, written-more}
 use Rattle.tables.specs.Cells.{asList, seen, Holds}
-use Rattle.stage.specs.Held.{asBed, bedAt, Inside}
+use Rattle.finishing.specs.Held.{asBed, bedAt}
+use Rattle.stage.specs.Held.{Inside}
 use Rattle.stage.specs.Kept.{Row}
 use Rattle.stage.specs.Rows.{updateBy}
 use Rattle.stage.proofs.update.update.Statement.{statement}

@@ -16,9 +16,10 @@ use Rattle.rules.specs.Finishing.{finish}
 use Rattle.rules.specs.Step.{rubbed}
 use Rattle.rules.specs.Refusals.{offCell, off, verdict}
 use Rattle.rules.specs.Laws.Agree.{Same}
-use Rattle.stage.specs.Held.{bedAt, Inside, Ranged}
+use Rattle.finishing.specs.Held.{bedAt}
+use Rattle.stage.specs.Held.{Inside, Ranged}
 use Rattle.stage.specs.Kept.{volume-size}
-use Rattle.stage.specs.Narrow.{reachBy, callWith}
+use Rattle.finishing.specs.Narrow.{reachBy, callWith}
 use Rattle.stage.specs.Rubbed.{rubbed-inside}
 use Rattle.stage.specs.Says.{endChecks, stageCall, OneSays, TwoSays}
 use Rattle.stage.specs.Whole.{one-stopped, one-range, two-state, two-number, volume-is}

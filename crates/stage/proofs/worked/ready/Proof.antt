@@ -10,7 +10,7 @@ use Rattle.tables.specs.Some.{some}
 use Rattle.tables.specs.Cells.{cellAt}
 use Rattle.rules.specs.Limits.{dryDepth}
 use Rattle.rules.specs.Refusals.{badBed, badRough, offCell, fastCell}
-use Rattle.stage.specs.Held.{bedAt}
+use Rattle.finishing.specs.Held.{bedAt}
 use Rattle.stage.specs.Readied.{three, four, five, six, none, grounds, ranged}
 use borrow.Author.Needs.{needs}
 use Rattle.stage.proofs.worked.ready.Statement.{statement}

@@ -11,8 +11,10 @@ use Rattle.rules.specs.Stage.{stage}
 use Rattle.rules.specs.Finishing.{cut, dried, finish}
 use Rattle.rules.specs.Refusals.{off}
 use Rattle.rules.specs.Laws.Agree.{Same}
-use Rattle.stage.specs.Held.{bedAt, Grounds, Smalls}
-use Rattle.stage.specs.Narrow.{reachBy, callBy, limitIn}
+use Rattle.finishing.specs.Held.{bedAt, Grounds}
+use Rattle.stage.specs.Held.{Smalls}
+use Rattle.finishing.specs.Narrow.{reachBy, limitIn}
+use Rattle.stage.specs.Narrow.{callBy}
 use Rattle.stage.specs.Says.{StageSays, stageCall}
 use Rattle.stage.specs.Ended.{end-stopped, end-number, finished, range-is, finished-wide, stage-shown, shown-small, unfinished, rows-call}
 use Rattle.stage.proofs.worked.stage_one.Statement.{statement}

@@ -14,8 +14,10 @@ use Rattle.rules.specs.Stage.{faceAt, stage}
 use Rattle.rules.specs.Finishing.{cut, dried, finish}
 use Rattle.rules.specs.Refusals.{off}
 use Rattle.rules.specs.Laws.Agree.{Same}
-use Rattle.stage.specs.Held.{bedAt, Grounds, Smalls}
-use Rattle.stage.specs.Narrow.{reachBy, callBy, limitIn}
+use Rattle.finishing.specs.Held.{bedAt, Grounds}
+use Rattle.stage.specs.Held.{Smalls}
+use Rattle.finishing.specs.Narrow.{reachBy, limitIn}
+use Rattle.stage.specs.Narrow.{callBy}
 use Rattle.stage.specs.Rows.{faceRow}
 use Rattle.stage.specs.Small.{small-wide, inside-small}
 use Rattle.stage.specs.Says.{StageSays, stageCall, ending}
