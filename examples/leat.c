@@ -1,19 +1,22 @@
 /* A wave runs down a mill leat with a sill and a pool. It is stepped through bassoonsun.h, the
  * water is counted as it goes, and the long section is drawn at the end.
  *
- *     leat [FILE.svg]      with a file, the section is also written there as a picture
+ *     leat [--dt N] [FILE.svg]
  *
- * The exit status is 0 when every step was accepted, every unit of water was found again and the
- * picture, where one is asked for, was written. */
+ * N is the time step in 1/4096 s; with 500 the first step is refused, and the run says why and
+ * what to change. With a file, the section is also written there as a picture. The exit status is 0
+ * when every step was accepted, every unit of water was found again and the picture, where one is
+ * asked for, was written. */
 #include <bassoonsun.h>
 #include <stdio.h>
+#include <stdlib.h>
 #include <string.h>
 
 enum {
     METRE = 4096, /* levels, lengths, times and discharges all count 1/4096 */
     CELLS = 64,
     CELL_LENGTH = METRE,
-    TIME_STEP = METRE / 20, /* 1/9 s would be refused here with a 7 */
+    TIME_STEP = METRE / 20, /* unless another is given */
     STEPS = 200,
     JUMP = 64, /* slopes are limited where two cells differ by more than 1/64 m */
     MANNING = 30, /* 0.030, an earth channel with some weed */
@@ -34,6 +37,7 @@ typedef struct {
     uint16_t friction[CELLS];
     Cell before[CELLS], now[CELLS], next[CELLS];
     int64_t brought; /* by the two ends, all steps together */
+    uint32_t dt;
 } Leat;
 
 /* How far x is up a hill of the given half width: METRE on top, 0 at its foot and beyond. */
@@ -95,7 +99,7 @@ static uint32_t step(Leat *leat)
     int64_t volumes[2];
     uint32_t refusal = bassoonsun_step(&leat->now[0].level, 4 * CELLS, &leat->next[0].level, 4 * CELLS,
                                        leat->bed, CELLS + 1, leat->friction, CELLS,
-                                       CELL_LENGTH, TIME_STEP, JUMP, WALL, WALL, volumes);
+                                       CELL_LENGTH, leat->dt, JUMP, WALL, WALL, volumes);
     if (refusal == 0) { /* only now do next and volumes hold anything */
         memcpy(leat->now, leat->next, sizeof leat->now);
         leat->brought += volumes[0] - volumes[1];
@@ -109,7 +113,7 @@ static int64_t balance(const Leat *leat, int steps)
     int64_t before = sum_of_depths(leat, leat->before), after = sum_of_depths(leat, leat->now);
     int64_t missing = before + leat->brought - after;
     printf("step %3d, %5.2f s: %7lld before %+6lld by the ends, %7lld after, difference %lld\n", steps,
-           (double)steps * TIME_STEP / METRE, (long long)before, (long long)leat->brought,
+           (double)steps * leat->dt / METRE, (long long)before, (long long)leat->brought,
            (long long)after, (long long)missing);
     return missing;
 }
@@ -150,15 +154,26 @@ static void levels(FILE *out, const Cell *cells)
     }
 }
 
+/* The scales: metres along the leat and up. */
+static void scales(FILE *out)
+{
+    for (int m = 0; m <= CELLS * CELL_LENGTH / METRE; m += 8)
+        fprintf(out, "<text x=\"%d\" y=\"216\" text-anchor=\"middle\">%d m</text>\n", 10 * m, m);
+    for (int h = 0; h <= 4; h++)
+        fprintf(out, "<path stroke=\"#0003\" d=\"M0,%d h%d\"/><text x=\"-6\" y=\"%d\" text-anchor=\"end\">%.1f m</text>\n",
+                200 - 50 * h, 10 * CELLS, 204 - 50 * h, 0.5 * h);
+}
+
 /* Gives 0 when all of the picture was written. */
 static int write_svg(const Leat *leat, const char *path)
 {
     FILE *out = fopen(path, "w");
     if (out == NULL)
         return 1;
-    fprintf(out, "<svg xmlns=\"http://www.w3.org/2000/svg\" viewBox=\"0 0 %d 200\">\n", 10 * CELLS);
-    fputs("<title>A leat: bed, level before (dashed), level after</title>\n", out);
-    fprintf(out, "<rect width=\"%d\" height=\"200\" fill=\"white\"/>\n", 10 * CELLS);
+    fprintf(out, "<svg xmlns=\"http://www.w3.org/2000/svg\" viewBox=\"-50 -30 %d 255\" font-family=\"sans-serif\" font-size=\"11\">\n", 10 * CELLS + 70);
+    fprintf(out, "<rect x=\"-50\" y=\"-30\" width=\"%d\" height=\"255\" fill=\"white\"/>\n", 10 * CELLS + 70);
+    fprintf(out, "<text x=\"0\" y=\"-12\">A leat with a sill and a pool: the level at the start (dashed) and after %.2f s</text>\n",
+            (double)STEPS * leat->dt / METRE);
     fputs("<polygon fill=\"#9cc9e8\" points=\"", out);
     levels(out, leat->now);
     fprintf(out, "%d,200 0,200\"/>\n<polygon fill=\"#7a6248\" points=\"", 10 * CELLS);
@@ -167,27 +182,44 @@ static int write_svg(const Leat *leat, const char *path)
     fprintf(out, "%d,200 0,200\"/>\n", 10 * CELLS);
     fputs("<polyline fill=\"none\" stroke=\"black\" stroke-dasharray=\"4 3\" points=\"", out);
     levels(out, leat->before);
-    fputs("\"/>\n</svg>\n", out);
+    fputs("\"/>\n", out);
+    scales(out);
+    fputs("</svg>\n", out);
     int failed = ferror(out);
     return fclose(out) != 0 || failed;
+}
+
+/* All the steps, with the balance at each hundredth; gives 0 when none was refused. */
+static int run(Leat *leat)
+{
+    puts("A wave runs down a leat of 64 m between walls. Sums of mean depths, in 1/4096 m:");
+    for (int steps = 0; steps <= STEPS; steps++) {
+        if (steps % 100 == 0 && balance(leat, steps) != 0)
+            return fputs("leat: water is missing\n", stderr), 1;
+        uint32_t refusal = steps < STEPS ? step(leat) : 0;
+        if (refusal != 0)
+            return fprintf(stderr, "leat: step %d is refused with %s\n", steps + 1, advice(refusal)), 1;
+    }
+    return 0;
 }
 
 int main(int argc, char **argv)
 {
     static Leat leat;
-    if (argc > 2)
-        return fputs("use: leat [FILE.svg]\n", stderr), 2;
+    const char *picture = NULL;
+    leat.dt = TIME_STEP;
+    for (int i = 1; i < argc; i++)
+        if (strcmp(argv[i], "--dt") == 0 && i + 1 < argc)
+            leat.dt = (uint32_t)strtoul(argv[++i], NULL, 10);
+        else if (argv[i][0] != '-' && picture == NULL)
+            picture = argv[i];
+        else
+            return fputs("use: leat [--dt N] [FILE.svg]\n", stderr), 2;
     fill(&leat);
-    puts("A wave runs down a leat of 64 m between walls. Sums of mean depths, in 1/4096 m:");
-    for (int steps = 0; steps <= STEPS; steps++) {
-        if (steps % 100 == 0 && balance(&leat, steps) != 0)
-            return fputs("leat: water is missing\n", stderr), 1;
-        uint32_t refusal = steps < STEPS ? step(&leat) : 0;
-        if (refusal != 0)
-            return fprintf(stderr, "leat: step %d is refused with %s\n", steps + 1, advice(refusal)), 1;
-    }
+    if (run(&leat) != 0)
+        return 1;
     draw(&leat);
-    if (argc == 2 && write_svg(&leat, argv[1]) != 0)
-        return fprintf(stderr, "leat: %s could not be written\n", argv[1]), 1;
+    if (picture != NULL && write_svg(&leat, picture) != 0)
+        return fprintf(stderr, "leat: %s could not be written\n", picture), 1;
     return 0;
 }

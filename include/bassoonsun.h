@@ -1,8 +1,8 @@
 /* One step of shallow flow along a straight reach of equal cells, and the flux at one face.
  *
- * Built by `rt staticlib editor` as target/staticlib/libeditor.a (x86-64, System V calling
- * convention); it needs memcpy and memset of the C library and nothing else. examples/leat.c
- * shows its use, and `bash examples/run` builds and runs that example.
+ * Built by `make` as target/libbassoonsun.a (x86-64, System V calling convention); it needs memcpy
+ * and memset of the C library and nothing else. examples/leat.c shows its use, and
+ * `bash examples/run` builds and runs that example.
  *
  * UNITS. Whole numbers count 1/4096 of a metre, a second, m/s or m2/s: a level of 6144 is 1.5 m,
  * a time step of 204 is about 1/20 s. Discharge is for one metre of width, rightward positive.

@@ -4,12 +4,9 @@
  * Checks the answer, that a refused call leaves next and volumes as they were, and that an
  * accepted one keeps the water. The last line is 'N passed, M failed'. */
 #define _DEFAULT_SOURCE
+#include "fence.h"
 #include <bassoonsun.h>
 #include <math.h>
-#include <stdio.h>
-#include <stdlib.h>
-#include <sys/mman.h>
-#include <unistd.h>
 
 enum { METRE = 4096, DX = METRE, DT = METRE / 20, MARK = -77 };
 
@@ -21,41 +18,6 @@ static void check(int good, const char *what, size_t n, int at_end)
         passed++;
     else
         failed++, printf("failed: %s, n %zu, tables at the %s\n", what, n, at_end ? "end" : "start");
-}
-
-/* A table of some bytes between two pages that may not be touched. */
-typedef struct {
-    void *first;      /* its first element */
-    char *whole;      /* the pages, with the two */
-    size_t size;      /* of the pages, without the two */
-} Fenced;
-
-static Fenced fence(size_t bytes, int at_end)
-{
-    size_t page = (size_t)sysconf(_SC_PAGESIZE);
-    Fenced f;
-    f.size = (bytes / page + 1) * page;
-    f.whole = mmap(NULL, f.size + 2 * page, PROT_NONE, MAP_PRIVATE | MAP_ANONYMOUS, -1, 0);
-    if (f.whole == MAP_FAILED || mprotect(f.whole + page, f.size, PROT_READ | PROT_WRITE) != 0) {
-        perror("bounds: no pages");
-        exit(2);
-    }
-    f.first = f.whole + page + (at_end ? f.size - bytes : 0);
-    return f;
-}
-
-static void only_read(Fenced f)
-{
-    size_t page = (size_t)sysconf(_SC_PAGESIZE);
-    if (mprotect(f.whole + page, f.size, PROT_READ) != 0) {
-        perror("bounds: pages cannot be shut");
-        exit(2);
-    }
-}
-
-static void unfence(Fenced f)
-{
-    munmap(f.whole, f.size + 2 * (size_t)sysconf(_SC_PAGESIZE));
 }
 
 /* A call to be made: what differs from a good call on n cells, and the answer that is due. */

@@ -134,24 +134,35 @@ SPEEDS = [
     (128, lambda x: 64.0 * unit(x) - 32.0),
 ]
 
-for block in range(20):
-    x = 88172645463325252 ^ block << 32
-    fluxes = dry = refused = total = 0
-    for _ in range(1000):
-        drawn = []
+
+def drawn(x, count):
+    """The depths and speeds of `count` faces, drawn from the number x on."""
+    for _ in range(count):
+        sides = []
         for table in (DEPTHS, SPEEDS, DEPTHS, SPEEDS):
             x = following(x)
-            drawn.append(chosen(x, table))
-        answer = face(*drawn)
-        if answer == "dry":
-            dry, total = dry + 1, mixed(total, 1)
-        elif answer == "refused":
-            refused, total = refused + 1, mixed(total, 3)
-        else:
-            fluxes += 1
-            for value in answer:
-                assert value == value
-                total = mixed(total, bits(value))
-    print(f"faces {block} {fluxes} {dry} {refused} {total:016x}")
-for way in sorted(ways):
-    print(f"{way}: {ways[way]}", file=sys.stderr)
+            sides.append(chosen(x, table))
+        yield sides
+
+
+def main():
+    for block in range(20):
+        fluxes = dry = refused = total = 0
+        for sides in drawn(88172645463325252 ^ block << 32, 1000):
+            answer = face(*sides)
+            if answer == "dry":
+                dry, total = dry + 1, mixed(total, 1)
+            elif answer == "refused":
+                refused, total = refused + 1, mixed(total, 3)
+            else:
+                fluxes += 1
+                for value in answer:
+                    assert value == value
+                    total = mixed(total, bits(value))
+        print(f"faces {block} {fluxes} {dry} {refused} {total:016x}")
+    for way in sorted(ways):
+        print(f"{way}: {ways[way]}", file=sys.stderr)
+
+
+if __name__ == "__main__":
+    main()

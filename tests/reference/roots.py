@@ -105,12 +105,20 @@ def name(block):
     return "exponents" if block < 64 else "subnormals" if block < 116 else "squares" if block < 126 else "negatives"
 
 
-for block in range(128):
-    x, total = 88172645463325252 ^ block << 32, 0
-    for i in range(1000):
-        x = following(x)
-        total = mixed(total, item(block, i, x))
-    print(f"{name(block)} {block} {total:016x}")
-for b in [0, SIGN, 1, FRACTION, FRACTION + 1, 0x3FF0 << 48, 0x4000 << 48, TOP - 1, TOP, TOP | SIGN, TOP + 1, WORD, 0xBFF0 << 48, SIGN + 1]:
-    print(f"root of {b:016x} {root(b):016x}")
-print(dict(counts), file=sys.stderr)
+EDGES = [0, SIGN, 1, FRACTION, FRACTION + 1, 0x3FF0 << 48, 0x4000 << 48, TOP - 1, TOP, TOP | SIGN, TOP + 1, WORD, 0xBFF0 << 48, SIGN + 1]
+
+
+def main():
+    for block in range(128):
+        x, total = 88172645463325252 ^ block << 32, 0
+        for i in range(1000):
+            x = following(x)
+            total = mixed(total, item(block, i, x))
+        print(f"{name(block)} {block} {total:016x}")
+    for b in EDGES:
+        print(f"root of {b:016x} {root(b):016x}")
+    print(dict(counts), file=sys.stderr)
+
+
+if __name__ == "__main__":
+    main()

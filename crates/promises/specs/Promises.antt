@@ -8,6 +8,7 @@
 -- (`step-answer`, `step-table`): those of the rules' two stages. So what follows is said of that step, and of no other.
 -- Assumes nothing.
 use mathlib.Core.Path.{_≡_, refl, sym, _∙_, ap, ap₂, subst}
+use mathlib.Core.Bool.{Bool}
 use mathlib.Core.List.{List, []}
 use mathlib.Core.Logic.{_⊎_, inl, inr, ⊎-elim}
 use Prim.Native.Nat.{ℕ, _<_}
@@ -37,6 +38,8 @@ use Rattle.double.specs.declared.face.DoubleAnswer.{DoubleAnswer}
 use Rattle.face.proofs.Unique.{speed-unique, wave-unique, cube-unique, face-unique}
 use Rattle.double.proofs.root.Unique.{root-unique}
 use Rattle.double.proofs.face.Unique as doubles
+use Rattle.finishing.specs.Says.{FinishSays}
+use Rattle.finishing.specs.Fit.{one-finish}
 use Rattle.stage.specs.Worked.{WorkedSays}
 use Rattle.stage.specs.Unique.{one-said}
 use Rattle.stage.specs.declared.worked.Worked.{Worked}
@@ -57,6 +60,10 @@ step-table l p q = one-table p q
 -- and so of every other public function
 pub work-one : (l : Lent) (old new new′ : List (List ℤ)) (a b : Worked) → WorkedSays l a old new → WorkedSays l b old new′ → (a ≡ b) × (new ≡ new′)
 work-one l old new new′ a b p q = one-said (reachOf l) (callOf l) (stateOf l) (number l) old new new′ a b p q
+
+pub finish-one : (n : ℕ) (bed : List ℤ) (jump : ℤ) (u : List (List ℤ)) (a b : Bool) (old new new′ : List (List ℤ))
+    → FinishSays n bed jump u a old new → FinishSays n bed jump u b old new′ → (a ≡ b) × (new ≡ new′)
+finish-one n bed jump u a b old new new′ p q = one-finish n bed jump u a b old new new′ p q
 
 pub speed-one : (q h : ℤ) (a b : Whole) → worth a ≡ speedGiven q h → worth b ≡ speedGiven q h → a ≡ b
 speed-one q h a b x y = speed-unique q h a b x y

@@ -1,0 +1,245 @@
+"""The library, called from C by serve.c, against the independent model, number for number.
+
+    compare.py SEED FACES STEPS DOUBLES ROOTS -- COMMAND...
+
+makes so many random calls of each kind from the seed.  COMMAND is serve, with an emulator before
+it where one is needed.  Every call is made twice, with its tables at the end of their pages and at
+their start, and everything that comes back is compared: the answer, and each table that the call
+may write, which after a refusal must hold serve's marks.
+
+A kind of call with a place of its tables is one case.  Each way a call can be answered is one more,
+passed where it came often enough: calls that never reach a check do not test it.  The last line is
+'N passed, M failed'; the exit status is 1 when something failed.
+"""
+
+import itertools
+import os
+import random
+import struct
+import subprocess
+import sys
+from collections import Counter, namedtuple
+
+HERE = os.path.dirname(os.path.abspath(__file__))
+sys.path[:0] = [os.path.join(HERE, "..", "model"), os.path.join(HERE, "..", "reference")]
+import double_faces
+import hard
+import model as m
+import roots
+
+MARK = b"\xa5"          # serve's, in every byte that a call may write
+PLACES = ("end", "start")
+BLOCK = 2000            # calls at a time, so that memory does not grow with their number
+SHOWN = 3               # wrong calls shown of a block
+
+# What is due: the library's number, the way it came about, and the tables that the call may write.
+Due = namedtuple("Due", "answer way tables")
+
+# `calls` draws calls from a seed, `asked` writes one for serve, `due` asks the model.  `ways` has
+# each way of answering with an n: it must come at least once in n calls.
+Kind = namedtuple("Kind", "name calls asked due ways")
+
+
+def table(form, numbers):
+    return struct.pack("<%d%s" % (len(numbers), form), *numbers)
+
+
+# ---- Steps
+
+def wide_step(rnd, call):
+    """The call with a number or with lengths that would look right if C's higher bits were lost."""
+    now, next_len, bed, friction, *numbers = call
+    if rnd.randrange(10) == 0:
+        more = 1 << 16
+        return (now + [0] * (4 * more), next_len + 4 * more, bed + [0] * more, friction + [0] * more, *numbers)
+    numbers[rnd.randrange(5)] += rnd.choice((1 << 8, 1 << 16, 1 << 31))
+    return (now, next_len, bed, friction, *numbers)
+
+
+def steps(seed, count):
+    rnd = random.Random(seed)
+    for call in hard.calls(seed, count):
+        yield wide_step(rnd, call) if rnd.randrange(25) == 0 else call
+
+
+def step_asked(call):
+    now, next_len, bed, friction, *numbers = call
+    return (table("I", (len(now), next_len, len(bed), len(friction), *numbers))
+            + table("i", now) + table("i", bed) + table("H", friction))
+
+
+def step_due(call):
+    _, next_len, _, friction, *_ = call
+    try:
+        state, left, right = m.worked(*call)
+    except m.Refused as r:
+        return Due(r.number, "%d %s" % (r.number, r.check), MARK * (4 * next_len + 16))
+    way = "accepted" + (", longest reach" if len(friction) == m.MOST_CELLS else "")
+    return Due(0, way, table("i", state) + table("q", (left, right)))
+
+
+STEP_WAYS = {
+    "accepted": 4, "accepted, longest reach": 5000,
+    "1 lengths": 100, "2 numbers": 100, "3 bed": 200, "4 friction": 200, "5 present state": 500,
+    "6 friction speed": 100, "6 face speed, stage 1": 100, "6 inner-point speed, stage 1": 500,
+    "7 faces, stage 1": 50, "8 stage one": 50,
+    "6 face speed, stage 2": 100, "6 inner-point speed, stage 2": 200,
+    "7 faces, stage 2": 50, "8 end state": 1000,
+}
+
+
+# ---- Faces in whole numbers
+
+def faces(seed, count):
+    """hard.py's faces, some with a number that only 64 bits hold."""
+    rnd = random.Random(seed)
+    for sides in map(list, hard.faces(seed, count)):
+        if rnd.randrange(25) == 0:
+            k = rnd.randrange(4)
+            sides[k] = rnd.choice((sides[k] + (1 << 32), sides[k] - (1 << 32), (1 << 63) - 1, -(1 << 63)))
+        yield sides
+
+
+def face_due(sides):
+    flux, way = m.face(*sides), hard.branch(*sides).split(", with a speed")[0]
+    return Due(1, way, MARK * 32) if flux is None else Due(0, way, table("q", flux))
+
+
+FACE_WAYS = dict.fromkeys(
+    ["refused", "both dry"]
+    + [dry + way for dry in ("", "left dry, ", "right dry, ") for way in ("left side alone", "right side alone", "middle")],
+    100)
+
+
+# ---- Faces in double precision
+
+def doubles(seed, count):
+    return double_faces.drawn(random.Random(seed).getrandbits(64) | 1, count)
+
+
+def double_due(sides):
+    double_faces.ways.clear()
+    flux = double_faces.face(*sides)
+    way = list(double_faces.ways)[-1]   # the way out is noted last
+    if flux in ("dry", "refused"):
+        return Due(1 if flux == "dry" else 2, way, MARK * 32)
+    return Due(0, way, table("d", flux))
+
+
+DOUBLE_WAYS = dict.fromkeys(
+    ["dry"] + ["refused: %s %s" % why for why in itertools.product(("depth", "speed"), ("NaN", "out of range"))]
+    + ["%s: %s" % way for way in itertools.product(("wet", "left dry", "right dry"), ("sL >= 0", "sR <= 0", "both sides"))],
+    200)
+
+
+# ---- Roots, of doubles given by their bits
+
+def root_calls(seed, count):
+    """Any bits, any length of a subnormal, squares and their neighbours, and the edges."""
+    rnd = random.Random(seed)
+    for _ in range(count):
+        x = rnd.getrandbits(64)
+        yield rnd.choice((x, x >> 1, roots.subnormal(x % 52, x), roots.square(x) + rnd.randint(-1, 1),
+                          rnd.choice(roots.EDGES)))
+
+
+def root_due(b):
+    root = roots.root(b)
+    if root == 1:       # roots.py's sign of a refusal; these bits are nothing's root
+        return Due(1, "refused", MARK * 8)
+    return Due(0, "root of a subnormal" if 0 < b <= roots.FRACTION else "root", table("Q", [root]))
+
+
+ROOT_WAYS = {"root": 4, "root of a subnormal": 20, "refused": 20}
+
+
+# ---- Comparing
+
+KINDS = (
+    Kind("face", faces, lambda sides: table("q", sides), face_due, FACE_WAYS),
+    Kind("step", steps, step_asked, step_due, STEP_WAYS),
+    Kind("double", doubles, lambda sides: table("d", sides), double_due, DOUBLE_WAYS),
+    Kind("root", root_calls, lambda b: table("Q", [b]), root_due, ROOT_WAYS),
+)
+
+cases = []              # of each, whether it passed
+
+
+def case(good, text):
+    cases.append(good)
+    print("%s  %s" % ("passed" if good else "FAILED", text), flush=True)
+
+
+def blocks(calls):
+    calls = iter(calls)
+    while block := list(itertools.islice(calls, BLOCK)):
+        yield block
+
+
+def differing(due, given):
+    """The place and the answer of each call whose answer or tables are not what is due."""
+    at = 0
+    for k, d in enumerate(due):
+        wanted = table("I", [d.answer]) + d.tables
+        found = given[at:at + len(wanted)]
+        at += len(wanted)
+        if found != wanted:
+            yield k, found
+    if at < len(given):
+        yield len(due) - 1, given[at:]
+
+
+def show(kind, place, number, call, due, found):
+    answer = struct.unpack("<I", found[:4])[0] if len(found) >= 4 else "none"
+    right = len(os.path.commonprefix([found[4:], due.tables]))
+    print("wrong: %s %d, tables at the %s: answer %d due, %s given; of the %d bytes it may write the first %d are right; "
+          "asked %s" % (kind.name, number, place, due.answer, answer, len(due.tables), right, str(call)[:400]))
+
+
+def wrong_calls(kind, place, first, block, due, command):
+    """How many calls of the block were answered wrongly; a serve that fails is one more."""
+    asked = b"".join(map(kind.asked, block))
+    ran = subprocess.run(command + [kind.name, place], input=asked, stdout=subprocess.PIPE)
+    wrong = list(differing(due, ran.stdout))
+    for k, found in wrong[:SHOWN]:
+        show(kind, place, first + k, block[k], due[k], found)
+    if ran.returncode != 0:
+        print("wrong: %s ended with %d in calls %d to %d" % (kind.name, ran.returncode, first, first + len(block) - 1))
+    return len(wrong) + (ran.returncode != 0)
+
+
+def compare(kind, seed, count, command):
+    first, answers, ways, wrong = 0, Counter(), Counter(), Counter()
+    for block in blocks(kind.calls(seed, count)):
+        due = [kind.due(call) for call in block]
+        answers.update(d.answer for d in due)
+        ways.update(d.way for d in due)
+        for place in PLACES:
+            wrong[place] += wrong_calls(kind, place, first, block, due, command)
+        first += len(block)
+    spread = ", ".join("%d: %d" % pair for pair in sorted(answers.items()))
+    for place in PLACES:
+        case(first == count and wrong[place] == 0, "%s, tables at the %s: %d calls, %d wrong; answers %s"
+             % (kind.name, place, first, wrong[place], spread))
+    for way, share in kind.ways.items():
+        least = max(1, count // share)
+        case(ways[way] >= least, "%s, %s: %d calls, at least %d wanted" % (kind.name, way, ways[way], least))
+
+
+def main():
+    try:
+        dash = sys.argv.index("--")
+        seed, *counts = map(int, sys.argv[1:dash])
+        asked = list(zip(KINDS, counts, strict=True))
+        command = sys.argv[dash + 1:]
+        command[0]
+    except (ValueError, IndexError):
+        sys.exit("usage: compare.py SEED FACES STEPS DOUBLES ROOTS -- COMMAND...")
+    for kind, count in asked:
+        compare(kind, seed, count, command)
+    print("%d passed, %d failed" % (sum(cases), len(cases) - sum(cases)))
+    sys.exit(not all(cases))
+
+
+if __name__ == "__main__":
+    main()
