@@ -1,0 +1,297 @@
+/* Times the library beside two plain writings of the same step in C.
+ *
+ *     bench                        compares the answers, then times; exit status 1 where any differ
+ *     bench count WHO CASE N RUNS  only runs WHO (0 library, 1 plain, 2 plain with the processor's
+ *                                  root) RUNS times, for counting instructions from outside
+ *
+ * What is timed is first run by all three and compared step for step. */
+#define _POSIX_C_SOURCE 200809L /* clock_gettime */
+#include "plain.h"
+
+#include <bassoonsun.h>
+#include <stdio.h>
+#include <stdlib.h>
+#include <string.h>
+#include <time.h>
+
+enum {
+    METRE = 4096,
+    MOST_CELLS = 1024,
+    STEPS = 200, /* of one run, always from the same start */
+    ROUNDS = 21, /* in each, all are timed one after the other */
+    RANDOM_CALLS = 20000,
+    CELL_STEPS = 300000 /* of one timing, so that short reaches are timed as long as long ones */
+};
+
+typedef uint32_t Step(const int32_t *, size_t, int32_t *, size_t, const int32_t *, size_t,
+                      const uint16_t *, size_t, uint32_t, uint32_t, uint32_t, uint32_t, uint32_t,
+                      int64_t *);
+
+enum { LIBRARY, PLAIN, PLAIN_ROOT, WRITINGS };
+static Step *const writings[WRITINGS] = {bassoonsun_step, plain_step, plain_root_step};
+
+typedef struct {
+    size_t n;
+    uint32_t dx, dt, jump, left, right;
+    int32_t bed[MOST_CELLS + 1];
+    uint16_t friction[MOST_CELLS];
+    int32_t start[4 * MOST_CELLS];
+} Case;
+
+typedef struct {
+    uint32_t refusal;
+    int64_t volumes[2];
+    int32_t next[4 * MOST_CELLS];
+} Given;
+
+/* ---- The cases that are timed */
+
+/* How far cell face i is up a hill between faces a and b: METRE at its middle, 0 at its foot. */
+static int32_t hill(int64_t i, int64_t a, int64_t b)
+{
+    int64_t up = i <= a || i >= b ? 0 : 4 * METRE * (i - a) * (b - i) / ((b - a) * (b - a));
+    return (int32_t)(up * up / METRE);
+}
+
+/* Cells of 1 m and 0.030 over a bed with a sill, walls, water at 1.25 m, steps of 1/20 s. */
+static void fill_lake(Case *c, size_t n)
+{
+    *c = (Case){.n = n, .dx = METRE, .dt = METRE / 20, .jump = METRE / 64};
+    for (size_t i = 0; i <= n; i++)
+        c->bed[i] = (hill((int64_t)i, (int64_t)n / 2, (int64_t)n) / 2 + METRE / 4) & ~1;
+    for (size_t i = 0; i < n; i++) {
+        c->friction[i] = 30;
+        c->start[4 * i] = METRE * 5 / 4;
+    }
+}
+
+/* The same with a wave 0.5 m high over the left half, running right. */
+static void fill_wave(Case *c, size_t n)
+{
+    fill_lake(c, n);
+    for (size_t i = 0; i < n / 2; i++) {
+        int32_t left = hill((int64_t)i, 0, (int64_t)n / 2) / 2, right = hill((int64_t)i + 1, 0, (int64_t)n / 2) / 2;
+        int32_t mean = (left + right) / 2, slope = (right - left) / 2;
+        int32_t cell[4] = {METRE * 5 / 4 + mean, slope, 3 * mean, 3 * slope};
+        memcpy(&c->start[4 * i], cell, sizeof cell);
+    }
+}
+
+static void (*const fills[])(Case *, size_t) = {fill_wave, fill_lake};
+static const char *const case_names[] = {"wave", "lake"};
+
+/* ---- Comparing answers */
+
+static uint32_t call(Step *step, const Case *c, const int32_t *now, int32_t *next, int64_t *volumes)
+{
+    return step(now, 4 * c->n, next, 4 * c->n, c->bed, c->n + 1, c->friction, c->n, c->dx, c->dt, c->jump,
+                c->left, c->right, volumes);
+}
+
+/* All of next and both volumes count, written or not: a refusal must leave them alone. */
+static int same(const Case *c, const int32_t *now, Given *given)
+{
+    for (int k = 0; k < WRITINGS; k++) {
+        memset(&given[k], 0x5a, sizeof given[k]);
+        given[k].refusal = call(writings[k], c, now, given[k].next, given[k].volumes);
+    }
+    return memcmp(&given[0], &given[1], sizeof given[0]) == 0 && memcmp(&given[0], &given[2], sizeof given[0]) == 0;
+}
+
+static uint64_t seed = 88172645463325252u;
+
+static int64_t drawn(int64_t least, int64_t most)
+{
+    seed ^= seed << 13;
+    seed ^= seed >> 7;
+    seed ^= seed << 17;
+    return least + (int64_t)(seed % (uint64_t)(most - least + 1));
+}
+
+/* Most depths are those of ditches, some are the thinnest or the deepest there are. */
+static int32_t drawn_depth(int64_t kind)
+{
+    return (int32_t)(kind == 0 ? drawn(0, 12) : kind == 1 ? drawn(0, 262144) : drawn(200, 20000));
+}
+
+static void draw_cell(Case *c, size_t i, int64_t kind)
+{
+    int32_t left = drawn_depth(kind), right = drawn_depth(kind), quick = kind == 0 ? 40 : 3 * METRE;
+    right ^= (left ^ right ^ c->bed[i] ^ c->bed[i + 1]) & 1; /* so that the mean is whole */
+    int32_t l = left + c->bed[i], r = right + c->bed[i + 1];
+    int32_t cell[4] = {(l + r) / 2, (r - l) / 2, (int32_t)drawn(-quick, quick), (int32_t)drawn(-quick, quick)};
+    memcpy(&c->start[4 * i], cell, sizeof cell);
+}
+
+/* One number in some calls is spoiled, so that each refusal comes up. */
+static void spoil(Case *c)
+{
+    size_t i = (size_t)drawn(0, (int64_t)c->n - 1);
+    switch (drawn(0, 11)) {
+    case 0: c->dt = (uint32_t)drawn(0, 5000); break;
+    case 1: c->bed[i] = (int32_t)drawn(-3, 1048579); break;
+    case 2: c->friction[i] = (uint16_t)drawn(190, 65535); break;
+    case 3: c->start[4 * i + 2] = (int32_t)drawn(INT32_MIN, INT32_MAX); break;
+    case 4: c->start[4 * i] += (int32_t)drawn(-300, 262144); break;
+    case 5: c->start[4 * i + 2] = (int32_t)drawn(-8388608, 8388608); break;
+    case 6: c->right = 2; break;
+    case 7: c->n = (size_t)drawn(0, 1) * 1025; break;
+    default: break;
+    }
+}
+
+static void draw(Case *c)
+{
+    size_t n = (size_t)(drawn(0, 199) == 0 ? drawn(900, 1024) : drawn(1, 24));
+    *c = (Case){.n = n, .dx = (uint32_t)drawn(500, 80000), .dt = (uint32_t)drawn(1, 300),
+                .jump = (uint32_t)drawn(0, 1) * (uint32_t)drawn(0, 500), .left = (uint32_t)drawn(0, 1),
+                .right = (uint32_t)drawn(0, 1)};
+    int64_t steep = drawn(0, 1) * 2000;
+    for (size_t i = 0; i <= n; i++)
+        c->bed[i] = (int32_t)(10000 + drawn(-steep, steep)) & ~1;
+    for (size_t i = 0; i < n; i++) {
+        c->friction[i] = (uint16_t)(drawn(0, 1) * drawn(0, 200));
+        draw_cell(c, i, drawn(0, 5));
+    }
+    spoil(c);
+}
+
+/* The lengths lent are those of the case, except that 0 and 1025 cells are refused by them alone. */
+static int compare_random(void)
+{
+    static Case c;
+    static Given given[WRITINGS];
+    long counts[9] = {0};
+    for (int k = 0; k < RANDOM_CALLS; k++) {
+        draw(&c);
+        if (!same(&c, c.start, given))
+            return fprintf(stderr, "bench: random call %d is answered in two ways\n", k), 0;
+        counts[given[0].refusal]++;
+    }
+    printf("%d random calls, answers 0 to 8 alike:", RANDOM_CALLS);
+    for (int k = 0; k < 9; k++)
+        printf(" %ld", counts[k]);
+    putchar('\n');
+    return 1;
+}
+
+static int compare_case(const Case *c, const char *name)
+{
+    static Given given[WRITINGS];
+    static int32_t now[4 * MOST_CELLS];
+    memcpy(now, c->start, sizeof now);
+    for (int k = 0; k < STEPS; k++) {
+        if (!same(c, now, given) || given[0].refusal != 0)
+            return fprintf(stderr, "bench: %s, %zu cells: step %d differs or is refused with %u\n", name, c->n,
+                           k + 1, (unsigned)given[0].refusal), 0;
+        memcpy(now, given[0].next, 4 * c->n * sizeof now[0]);
+    }
+    return 1;
+}
+
+/* ---- Timing */
+
+/* One run of all steps; gives a number that depends on the last state, so that none is left out. */
+static int64_t run(Step *step, const Case *c)
+{
+    static int32_t tables[2][4 * MOST_CELLS];
+    int64_t volumes[2] = {0, 0};
+    uint32_t refusals = 0;
+    memcpy(tables[0], c->start, 4 * c->n * sizeof tables[0][0]);
+    for (int k = 0; k < STEPS; k++)
+        refusals |= call(step, c, tables[k % 2], tables[(k + 1) % 2], volumes);
+    return tables[STEPS % 2][0] + volumes[0] + refusals;
+}
+
+static double seconds(void)
+{
+    struct timespec t;
+    clock_gettime(CLOCK_PROCESS_CPUTIME_ID, &t);
+    return (double)t.tv_sec + 1e-9 * (double)t.tv_nsec;
+}
+
+/* Seconds of one step. */
+static double timed(Step *step, const Case *c)
+{
+    static volatile int64_t sink;
+    int runs = 1 + CELL_STEPS / STEPS / (int)c->n;
+    double before = seconds();
+    for (int k = 0; k < runs; k++)
+        sink = run(step, c);
+    (void)sink;
+    return (seconds() - before) / runs / STEPS;
+}
+
+static int by_size(const void *a, const void *b)
+{
+    double x = *(const double *)a, y = *(const double *)b;
+    return (x > y) - (x < y);
+}
+
+static double sorted_median(double *values)
+{
+    qsort(values, ROUNDS, sizeof values[0], by_size);
+    return values[ROUNDS / 2];
+}
+
+static void time_case(const Case *c, const char *name)
+{
+    double times[WRITINGS][ROUNDS], ratios[2][ROUNDS];
+    for (int round = 0; round < ROUNDS; round++) {
+        for (int k = 0; k < WRITINGS; k++)
+            times[k][round] = timed(writings[k], c);
+        for (int k = 0; k < 2; k++)
+            ratios[k][round] = times[LIBRARY][round] / times[1 + k][round];
+    }
+    printf("| %s | %zu |", name, c->n);
+    for (int k = 0; k < WRITINGS; k++)
+        times[k][0] = sorted_median(times[k]);
+    for (int k = 0; k < WRITINGS; k++)
+        printf(" %.0f |", 1 / times[k][0]);
+    printf(" %.1f |", 1e9 * times[LIBRARY][0] / (double)c->n);
+    for (int k = 0; k < 2; k++) {
+        double middle = sorted_median(ratios[k]);
+        printf(" %.2f (%.2f\u2013%.2f) |", middle, ratios[k][0], ratios[k][ROUNDS - 1]);
+    }
+    putchar('\n');
+}
+
+static int compare_and_time(void)
+{
+    static Case c;
+    static const size_t counts[] = {16, 128, 1024};
+    if (!compare_random())
+        return 1;
+    puts("| case | cells | library (steps/s) | plain C | plain C, processor's root | library (ns a cell a step) "
+         "| library / plain C | library / plain C, processor's root |\n|---|---|---|---|---|---|---|---|");
+    for (size_t name = 0; name < 2; name++)
+        for (size_t k = 0; k < 3; k++) {
+            fills[name](&c, counts[k]);
+            if (!compare_case(&c, case_names[name]))
+                return 1;
+            time_case(&c, case_names[name]);
+        }
+    return 0;
+}
+
+static int count(char **words)
+{
+    static Case c;
+    size_t who = strtoul(words[0], NULL, 10), name = strcmp(words[1], "lake") == 0, n = strtoul(words[2], NULL, 10);
+    long runs = strtol(words[3], NULL, 10);
+    if (who >= WRITINGS || n < 1 || n > MOST_CELLS)
+        return 2;
+    fills[name](&c, n);
+    for (long k = 0; k < runs; k++)
+        run(writings[who], &c);
+    return 0;
+}
+
+int main(int argc, char **argv)
+{
+    if (argc == 6 && strcmp(argv[1], "count") == 0)
+        return count(argv + 2);
+    if (argc != 1)
+        return fputs("use: bench [count WHO CASE N RUNS]\n", stderr), 2;
+    return compare_and_time();
+}

@@ -1,0 +1,95 @@
+/* Steps a reach read from the standard input and writes its state as it goes.
+ *
+ *     reach STEPS EVERY
+ *
+ * Read, as whole numbers parted by blanks: n dx dt J left right, then n + 1 beds, n Manning values
+ * and 4n numbers of the state, all in the library's units. Written, at the start and after every
+ * EVERY steps: one line with what crossed face 0 and face n since the start, and the 4n numbers.
+ *
+ * The exit status is 0 when every step was accepted. */
+#include <bassoonsun.h>
+#include <inttypes.h>
+#include <stdio.h>
+#include <stdlib.h>
+#include <string.h>
+
+enum { MOST_CELLS = 1024 };
+
+typedef struct {
+    size_t cells;
+    uint32_t dx, dt, jump, left, right;
+    int32_t bed[MOST_CELLS + 1];
+    uint16_t friction[MOST_CELLS];
+    int32_t now[4 * MOST_CELLS], next[4 * MOST_CELLS];
+    int64_t crossed[2]; /* face 0 and face n, all steps together */
+} Reach;
+
+static int read_numbers(int32_t *table, size_t count)
+{
+    for (size_t i = 0; i < count; i++)
+        if (scanf("%" SCNd32, &table[i]) != 1)
+            return 0;
+    return 1;
+}
+
+static int read_friction(uint16_t *table, size_t count)
+{
+    for (size_t i = 0; i < count; i++)
+        if (scanf("%" SCNu16, &table[i]) != 1)
+            return 0;
+    return 1;
+}
+
+/* Gives 1 when a whole reach was read. Only its size is judged here; the library judges the rest. */
+static int read_reach(Reach *reach)
+{
+    if (scanf("%zu %" SCNu32 " %" SCNu32 " %" SCNu32 " %" SCNu32 " %" SCNu32, &reach->cells, &reach->dx,
+              &reach->dt, &reach->jump, &reach->left, &reach->right) != 6 ||
+        reach->cells > MOST_CELLS)
+        return 0;
+    return read_numbers(reach->bed, reach->cells + 1) && read_friction(reach->friction, reach->cells) &&
+           read_numbers(reach->now, 4 * reach->cells);
+}
+
+static void write_state(const Reach *reach)
+{
+    printf("%" PRId64 " %" PRId64, reach->crossed[0], reach->crossed[1]);
+    for (size_t i = 0; i < 4 * reach->cells; i++)
+        printf(" %" PRId32, reach->now[i]);
+    putchar('\n');
+}
+
+/* Gives 0, or the number of the refusal, and then the reach is as it was. */
+static uint32_t step(Reach *reach)
+{
+    size_t n = reach->cells;
+    int64_t volumes[2];
+    uint32_t refusal = bassoonsun_step(reach->now, 4 * n, reach->next, 4 * n, reach->bed, n + 1,
+                                       reach->friction, n, reach->dx, reach->dt, reach->jump,
+                                       reach->left, reach->right, volumes);
+    if (refusal != 0)
+        return refusal;
+    memcpy(reach->now, reach->next, 4 * n * sizeof reach->now[0]);
+    reach->crossed[0] += volumes[0];
+    reach->crossed[1] += volumes[1];
+    return 0;
+}
+
+int main(int argc, char **argv)
+{
+    static Reach reach;
+    long steps = argc == 3 ? atol(argv[1]) : 0, every = argc == 3 ? atol(argv[2]) : 0;
+    if (steps < 1 || every < 1)
+        return fputs("use: reach STEPS EVERY <CASE\n", stderr), 2;
+    if (!read_reach(&reach))
+        return fputs("reach: the case is not as it should be\n", stderr), 2;
+    write_state(&reach);
+    for (long k = 1; k <= steps; k++) {
+        uint32_t refusal = step(&reach);
+        if (refusal != 0)
+            return fprintf(stderr, "reach: step %ld is refused with %" PRIu32 "\n", k, refusal), 1;
+        if (k % every == 0)
+            write_state(&reach);
+    }
+    return 0;
+}

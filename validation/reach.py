@@ -1,0 +1,65 @@
+"""A reach of the library, stepped by the C program reach.
+
+Metres and seconds become the library's whole numbers here and nowhere else.
+"""
+
+import re
+import subprocess
+from collections import namedtuple
+
+UNIT = 4096             # one metre, second or m2/s
+GRAVITY = 9.81
+WALL, OPEN = 0, 1
+
+# bed: n + 1 numbers; friction: n; cells: n times (level, its slope, discharge, its slope)
+Reach = namedtuple("Reach", "dx dt jump left right bed friction cells")
+
+# What crossed the two ends since the start, and the cells, after some number of steps.
+State = namedtuple("State", "crossed cells")
+
+
+def units(metres):
+    """The nearest whole number of 1/4096."""
+    return round(metres * UNIT)
+
+
+def text_of(reach):
+    numbers = [len(reach.cells), reach.dx, reach.dt, reach.jump, reach.left, reach.right]
+    numbers += reach.bed + reach.friction
+    for cell in reach.cells:
+        numbers += cell
+    return " ".join(map(str, numbers)) + "\n"
+
+
+def run(command, reach, steps, every):
+    return subprocess.run(command + [str(steps), str(every)], input=text_of(reach),
+                          capture_output=True, text=True)
+
+
+def lines_of(command, reach, steps, every):
+    """One line a state, as the program writes it; the first is the start."""
+    done = run(command, reach, steps, every)
+    if done.returncode != 0:
+        raise SystemExit(done.stderr)
+    return done.stdout.splitlines()
+
+
+def refusal_of(command, reach, steps):
+    """The first step that is refused and its number, or None where all are accepted."""
+    done = run(command, reach, steps, steps)
+    if done.returncode == 0:
+        return None
+    found = re.search(r"step (\d+) is refused with (\d+)", done.stderr)
+    if found is None:
+        raise SystemExit(done.stderr)
+    return int(found.group(1)), int(found.group(2))
+
+
+def state_of(line):
+    numbers = [int(word) for word in line.split()]
+    cells = [tuple(numbers[k:k + 4]) for k in range(2, len(numbers), 4)]
+    return State((numbers[0], numbers[1]), cells)
+
+
+def stepped(command, reach, steps, every):
+    return [state_of(line) for line in lines_of(command, reach, steps, every)]
