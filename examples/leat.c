@@ -87,7 +87,7 @@ static const char *advice(uint32_t refusal)
         "4: a friction value is over 200. Give Manning's n in thousandths, 30 for 0.030",
         "5: a depth or a discharge of the present state is out of range. Look for a level below the bed",
         "6: the water is faster than 32 m/s. Start with deeper water, or a lower or smoother wave",
-        "7: the time step is too long for these cells. Shorten dt, or lengthen dx",
+        "7: the time step is too long for these cells. Shorten dt to a third of dx/S, or lengthen dx",
         "8: a depth or a discharge has grown too large. Start with less water or less discharge",
     };
     return refusal >= 1 && refusal <= 8 ? words[refusal - 1] : "a number that the library never gives";

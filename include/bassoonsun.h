@@ -68,7 +68,7 @@ extern "C" {
  *   5  the present state has a face depth or a face discharge out of range
  *   6  the water is faster than 32 m/s: in a cell before friction, at a face, or at a Gauss point
  *   7  the time step is too long for the top speed S at some face: 2*dt*S is over 4096*dx.
- *      Try a shorter dt
+ *      Try a third of dx/S; the longest step that is accepted is not stable
  *   8  after stage one, or at the end, a depth or a discharge is too large. It is never a depth
  *      below nought
  *

@@ -2,8 +2,8 @@
 
     report.py [--check] PROGRAM...     PROGRAM is how to run reach, an emulator's words first
 
-With --check nothing is written, and the exit status is 1 where a table or a picture in the tree is
-not the one just made.
+With --check nothing is written; the page and each picture is a case, failed where it is not the one
+just made, and the last line is 'N passed, M failed'. The exit status is 1 when one failed.
 """
 
 import re
@@ -56,6 +56,8 @@ def main(words):
         if not check:
             path.parent.mkdir(exist_ok=True)
             path.write_text(contents[path], encoding="utf-8")
+    if check:
+        print("%d passed, %d failed" % (len(contents) - len(stale), len(stale)))
     return 1 if check and stale else 0
 
 

@@ -7,4 +7,5 @@ pub mod Tests
 pub mod Quotient
 pub mod Choice
 pub mod Largest
+pub mod Root
 pub mod Machine

@@ -1,62 +1,58 @@
--- The search for the wave speed keeps a number that passes below it and one that fails above it, until they are neighbours.
-use Prim.Native.Nat.{_≤_, _<_, _*_, _-_, _+_, _/_}
+-- The turns end at the wave speed or above it, and from there the search goes down to it.
+use Prim.Native.Nat.{ℕ, _+_, _-_, _*_, _^_, _≤_, _<_}
+use native.Mathlib.Nat.{mul-le-mul, mul-le-mul-left}
 use native.Mathlib.Omega.{arith}
-use native.Mathlib.Nat.{mul-le-mul}
 use Rattle.rules.specs.Laws.Speeds.{wave-by}
 use Rattle.face.proofs.search.fastest_wave.Statement.{statement}
 use Rattle.face.proofs.search.fastest_wave.Tie as tie
 
 abbrev Inv-loop : tie.InvT-loop
-Inv-loop h n low₀ high₀ low high = (low < high) × ((high ≤ 131072) × ((100 * (low * low) ≤ n) × (n < 100 * (high * high))))
+Inv-loop h y a₀ a = (a < 2 ^ 32) × (y < (a + 1) * (a + 1))
 
 abbrev μ-loop : tie.MeasureT-loop
-μ-loop h n low₀ high₀ low high = high - low
+μ-loop h y a₀ a = a
 
-mul-n : tie.Need-mul-n Inv-loop μ-loop
-mul-n c = omega arith
-
-loop-holds : tie.Need-loop-holds Inv-loop μ-loop
-loop-holds c = omega arith
-
-sub-loop : tie.Need-sub-loop Inv-loop μ-loop
-sub-loop c = omega arith
-
-sub-mid : tie.Need-sub-mid Inv-loop μ-loop
-sub-mid c = omega arith
-
-add-mid : tie.Need-add-mid Inv-loop μ-loop
-add-mid c = omega arith
-
-mul-if1 : tie.Need-mul-if1 Inv-loop μ-loop
-mul-if1 c =
-    let low = c .before .loop .low in let high = c .before .loop .high in
-    let m : low + (high - low) / 2 ≤ 131072 = omega arith in
-    omega (arith, mul-le-mul m m)
-
-mul-if1-2 : tie.Need-mul-if1-2 Inv-loop μ-loop
-mul-if1-2 c =
-    let low = c .before .loop .low in let high = c .before .loop .high in
-    let m : low + (high - low) / 2 ≤ 131072 = omega arith in
-    omega (arith, mul-le-mul m m)
-
-loop-less : tie.Need-loop-less Inv-loop μ-loop
-loop-less c = omega arith
-
-loop-again : tie.Need-loop-again Inv-loop μ-loop
-loop-again c = omega arith
-
-loop-less-2 : tie.Need-loop-less-2 Inv-loop μ-loop
-loop-less-2 c = omega arith
-
-loop-again-2 : tie.Need-loop-again-2 Inv-loop μ-loop
-loop-again-2 c = omega arith
+-- the square of a number below 2^32 fits, and is nought only where the number is
+square-most : (a : ℕ) → a < 2 ^ 32 → a * a ≤ a * 4294967295
+square-most a h = mul-le-mul-left a (omega arith)
 
 returns : tie.Need-returns Inv-loop μ-loop
-returns c =
-    let s = c .before .before in
-    let low = c .before .loop .low in let high = c .before .loop .high in
-    let e : high ≤ low + 1 = omega arith in
-    wave-by (s .args .h) low (s .pre) (omega arith) (omega (arith, mul-le-mul e e))
+returns c = wave-by (c .before .args .h) 0 (c .before .pre) (omega arith) (omega arith)
+
+mul-y : tie.Need-mul-y Inv-loop μ-loop
+mul-y c = omega arith
+
+guess-requires : tie.Need-guess-requires Inv-loop μ-loop
+guess-requires c κs = omega arith
+
+turn-requires : tie.Need-turn-requires Inv-loop μ-loop
+turn-requires c κs = omega (arith, c .guess .ensures)
+
+turn-requires-2 : tie.Need-turn-requires-2 Inv-loop μ-loop
+turn-requires-2 c κs = omega (arith, c .before .guess .ensures, c .turn .ensures)
+
+loop-holds : tie.Need-loop-holds Inv-loop μ-loop
+loop-holds c = omega (arith, c .turn2 .ensures)
+
+mul-loop : tie.Need-mul-loop Inv-loop μ-loop
+mul-loop c = omega (arith, square-most (c .loop .a) (c .loop .inv .0))
+
+sub-a : tie.Need-sub-a Inv-loop μ-loop
+sub-a c = omega (arith, square-most (c .before .loop .a) (c .before .loop .inv .0))
+
+loop-less : tie.Need-loop-less Inv-loop μ-loop
+loop-less c = omega (arith, square-most (c .before .loop .a) (c .before .loop .inv .0))
+
+loop-again : tie.Need-loop-again Inv-loop μ-loop
+loop-again c =
+    let a = c .before .loop .a in
+    let e : a ≤ a - 1 + 1 = omega arith in
+    omega (arith, mul-le-mul e e)
+
+returns-2 : tie.Need-returns-2 Inv-loop μ-loop
+returns-2 c =
+    let s = c .before .before .before .before .before .before in
+    wave-by (s .args .h) (c .before .loop .a) (s .pre) (omega arith) (omega arith)
 
 pub fastest-wave-spec : {M : Type 1} → statement M
 fastest-wave-spec =
@@ -64,15 +60,14 @@ fastest-wave-spec =
     (tie.spec
     Inv-loop
     μ-loop
-    mul-n
+    returns
+    mul-y
+    guess-requires
+    turn-requires
+    turn-requires-2
     loop-holds
-    sub-loop
-    sub-mid
-    add-mid
-    mul-if1
-    mul-if1-2
+    mul-loop
+    sub-a
     loop-less
     loop-again
-    loop-less-2
-    loop-again-2
-    returns)
+    returns-2)

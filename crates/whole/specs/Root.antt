@@ -1,0 +1,24 @@
+-- Newton's turns toward a root: a turn from x goes to the mean of x and y / x, rounded down.
+-- Assumes nothing.
+use Prim.Native.Nat.{ℕ, _+_, _*_, _/_, _≤_, _<_}
+use native.Mathlib.Nat as NatL
+use native.Mathlib.Omega.{arith}
+use native.Mathlib.Decide.{decLe}
+use Rattle.whole.specs.Parts.{cross}
+
+-- four times a product is at most the square of the sum, as the square of the difference is not negative
+pub four-products : (a b : ℕ) → 4 * (a * b) ≤ (a + b) * (a + b)
+four-products a b = go (decLe a b)
+  where
+    go : Dec (a ≤ b) → 4 * (a * b) ≤ (a + b) * (a + b)
+    go (yes h) = omega (arith, cross h h)
+    go (no h) = let g : b ≤ a = omega arith in omega (arith, cross g g)
+
+-- wherever a turn starts, it ends at the whole root or above: the next number has a square above y
+pub turn-above : (y x : ℕ) → 0 < x → y < ((x + y / x) / 2 + 1) * ((x + y / x) / 2 + 1)
+turn-above y x p =
+    let q = y / x in
+    let m = (x + q) / 2 in
+    let below : y < x * (q + 1) = NatL.lt-mul-div-succ y p in
+    let next : x + (q + 1) ≤ 2 * (m + 1) = omega arith in
+    omega (arith, below, four-products x (q + 1), NatL.mul-le-mul next next)
