@@ -1,4 +1,5 @@
 // An answer and what `next` holds, in one line.
+use crate::read::field;
 use libc::STDOUT_FILENO;
 use std::num::wrapping_add_u64;
 use step::Answer;
@@ -45,31 +46,35 @@ fn show_sum(t: &[i32]) {
     io::print_decimal(STDOUT_FILENO, sum);
 }
 
-pub fn answer(name: &[u8], a: Answer) {
-    io::write_all(STDOUT_FILENO, name);
+fn show_answer(a: Answer) {
     match a {
         Answer::Refused(k) => {
-            io::write_all(STDOUT_FILENO, b": refused");
+            io::write_all(STDOUT_FILENO, b" refused");
             show(k as i64);
         }
         Answer::Accepted(w, v) => {
-            io::write_all(STDOUT_FILENO, b": accepted");
+            io::write_all(STDOUT_FILENO, b" accepted");
             show(w);
             show(v);
         }
     }
 }
 
-pub fn line(name: &[u8], a: Answer, next: &[i32]) {
-    answer(name, a);
-    io::write_all(STDOUT_FILENO, b", next");
-    show_table(next);
-    io::write_all(STDOUT_FILENO, b"\n");
+fn show_next(next: &[i32]) {
+    if next.len() < 17 {
+        io::write_all(STDOUT_FILENO, b", next");
+        show_table(next);
+    } else {
+        io::write_all(STDOUT_FILENO, b", sum of next");
+        show_sum(next);
+    }
 }
 
-pub fn long_line(name: &[u8], a: Answer, next: &[i32]) {
-    answer(name, a);
-    io::write_all(STDOUT_FILENO, b", sum of next");
-    show_sum(next);
+// The name of a case with its colon, and what came of it.
+pub fn line_of(case: &[u8], a: Answer, next: &[i32]) {
+    let n = field(case, 1);
+    io::write_all(STDOUT_FILENO, &case[0..n]);
+    show_answer(a);
+    show_next(next);
     io::write_all(STDOUT_FILENO, b"\n");
 }

@@ -1,6 +1,6 @@
 // The wave speed and the cube-root number of a depth, each the largest number that passes a test.
-// The wave speed is a root, reached by Newton's turns; the cube root is searched by halving, with
-// the same number of turns for every depth.
+// Each is a root: turns of Newton's method go from a guess to it, or a little above it, and a search
+// goes down from there.
 ghost use mathlib.Core.Path.{_≡_};
 ghost use Prim.Native.Nat.{_+_, _*_, _^_, _≤_, _<_};
 ghost use lib.IntN.{pos};
@@ -46,23 +46,60 @@ fn fastest_wave(h: u64) -> u64
     a
 }
 
-// The largest c whose cube is at most 16,777,216·h: 15 turns, as it stays below 2^15.
+// 32,768 times the cube root of 2, of 4 and of 8.
+fn cube_scale(part: u64) -> u64
+    ensures { λ r. ⌜ r ≤ 65536 ⌝ }
+{
+    match part {
+        0 => 41285,
+        1 => 52016,
+        _ => 65536,
+    }
+}
+
+// A first guess at 256 times the cube root of h, within a thousandth of it and rounded up. The
+// twelve bits of h from the first that is set are a number t from 2,048 to 4,095, and a polynomial
+// of degree 2 comes near 2^36 times the cube root of t / 4,096. What is left is the cube root of a
+// power of two. No proof rests on how near: it only decides how far the search still goes.
+fn cube_guess(h: u64) -> u64
+    requires { ⌜ 0 < h ⌝ }
+    ensures { λ r. ⌜ (0 < r) × (r < 2 ^ 32) ⌝ }
+{
+    let zeros = u64::leading_zeros(h) as u64;
+    let t = (h << zeros) >> 52;
+    let top = 63 - zeros;
+    let near = 33898930000 + t * (11703300 - 784 * t);
+    1 + (((near * cube_scale(top % 3)) << (top / 3)) >> 43)
+}
+
+// A turn of Newton's method toward the cube root of y, held to 16,384, whose cube is the largest y:
+// it ends at the whole cube root or above it.
+fn cube_turn(y: u64, x: u64) -> u64
+    requires { ⌜ (y ≤ 2 ^ 42) × ((0 < x) × (x < 2 ^ 32)) ⌝ }
+    ensures { λ r. ⌜ (y < (r + 1) * (r + 1) * (r + 1)) × (r ≤ 16384) ⌝ }
+{
+    let end = (2 * x + y / (x * x)) / 3;
+    if end < 16384 {
+        return end;
+    }
+    16384
+}
+
+// The largest c whose cube is at most 16,777,216·h. One turn ends at it, or 1 above it at 787 of the
+// 262,144 depths that are not dry.
 fn largest_cube(h: u64) -> u64
     requires { ⌜ h ≤ 262144 ⌝ }
     ensures { λ r. ⌜ r ≡ cubeOf h ⌝ }
 {
-    let n = 16777216 * h;
-    let mut low: u64 = 0;
-    let mut high: u64 = 32768;
-    while 1 < high - low {
-        let mid = low + (high - low) / 2;
-        if mid * mid * mid <= n {
-            low = mid;
-        } else {
-            high = mid;
-        }
+    if h == 0 {
+        return 0;
     }
-    low
+    let y = 16777216 * h;
+    let mut c = cube_turn(y, cube_guess(h));
+    while y < c * c * c {
+        c -= 1;
+    }
+    c
 }
 
 pub fn wave_of(h: i64) -> i64

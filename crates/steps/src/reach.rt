@@ -1,4 +1,5 @@
-// What a reach is drawn from, and one face of its bed or one cell of its state.
+// What a reach is drawn from: one number, from which each of its kinds follows, and one face of its bed
+// or one cell of its state.
 use crate::draw::above;
 use crate::draw::below;
 use crate::draw::either;
@@ -10,20 +11,6 @@ use crate::draw::turned;
 use std::num::wrapping_add_u64;
 use std::num::wrapping_sub_u64;
 
-pub struct Reach {
-    pub n: usize,
-    // which kind of bed, of depths, of discharges
-    pub bed: u64,
-    pub mix: u64,
-    pub flow: u64,
-    // speeds reach about 2 to this power in 1/16 m/s
-    pub fast: u64,
-    // a depth or a level that the cells share
-    pub base: u64,
-    pub rough: u64,
-    pub seed: u64,
-}
-
 // Level and discharge, means and slopes, as 64 bits each.
 pub struct Cell {
     pub e0: u64,
@@ -32,8 +19,8 @@ pub struct Cell {
     pub q1: u64,
 }
 
-fn cells(x: u64) -> usize {
-    match x % 128 {
+pub fn cells(r: u64) -> usize {
+    match r % 128 {
         0..=29 => 1,
         30..=65 => 2,
         66..=99 => 3,
@@ -42,43 +29,64 @@ fn cells(x: u64) -> usize {
     }
 }
 
-fn roughness(x: u64) -> u64 {
-    match x % 8 {
-        0..=2 => 0,
-        3 => 1,
-        4..=5 => 30,
-        _ => 200,
+// A long reach drawn freely is refused nearly always.
+fn calm(r: u64) -> bool {
+    16 < cells(r) && following(r) % 8 != 0
+}
+
+// A kind of bed, depth or discharge, of 16; in a calm reach from `low` on, and m more.
+fn kind(r: u64, at: u64, low: u64, m: u64) -> u64 {
+    let a = following(r);
+    if calm(r) {
+        wrapping_add_u64(low, a % (m % 16 + 1))
+    } else {
+        (a >> (at % 16)) % 16
     }
+}
+
+// Speeds reach about 2 to this power in 1/16 m/s.
+fn fast(r: u64) -> u64 {
+    let b = following(following(r));
+    if calm(r) { b % 6 } else { b % 10 }
+}
+
+pub fn roughness(r: u64) -> u64 {
+    let k = (following(r) >> 12) % 8;
+    [0u64, 0, 0, 1, 30, 30, 200, 200][k as usize]
 }
 
 // The depth or level that the cells share: near nought, near the dry depth, shallow, ordinary, deep.
-fn shared(x: u64) -> u64 {
-    match x % 16 {
-        0 => pick(x, 12),
-        1..=3 => above(x, 4, 60),
-        4..=7 => pick(x, 1000),
-        8..=12 => above(x, 400, 8000),
-        13..=14 => above(x, 400, 60000),
-        _ => below(x, 262144, 40),
+fn shared(r: u64) -> u64 {
+    let x = following(following(r)) >> 4;
+    let low = [0u64, 4, 4, 4, 0, 0, 0, 0, 400, 400, 400, 400, 400, 400, 400];
+    let more = [
+        12u64,
+        60,
+        60,
+        60,
+        1000,
+        1000,
+        1000,
+        1000,
+        8000,
+        8000,
+        8000,
+        8000,
+        8000,
+        60000,
+        60000,
+    ];
+    let k = (x % 16) as usize;
+    if k < 15 {
+        above(x, low[k], more[k])
+    } else {
+        below(x, 262144, 40)
     }
 }
 
-pub fn drawn(x: u64) -> Reach {
-    let n = cells(x);
-    let a = following(x);
-    let b = following(a);
-    // a long reach drawn freely is refused nearly always
-    let calm = 16 < n && a % 8 != 0;
-    Reach {
-        n: n,
-        bed: if calm { a % 7 } else { a % 16 },
-        mix: if calm { 9 } else { (a >> 4) % 16 },
-        flow: if calm { 3 + a % 2 } else { (a >> 8) % 16 },
-        fast: if calm { b % 6 } else { b % 10 },
-        base: shared(b >> 4),
-        rough: roughness(a >> 12),
-        seed: following(b),
-    }
+// What the faces and cells are drawn from.
+pub fn seed(r: u64) -> u64 {
+    following(following(following(r)))
 }
 
 // Half a bed value moved by at most m either way, within the range of a bed.
@@ -87,45 +95,35 @@ fn rolled(z: u64, x: u64, m: u64) -> u64 {
     if 0x8000_0000 < y { 0 } else { least(y, 524288) }
 }
 
+// Half the first bed value; under the kinds with a level, low enough for one that covers it.
+pub fn first_face(r: u64) -> u64 {
+    pick(seed(r), if 7 < kind(r, 4, 9, 0) { 9000 } else { 524288 })
+}
+
 // Half a bed value after z: flat, rolling, broken, free, or one of the limits.
-pub fn face(kind: u64, z: u64, x: u64) -> u64 {
-    match kind {
-        0..=4 => z,
-        5..=6 => rolled(z, x, 2),
-        7..=8 => rolled(z, x, 40),
-        9..=10 => rolled(z, x, 1000),
-        11..=12 => if x % 2 == 0 {
-            9000
-        } else {
-            above(x, 9000, 3000)
-        },
-        13..=14 => pick(x, 524288),
-        _ => match x % 4 {
-            0 => 0,
-            1 => 1,
-            2 => 524287,
-            _ => 524288,
-        },
+pub fn face(r: u64, z: u64, x: u64) -> u64 {
+    let k = kind(r, 0, 0, 6);
+    if k < 11 {
+        rolled(
+            z,
+            x,
+            [0u64, 0, 0, 0, 0, 2, 2, 40, 40, 1000, 1000][k as usize],
+        )
+    } else if k < 13 {
+        above(x, 9000, x % 2 * 3000)
+    } else if k < 15 {
+        pick(x, 524288)
+    } else {
+        [0u64, 1, 524287, 524288][(x % 4) as usize]
     }
 }
 
-// Which kind of depth a cell has in a mix.
+// Which kind of depth a cell has in a mix: one, or one of some.
 fn kind_in(mix: u64, x: u64) -> u64 {
-    match mix {
-        0 => x % 2,
-        1 => 1 + x % 2,
-        2 => 2,
-        3 => 3,
-        4 => x % 4,
-        5 => 2 + x % 2,
-        6 => 4,
-        7 => 3 + x % 2,
-        8 => 5,
-        9..=11 => 6,
-        12 => 7,
-        13..=14 => 8,
-        _ => x % 9,
-    }
+    let k = (mix % 16) as usize;
+    let first = [0u64, 1, 2, 3, 0, 2, 4, 3, 5, 6, 6, 6, 7, 8, 8, 0];
+    let more = [1u64, 1, 0, 0, 3, 1, 0, 1, 0, 0, 0, 0, 0, 0, 0, 8];
+    wrapping_add_u64(first[k], x % (more[k] % 16 + 1))
 }
 
 // A depth at a face where half the bed is z.
@@ -153,52 +151,70 @@ fn level_depth(level: u64, z: u64) -> u64 {
     }
 }
 
-// A discharge at a face of depth h; `all` is the same for every face of a reach.
-fn discharge(flow: u64, fast: u64, h: u64, x: u64, all: u64) -> u64 {
-    match flow {
+// A discharge at a face of depth h, drawn from x or, in some reaches, the same at every face.
+fn discharge(r: u64, h: u64, x: u64) -> u64 {
+    let k = kind(r, 8, 3, 1);
+    let most = (h << (fast(r) % 16)) >> 4;
+    match k {
         0..=2 => 0,
-        3..=9 => either(x, (h << (fast % 16)) >> 4),
-        10..=12 => either(all, (h << (fast % 16)) >> 4),
-        // at the greatest speed, or a little to either side of it
-        13..=14 => turned(wrapping_add_u64(below(x, h << 5, 3), (x >> 9) % 8 / 7), all),
-        // at the greatest discharge that such a speed allows, or a little below
-        _ => turned(below(x, least(h << 5, 8388608), 2), all),
+        3..=9 => either(x, most),
+        10..=12 => either(seed(r), most),
+        _ => turned(greatest(k, h << 5, x), seed(r)),
+    }
+}
+
+// At the greatest speed, or a little to either side of it, or at the greatest discharge that such a
+// speed allows, or a little below.
+fn greatest(kind: u64, most: u64, x: u64) -> u64 {
+    if kind < 15 {
+        wrapping_add_u64(below(x, most, 3), (x >> 9) % 8 / 7)
+    } else {
+        below(x, least(most, 8388608), 2)
     }
 }
 
 // The right face's depth: its own, the left one's, or none.
 fn right_depth(kind: u64, left: u64, own: u64, x: u64) -> u64 {
-    if 7 < kind {
+    if 7 < kind || 3 < x % 8 {
         return own;
     }
-    match x % 8 {
-        0..=2 => left,
-        3 => if kind < 4 { 0 } else { own },
-        _ => own,
+    if x % 8 < 3 {
+        return left;
+    }
+    if kind < 4 { 0 } else { own }
+}
+
+// A cell of the given depths and discharges over half beds zl and zr.
+pub fn over(zl: u64, zr: u64, h0: u64, h1: u64, q0: u64, q1: u64) -> Cell {
+    Cell {
+        e0: wrapping_add_u64(h0, wrapping_add_u64(zl, zr)),
+        e1: wrapping_add_u64(h1, wrapping_sub_u64(zr, zl)),
+        q0: q0,
+        q1: q1,
     }
 }
 
-// A cell between faces where half the bed is zl and zr.
-pub fn drawn_cell(r: Reach, zl: u64, zr: u64, x: u64) -> Cell {
-    let a = following(x);
-    let b = following(a);
-    let c = following(b);
-    let d = following(c);
-    let k = kind_in(r.mix, x);
-    let hl = depth(k, r.base, zl, a);
-    let hr = right_depth(k, hl, depth(k, r.base, zr, b), c);
+// The same of the depths and discharges at the two faces; in some cells no slope of discharge.
+fn between(zl: u64, zr: u64, hl: u64, hr: u64, ql: u64, qr: u64, x: u64) -> Cell {
     let h0 = wrapping_add_u64(wrapping_add_u64(hl, hr), 1) >> 1;
-    let ql = discharge(r.flow, r.fast, hl, c, r.seed);
-    let qr = discharge(r.flow, r.fast, hr, d, r.seed);
     let q0 = half(wrapping_add_u64(ql, qr));
-    Cell {
-        e0: wrapping_add_u64(h0, wrapping_add_u64(zl, zr)),
-        e1: wrapping_add_u64(wrapping_sub_u64(hr, h0), wrapping_sub_u64(zr, zl)),
-        q0: q0,
-        q1: if d % 4 == 0 {
-            0
-        } else {
-            wrapping_sub_u64(qr, q0)
-        },
-    }
+    let q1 = if x % 4 == 0 {
+        0
+    } else {
+        wrapping_sub_u64(qr, q0)
+    };
+    over(zl, zr, h0, wrapping_sub_u64(hr, h0), q0, q1)
+}
+
+// A cell between faces where half the bed is zl and zr.
+pub fn drawn_cell(r: u64, zl: u64, zr: u64, x: u64) -> Cell {
+    let k = kind_in(kind(r, 4, 9, 0), x);
+    let a = following(x);
+    let hl = depth(k, shared(r), zl, a);
+    let b = following(a);
+    let own = depth(k, shared(r), zr, b);
+    let c = following(b);
+    let hr = right_depth(k, hl, own, c);
+    let d = following(c);
+    between(zl, zr, hl, hr, discharge(r, hl, c), discharge(r, hr, d), d)
 }

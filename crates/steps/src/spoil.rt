@@ -1,33 +1,58 @@
 // Faults, one or two in a call, so that the order of the refusals is tried too.
 use crate::draw::above;
+use crate::draw::following;
 use crate::draw::pick;
 use crate::draw::turned;
+use crate::fill::fill_bed;
+use crate::fill::fill_friction;
+use crate::fill::fill_over;
 use crate::fill::found;
 use crate::fill::put;
 use crate::fill::put_cell;
 use crate::fill::put_friction;
 use crate::fill::upto;
 use crate::reach::Cell;
+use crate::reach::cells;
+use crate::reach::over;
+ghost use Prim.Native.Nat.{_≤_};
 use std::num::wrapping_add_u64;
 use std::num::wrapping_add_usize;
 use std::num::wrapping_sub_u64;
 use std::num::wrapping_sub_usize;
 
-// How much of each table is lent.
-pub struct Lent {
-    pub state: usize,
-    pub next: usize,
-    pub bed: usize,
-    pub friction: usize,
+const LENGTHS: u64 = 1;
+
+const NUMBERS: u64 = 2;
+
+const BED: u64 = 4;
+
+const FRICTION: u64 = 8;
+
+const STATE: u64 = 16;
+
+// Which faults a call has, a bit for each: in most calls none, else one or two.
+fn faults(x: u64) -> u64 {
+    let a = following(x);
+    if a % 12 != 0 {
+        return 0;
+    }
+    (1 << ((a >> 3) % 5)) | (1 << ((a >> 8) % 16))
 }
 
-// The numbers beside the tables.
-pub struct Given {
-    pub dx: u32,
-    pub dt: u32,
-    pub jump: u32,
-    pub left: u32,
-    pub right: u32,
+// What a call that is drawn from x draws the numbers in its tables from.
+pub fn second(x: u64) -> u64 {
+    following(following(x))
+}
+
+// What it draws its lengths and the numbers beside the tables from.
+pub fn third(x: u64) -> u64 {
+    following(second(x))
+}
+
+// How long table k is for n cells: state, next, bed or friction.
+fn right_length(k: u64, n: usize) -> usize {
+    let m = upto(n, 1025);
+    [4 * m, 4 * m, m + 1, m][(k % 4) as usize]
 }
 
 // A length that is wrong by one or by more, or none.
@@ -41,79 +66,59 @@ fn wrong_length(a: usize, x: u64) -> usize {
 }
 
 // One table of a wrong length, or all of them right for no cell or for 1,025.
-pub fn wrong_lengths(l: Lent, x: u64) -> Lent {
-    let mut w = l;
+fn spoilt_length(k: u64, n: usize, x: u64) -> usize {
     match x % 8 {
-        0..=1 => {
-            w.state = wrong_length(l.state, x >> 3);
-        }
-        2..=3 => {
-            w.next = wrong_length(l.next, x >> 3);
-        }
-        4 => {
-            w.bed = wrong_length(l.bed, x >> 3);
-        }
-        5 => {
-            w.friction = wrong_length(l.friction, x >> 3);
-        }
-        6 => {
-            w = Lent {
-                state: 0,
-                next: 0,
-                bed: 1,
-                friction: 0,
-            };
-        }
-        _ => {
-            w = Lent {
-                state: 4100,
-                next: 4100,
-                bed: 1026,
-                friction: 1025,
-            };
+        6 => right_length(k, 0),
+        7 => right_length(k, 1025),
+        y => {
+            let a = right_length(k, n);
+            if [0u64, 0, 1, 1, 2, 3][(y % 6) as usize] == k {
+                wrong_length(a, x >> 3)
+            } else {
+                a
+            }
         }
     }
-    w
 }
 
-// One number outside its list.
-pub fn wrong_number(g: Given, x: u64) -> Given {
-    let mut w = g;
-    let much = x & 8 != 0;
-    match x % 8 {
-        0 => {
-            w.dx = 0;
-        }
-        1 => {
-            w.dx = if much { 0x8000_0000 } else { 1048577 };
-        }
-        2 => {
-            w.dt = 0;
-        }
-        3 => {
-            w.dt = if much { 65536 } else { 4097 };
-        }
-        4..=5 => {
-            w.jump = if much { 0xffff_ffff } else { 262145 };
-        }
-        6 => {
-            w.left = if much { 0x8000_0001 } else { 2 };
-        }
-        _ => {
-            w.right = if much { 0xffff_ffff } else { 2 };
-        }
+// How much of table k, which has m, is lent of the reach r.
+pub fn lent(k: u64, r: u64, m: usize, x: u64) -> usize
+    ensures { λ r. ⌜ r ≤ m ⌝ }
+{
+    let n = cells(r);
+    if faults(x) & LENGTHS == 0 {
+        return upto(right_length(k, n), m);
     }
-    w
+    upto(spoilt_length(k, n, third(x)), m)
 }
 
-// A place in a table of n: the first, the last or any.
-fn place(n: usize, x: u64) -> usize {
-    let m = upto(n, 1024);
-    match x % 4 {
-        0 => 0,
-        1 => m,
-        _ => pick(x, m as u64) as usize,
-    }
+// A number outside its list, just or by much: dx, dx, dt, dt, J, J and the two ends.
+fn wrong_number(x: u64) -> u64 {
+    let k = (x % 8) as usize;
+    let just = [0u64, 1048577, 0, 4097, 262145, 262145, 2, 2];
+    let much = [
+        0u64,
+        0x8000_0000,
+        0,
+        65536,
+        0xffff_ffff,
+        0xffff_ffff,
+        0x8000_0001,
+        0xffff_ffff,
+    ];
+    if x & 8 == 0 { just[k] } else { much[k] }
+}
+
+// Number k beside the tables: dx, dt, J and the kinds of the two ends. It is `right` where it has no fault.
+pub fn given(k: u64, right: u64, x: u64) -> u32 {
+    let y = third(x) >> 10;
+    let wrong = [0u64, 0, 1, 1, 2, 2, 3, 4][(y % 8) as usize];
+    let g = if faults(x) & NUMBERS != 0 && wrong == k {
+        wrong_number(y)
+    } else {
+        right
+    };
+    (g % 0x1_0000_0000) as u32
 }
 
 // A bed value that is odd or out of range; z is half of what it was.
@@ -129,6 +134,28 @@ fn wrong_bed(z: u64, x: u64) -> u64 {
     }
 }
 
+// Where a call's fault is in a table of n and one more: the first, the last or any. With no such fault
+// it is beyond every table, where nothing is put.
+fn place(fault: u64, n: usize, x: u64) -> usize {
+    if faults(x) & fault == 0 {
+        return 0xffff_ffff;
+    }
+    let m = upto(n, 1024);
+    let y = second(x) >> 3;
+    match y % 4 {
+        0 => 0,
+        1 => m,
+        _ => pick(y, m as u64) as usize,
+    }
+}
+
+// The bed of a call, with its fault.
+pub fn ready_bed(bed: &mut [i32], r: u64, x: u64) {
+    fill_bed(bed, r);
+    let k = place(BED, cells(r), x);
+    put(bed, k, wrong_bed(found(bed, k), second(x)));
+}
+
 fn wrong_friction(x: u64) -> u64 {
     match x % 4 {
         0 => 65535,
@@ -137,10 +164,15 @@ fn wrong_friction(x: u64) -> u64 {
     }
 }
 
+pub fn ready_friction(friction: &mut [u16], r: u64, x: u64) {
+    fill_friction(friction, r);
+    let k = place(FRICTION, wrapping_sub_usize(cells(r), 1), x);
+    put_friction(friction, k, wrong_friction(second(x)));
+}
+
 // A cell with one face depth or discharge just out of range, or a number as wide as an i32.
 fn wrong_cell(zl: u64, zr: u64, x: u64) -> Cell {
     let h = above(x, 8, 3000);
-    let c = over(zl, zr, h, 0, 0, 0);
     match x % 8 {
         0..=1 => over(zl, zr, h, turned(wrapping_add_u64(h, 1), x), 0, 0),
         2 => over(zl, zr, 262136, turned(9, x >> 3), 0, 0),
@@ -154,28 +186,15 @@ fn wrong_cell(zl: u64, zr: u64, x: u64) -> Cell {
             turned(8388600, x >> 3),
             turned(9, x >> 4),
         ),
-        6 => Cell {
-            e0: 0xffff_ffff_8000_0000,
-            e1: c.e1,
-            q0: 0,
-            q1: 0,
-        },
-        _ => Cell {
-            e0: c.e0,
-            e1: c.e1,
-            q0: 0x7fff_ffff,
-            q1: 0x7fff_ffff,
-        },
-    }
-}
-
-// A cell of the given depths and discharges over half beds zl and zr.
-fn over(zl: u64, zr: u64, h0: u64, h1: u64, q0: u64, q1: u64) -> Cell {
-    Cell {
-        e0: wrapping_add_u64(h0, wrapping_add_u64(zl, zr)),
-        e1: wrapping_add_u64(h1, wrapping_sub_u64(zr, zl)),
-        q0: q0,
-        q1: q1,
+        6 => over(
+            zl,
+            zr,
+            wrapping_sub_u64(0xffff_ffff_8000_0000, wrapping_add_u64(zl, zr)),
+            0,
+            0,
+            0,
+        ),
+        _ => over(zl, zr, h, 0, 0x7fff_ffff, 0x7fff_ffff),
     }
 }
 
@@ -192,53 +211,25 @@ fn racing_cell(zl: u64, zr: u64, x: u64) -> Cell {
     }
 }
 
-// Which faults a call has, a bit for each: in most calls none, else one or two.
-pub fn faults(x: u64) -> u64 {
-    if x % 12 != 0 {
-        return 0;
-    }
-    (1 << ((x >> 3) % 5)) | (1 << ((x >> 8) % 16))
-}
-
-pub const LENGTHS: u64 = 1;
-
-pub const NUMBERS: u64 = 2;
-
-const BED: u64 = 4;
-
-const FRICTION: u64 = 8;
-
-const STATE: u64 = 16;
-
-pub fn spoil_bed(f: u64, bed: &mut [i32], halves: &[u64], n: usize, x: u64) {
-    if f & BED == 0 {
-        return;
-    }
-    let k = place(n, x >> 3);
-    put(bed, k, wrong_bed(found(halves, k), x));
-}
-
-pub fn spoil_friction(f: u64, friction: &mut [u16], n: usize, x: u64) {
-    if f & FRICTION == 0 {
-        return;
-    }
-    put_friction(
-        friction,
-        place(wrapping_sub_usize(n, 1), x >> 3),
-        wrong_friction(x),
-    );
-}
-
-pub fn spoil_state(f: u64, state: &mut [i32], halves: &[u64], n: usize, x: u64) {
-    if f & STATE == 0 {
-        return;
-    }
-    let k = place(wrapping_sub_usize(n, 1), x >> 3);
-    let zl = found(halves, k);
-    let zr = found(halves, wrapping_add_usize(k, 1));
+fn spoilt_cell(zl: u64, zr: u64, x: u64) -> Cell {
     if (x >> 32) % 2 == 0 {
-        put_cell(state, k, wrong_cell(zl, zr, x));
+        wrong_cell(zl, zr, x)
     } else {
-        put_cell(state, k, racing_cell(zl, zr, x));
+        racing_cell(zl, zr, x)
     }
+}
+
+fn spoil_over(state: &mut [i32], bed: &[i32], r: u64, x: u64) {
+    let k = place(STATE, wrapping_sub_usize(cells(r), 1), x);
+    let zl = found(bed, k);
+    let zr = found(bed, wrapping_add_usize(k, 1));
+    put_cell(state, k, spoilt_cell(zl, zr, second(x)));
+}
+
+// The state of a call: of another reach where no tries are left, and with its fault.
+pub fn ready(state: &mut [i32], r: u64, tries: u64, x: u64) {
+    let mut bed = [0i32; 1025];
+    fill_bed(&mut bed, r);
+    fill_over(state, &bed, r, tries);
+    spoil_over(state, &bed, r, x);
 }

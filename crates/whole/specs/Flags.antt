@@ -52,6 +52,10 @@ pub no-or : (a b : Bool) → a ≡ false → b ≡ (a || b)
 no-or true b e = clash (sym e)
 no-or false b e = refl
 
+pub or-last : (b : Bool) → b ≡ (b || false)
+or-last true = refl
+or-last false = refl
+
 -- the same of `T`, where the test computes
 pub fst : (a b : Bool) → T (a && b) → T a
 fst true b t = tt

@@ -9,3 +9,4 @@ pub mod Choice
 pub mod Largest
 pub mod Root
 pub mod Machine
+pub mod Signs

@@ -1,4 +1,5 @@
--- Newton's turns toward a root: a turn from x goes to the mean of x and y / x, rounded down.
+-- Newton's turns toward a root: a turn from x goes to the mean of x and y / x, rounded down, or, toward a cube root, to
+-- the mean of x, x and y / x².
 -- Assumes nothing.
 use Prim.Native.Nat.{ℕ, _+_, _*_, _/_, _≤_, _<_}
 use native.Mathlib.Nat as NatL
@@ -22,3 +23,18 @@ turn-above y x p =
     let below : y < x * (q + 1) = NatL.lt-mul-div-succ y p in
     let next : x + (q + 1) ≤ 2 * (m + 1) = omega arith in
     omega (arith, below, four-products x (q + 1), NatL.mul-le-mul next next)
+
+-- 27 times a product of three numbers, two of them the same, is at most the cube of their sum: it is less by the square
+-- of t - x, times t + 8·x
+pub three-products : (x t : ℕ) → 27 * (x * x * t) ≤ (2 * x + t) * (2 * x + t) * (2 * x + t)
+three-products x t = omega (arith, NatL.mul-le-mul-left (t + 8 * x) (four-products x t))
+
+-- wherever a turn toward a cube root starts, it ends at the whole cube root or above
+pub cube-turn-above : (y x : ℕ) → 0 < x * x →
+    y < ((2 * x + y / (x * x)) / 3 + 1) * ((2 * x + y / (x * x)) / 3 + 1) * ((2 * x + y / (x * x)) / 3 + 1)
+cube-turn-above y x p =
+    let q = y / (x * x) in
+    let m = (2 * x + q) / 3 in
+    let below : y < x * x * (q + 1) = NatL.lt-mul-div-succ y p in
+    let next : 2 * x + (q + 1) ≤ 3 * (m + 1) = omega arith in
+    omega (arith, below, three-products x (q + 1), NatL.mul-le-mul (NatL.mul-le-mul next next) next)

@@ -1,4 +1,4 @@
--- `run` ends, as i counts up to 200, and keeps the tables' lengths.
+-- `run` ends, as i counts up to 200, and keeps the table's length.
 use lib.ListN.{length}
 use mathlib.Core.Path.{_≡_}
 use Prim.Native.Nat.{_≤_, _-_}
@@ -7,17 +7,22 @@ use Rattle.steps.proofs.run.Statement.{statement}
 use Rattle.steps.proofs.run.Tie as tie
 
 abbrev Inv-loop : tie.InvT-loop
-Inv-loop block state₀ next₀ bed₀ halves₀ friction₀ t₀ counts₀ i₀ state next bed halves friction t counts i =
-    (i ≤ 200) × (length state ≡ length state₀) × (length next ≡ length next₀) × (length bed ≡ length bed₀) × (length halves ≡ length halves₀) × (length friction ≡ length friction₀)
+Inv-loop block t₀ counts₀ state₀ i₀ t counts state i = (i ≤ 200) × (length state ≡ 4112)
 
 abbrev μ-loop : tie.MeasureT-loop
-μ-loop block state₀ next₀ bed₀ halves₀ friction₀ t₀ counts₀ i₀ state next bed halves friction t counts i = 200 - i
+μ-loop block t₀ counts₀ state₀ i₀ t counts state i = 200 - i
 
 loop-holds : tie.Need-loop-holds Inv-loop μ-loop
 loop-holds c = search needs
 
+slice-aggregate-another : tie.Need-slice-aggregate-another Inv-loop μ-loop
+slice-aggregate-another c = search needs
+
 another-requires : tie.Need-another-requires Inv-loop μ-loop
 another-requires c κs = search needs
+
+count-requires : tie.Need-count-requires Inv-loop μ-loop
+count-requires c κs = search needs
 
 add-i : tie.Need-add-i Inv-loop μ-loop
 add-i c = search needs
@@ -31,21 +36,6 @@ loop-again c = search needs
 line-requires : tie.Need-line-requires Inv-loop μ-loop
 line-requires c κs = search needs
 
-same-length : tie.Need-same-length Inv-loop μ-loop
-same-length c = search needs
-
-same-length-2 : tie.Need-same-length-2 Inv-loop μ-loop
-same-length-2 c = search needs
-
-same-length-3 : tie.Need-same-length-3 Inv-loop μ-loop
-same-length-3 c = search needs
-
-same-length-4 : tie.Need-same-length-4 Inv-loop μ-loop
-same-length-4 c = search needs
-
-same-length-5 : tie.Need-same-length-5 Inv-loop μ-loop
-same-length-5 c = search needs
-
 returns : tie.Need-returns Inv-loop μ-loop
 returns c = search needs
 
@@ -56,14 +46,11 @@ run-spec =
     Inv-loop
     μ-loop
     loop-holds
+    slice-aggregate-another
     another-requires
+    count-requires
     add-i
     loop-less
     loop-again
     line-requires
-    same-length
-    same-length-2
-    same-length-3
-    same-length-4
-    same-length-5
     returns)

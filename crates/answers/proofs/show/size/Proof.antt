@@ -1,7 +1,7 @@
 -- `size`: neither -1 - x of an x below nought nor any other x is beyond a u64.
 use mir.Facts.{toZ-ofZ}
 use borrow.Author.Needs.{needs}
-use Rattle.answers.proofs.Signs.{flip-fits, flip-size, above-size}
+use Rattle.whole.specs.Signs.{flip-fits, flip-size, above-size}
 use Rattle.answers.proofs.show.size.Statement.{statement}
 use Rattle.answers.proofs.show.size.Tie as tie
 

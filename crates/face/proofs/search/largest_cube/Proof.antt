@@ -1,62 +1,61 @@
--- The search for the cube-root number keeps a number that passes below it and one that fails above it, until they are neighbours.
-use Prim.Native.Nat.{_≤_, _<_, _*_, _-_, _+_, _/_}
+-- The turn ends at the cube-root number or above it, and from there the search goes down to it.
+use Prim.Native.Nat.{ℕ, _+_, _-_, _*_, _^_, _≤_, _<_}
+use native.Mathlib.Nat.{mul-le-mul, mul-le-mul-left}
 use native.Mathlib.Omega.{arith}
-use native.Mathlib.Nat.{mul-le-mul}
 use Rattle.rules.specs.Laws.Speeds.{cube-by}
 use Rattle.face.proofs.search.largest_cube.Statement.{statement}
 use Rattle.face.proofs.search.largest_cube.Tie as tie
 
 abbrev Inv-loop : tie.InvT-loop
-Inv-loop h n low₀ high₀ low high = (low < high) × ((high ≤ 32768) × ((low * low * low ≤ n) × (n < high * high * high)))
+Inv-loop h y c₀ c = (c ≤ 16384) × (y < (c + 1) * (c + 1) * (c + 1))
 
 abbrev μ-loop : tie.MeasureT-loop
-μ-loop h n low₀ high₀ low high = high - low
+μ-loop h y c₀ c = c
 
-mul-n : tie.Need-mul-n Inv-loop μ-loop
-mul-n c = omega arith
+square-most : (c : ℕ) → c ≤ 16384 → c * c ≤ c * 16384
+square-most c h = mul-le-mul-left c h
 
-loop-holds : tie.Need-loop-holds Inv-loop μ-loop
-loop-holds c = omega arith
-
-sub-loop : tie.Need-sub-loop Inv-loop μ-loop
-sub-loop c = omega arith
-
-sub-mid : tie.Need-sub-mid Inv-loop μ-loop
-sub-mid c = omega arith
-
-add-mid : tie.Need-add-mid Inv-loop μ-loop
-add-mid c = omega arith
-
-mul-if1 : tie.Need-mul-if1 Inv-loop μ-loop
-mul-if1 c =
-    let low = c .before .loop .low in let high = c .before .loop .high in
-    let m : low + (high - low) / 2 ≤ 32768 = omega arith in
-    omega (arith, mul-le-mul m m, mul-le-mul (mul-le-mul m m) m)
-
-mul-if1-2 : tie.Need-mul-if1-2 Inv-loop μ-loop
-mul-if1-2 c =
-    let low = c .before .loop .low in let high = c .before .loop .high in
-    let m : low + (high - low) / 2 ≤ 32768 = omega arith in
-    omega (arith, mul-le-mul m m, mul-le-mul (mul-le-mul m m) m)
-
-loop-less : tie.Need-loop-less Inv-loop μ-loop
-loop-less c = omega arith
-
-loop-again : tie.Need-loop-again Inv-loop μ-loop
-loop-again c = omega arith
-
-loop-less-2 : tie.Need-loop-less-2 Inv-loop μ-loop
-loop-less-2 c = omega arith
-
-loop-again-2 : tie.Need-loop-again-2 Inv-loop μ-loop
-loop-again-2 c = omega arith
+-- the cube fits, and is nought where the number is
+cube-most : (c : ℕ) → c ≤ 16384 → c * c * c ≤ c * 268435456
+cube-most c h = omega (arith, square-most c h, mul-le-mul (square-most c h) h)
 
 returns : tie.Need-returns Inv-loop μ-loop
-returns c =
-    let s = c .before .before in
-    let low = c .before .loop .low in let high = c .before .loop .high in
-    let e : high ≤ low + 1 = omega arith in
-    cube-by (s .args .h) low (s .pre) (omega arith) (omega (arith, mul-le-mul (mul-le-mul e e) e))
+returns c = cube-by (c .before .args .h) 0 (c .before .pre) (omega arith) (omega arith)
+
+mul-y : tie.Need-mul-y Inv-loop μ-loop
+mul-y c = omega arith
+
+cube-guess-requires : tie.Need-cube-guess-requires Inv-loop μ-loop
+cube-guess-requires c κs = omega arith
+
+cube-turn-requires : tie.Need-cube-turn-requires Inv-loop μ-loop
+cube-turn-requires c κs = omega (arith, c .cube-guess .ensures)
+
+loop-holds : tie.Need-loop-holds Inv-loop μ-loop
+loop-holds c = omega (arith, c .cube-turn .ensures)
+
+mul-loop : tie.Need-mul-loop Inv-loop μ-loop
+mul-loop c = omega (arith, square-most (c .loop .c) (c .loop .inv .0))
+
+mul-loop-2 : tie.Need-mul-loop-2 Inv-loop μ-loop
+mul-loop-2 c = omega (arith, cube-most (c .loop .c) (c .loop .inv .0))
+
+sub-c : tie.Need-sub-c Inv-loop μ-loop
+sub-c c = omega (arith, cube-most (c .before .loop .c) (c .before .loop .inv .0))
+
+loop-less : tie.Need-loop-less Inv-loop μ-loop
+loop-less c = omega (arith, cube-most (c .before .loop .c) (c .before .loop .inv .0))
+
+loop-again : tie.Need-loop-again Inv-loop μ-loop
+loop-again c =
+    let n = c .before .loop .c in
+    let e : n ≤ n - 1 + 1 = omega arith in
+    omega (arith, mul-le-mul (mul-le-mul e e) e)
+
+returns-2 : tie.Need-returns-2 Inv-loop μ-loop
+returns-2 c =
+    let s = c .before .before .before .before .before in
+    cube-by (s .args .h) (c .before .loop .c) (s .pre) (omega arith) (omega arith)
 
 pub largest-cube-spec : {M : Type 1} → statement M
 largest-cube-spec =
@@ -64,15 +63,14 @@ largest-cube-spec =
     (tie.spec
     Inv-loop
     μ-loop
-    mul-n
+    returns
+    mul-y
+    cube-guess-requires
+    cube-turn-requires
     loop-holds
-    sub-loop
-    sub-mid
-    add-mid
-    mul-if1
-    mul-if1-2
+    mul-loop
+    mul-loop-2
+    sub-c
     loop-less
     loop-again
-    loop-less-2
-    loop-again-2
-    returns)
+    returns-2)

@@ -1,9 +1,8 @@
-use mathlib.Core.Path.{_∙_, ap}
-use mathlib.Core.Bool.{Bool, true, false, _||_}
-use mathlib.Core.Path.{_≡_, refl}
+use mathlib.Core.Path.{_∙_}
 use mir.Facts.{toZ-ofZ}
 use borrow.Author.Needs.{needs}
 use borrow.Author.Tests.{eq-eqb, ne-eqb, lt-ltb, le-ltb}
+use Rattle.whole.specs.Flags.{or-last}
 use Rattle.rules.specs.Refusals.{any}
 use Rattle.finishing.specs.Says.{unfit}
 use Rattle.finishing.proofs.range.is_unfit.Statement.{statement}
@@ -38,10 +37,6 @@ returns-5 c =
 
 large-table-requires : tie.Need-large-table-requires
 large-table-requires c κs = search needs
-
-or-last : (b : Bool) → b ≡ (b || false)
-or-last true = refl
-or-last false = refl
 
 returns-6 : tie.Need-returns-6
 unfolding unfit any

@@ -1,16 +1,12 @@
-use mathlib.Core.Path.{_≡_, refl, sym, _∙_, ap}
-use mathlib.Core.Bool.{Bool, true, false, _||_}
+use mathlib.Core.Path.{_≡_, sym, _∙_, ap}
 use borrow.Author.Needs.{needs}
 use Rattle.whole.specs.Machine.{back}
 use Rattle.tables.specs.Cells.{Cell, asCell}
+use Rattle.whole.specs.Flags.{or-last}
 use Rattle.rules.specs.Refusals.{any, past}
 use Rattle.finishing.specs.Says.{widest, largeCell}
 use Rattle.finishing.proofs.range.large_cell.Statement.{statement}
 use Rattle.finishing.proofs.range.large_cell.Tie as tie
-
-or-last : (b : Bool) → b ≡ (b || false)
-or-last true = refl
-or-last false = refl
 
 abbrev cell : tie.Start → Cell
 cell s = asCell (s .args .t1)

@@ -1,7 +1,7 @@
 -- `bits`: neither -1 - x of an x below nought nor any other x is beyond a u64.
 use mir.Facts.{toZ-ofZ}
 use borrow.Author.Needs.{needs}
-use Rattle.steps.proofs.Signs.{flip-fits, flip-size, above-size}
+use Rattle.whole.specs.Signs.{flip-fits, flip-size, above-size}
 use Rattle.steps.proofs.draw.bits.Statement.{statement}
 use Rattle.steps.proofs.draw.bits.Tie as tie
 

@@ -1,7 +1,7 @@
 -- `narrow` takes the opposite of a number below 2^31.
 use native.Mathlib.Omega.{arith}
 use borrow.Author.Needs.{needs}
-use Rattle.steps.proofs.Signs.{turned-fits}
+use Rattle.whole.specs.Signs.{turned-fits}
 use Rattle.steps.proofs.draw.narrow.Statement.{statement}
 use Rattle.steps.proofs.draw.narrow.Tie as tie
 

@@ -1,19 +1,22 @@
 -- `fill_friction` ends, as i counts up to n, and keeps the table's length.
 use lib.ListN.{length}
 use mathlib.Core.Path.{_≡_}
-use Prim.Native.Nat.{_≤_, _-_}
+use Prim.Native.Nat.{_-_}
 use borrow.Author.Needs.{needs}
 use Rattle.steps.proofs.fill.fill_friction.Statement.{statement}
 use Rattle.steps.proofs.fill.fill_friction.Tie as tie
 
 abbrev Inv-loop : tie.InvT-loop
-Inv-loop friction₀ r n x₀ i₀ friction x i = (i ≤ n) × (n ≤ 1024) × (length friction ≡ length friction₀)
+Inv-loop friction₀ r n x₀ i₀ friction x i = length friction ≡ length friction₀
 
 abbrev μ-loop : tie.MeasureT-loop
 μ-loop friction₀ r n x₀ i₀ friction x i = n - i
 
-upto-requires : tie.Need-upto-requires Inv-loop μ-loop
-upto-requires c κs = search needs
+cells-requires : tie.Need-cells-requires Inv-loop μ-loop
+cells-requires c κs = search needs
+
+seed-requires : tie.Need-seed-requires Inv-loop μ-loop
+seed-requires c κs = search needs
 
 following-requires : tie.Need-following-requires Inv-loop μ-loop
 following-requires c κs = search needs
@@ -24,8 +27,8 @@ loop-holds c = search needs
 following-requires-2 : tie.Need-following-requires-2 Inv-loop μ-loop
 following-requires-2 c κs = search needs
 
-pick-requires : tie.Need-pick-requires Inv-loop μ-loop
-pick-requires c κs = search needs
+friction-at-requires : tie.Need-friction-at-requires Inv-loop μ-loop
+friction-at-requires c κs = search needs
 
 put-friction-requires : tie.Need-put-friction-requires Inv-loop μ-loop
 put-friction-requires c κs = search needs
@@ -51,11 +54,12 @@ fill-friction-spec =
     (tie.spec
     Inv-loop
     μ-loop
-    upto-requires
+    cells-requires
+    seed-requires
     following-requires
     loop-holds
     following-requires-2
-    pick-requires
+    friction-at-requires
     put-friction-requires
     add-i
     loop-less

@@ -1,4 +1,4 @@
--- `fill_pattern` ends, as i counts up to n, and keeps the table's length.
+-- `fill_pattern` ends, as i counts up to the table's length, and keeps that length.
 use lib.ListN.{length}
 use mathlib.Core.Path.{_≡_}
 use Prim.Native.Nat.{_≤_, _-_}
@@ -7,19 +7,22 @@ use Rattle.steps.proofs.fill.fill_pattern.Statement.{statement}
 use Rattle.steps.proofs.fill.fill_pattern.Tie as tie
 
 abbrev Inv-loop : tie.InvT-loop
-Inv-loop next₀ m x n p₀ i₀ next p i = (i ≤ n) × (length next ≡ length next₀)
+Inv-loop next₀ x p₀ i₀ next p i = (i ≤ length next₀) × (length next ≡ length next₀)
 
 abbrev μ-loop : tie.MeasureT-loop
-μ-loop next₀ m x n p₀ i₀ next p i = n - i
-
-upto-requires : tie.Need-upto-requires Inv-loop μ-loop
-upto-requires c κs = search needs
+μ-loop next₀ x p₀ i₀ next p i = length next₀ - i
 
 loop-holds : tie.Need-loop-holds Inv-loop μ-loop
 loop-holds c = search needs
 
-put-requires : tie.Need-put-requires Inv-loop μ-loop
-put-requires c κs = search needs
+narrow-requires : tie.Need-narrow-requires Inv-loop μ-loop
+narrow-requires c κs = search needs
+
+mul-t5 : tie.Need-mul-t5 Inv-loop μ-loop
+mul-t5 c = search needs
+
+slice-set-from-next : tie.Need-slice-set-from-next Inv-loop μ-loop
+slice-set-from-next c = search needs
 
 wrapping-add-u64-requires : tie.Need-wrapping-add-u64-requires Inv-loop μ-loop
 wrapping-add-u64-requires c κs = search needs
@@ -45,9 +48,10 @@ fill-pattern-spec =
     (tie.spec
     Inv-loop
     μ-loop
-    upto-requires
     loop-holds
-    put-requires
+    narrow-requires
+    mul-t5
+    slice-set-from-next
     wrapping-add-u64-requires
     add-i
     loop-less

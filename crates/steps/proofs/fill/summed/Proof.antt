@@ -1,23 +1,30 @@
--- `summed` ends: i counts up to n.
+-- `summed` ends: i counts up to the table's length.
+use lib.ListN.{length}
 use Prim.Native.Nat.{_≤_, _-_}
 use borrow.Author.Needs.{needs}
 use Rattle.steps.proofs.fill.summed.Statement.{statement}
 use Rattle.steps.proofs.fill.summed.Tie as tie
 
 abbrev Inv-loop : tie.InvT-loop
-Inv-loop sum t m n s₀ i₀ s i = i ≤ n
+Inv-loop sum t s₀ i₀ s i = i ≤ length t
 
 abbrev μ-loop : tie.MeasureT-loop
-μ-loop sum t m n s₀ i₀ s i = n - i
-
-upto-requires : tie.Need-upto-requires Inv-loop μ-loop
-upto-requires c κs = search needs
+μ-loop sum t s₀ i₀ s i = length t - i
 
 loop-holds : tie.Need-loop-holds Inv-loop μ-loop
 loop-holds c = search needs
 
-number-requires : tie.Need-number-requires Inv-loop μ-loop
-number-requires c κs = search needs
+mul-wide : tie.Need-mul-wide Inv-loop μ-loop
+mul-wide c = search needs
+
+shared-slice-copy-out-wide : tie.Need-shared-slice-copy-out-wide Inv-loop μ-loop
+shared-slice-copy-out-wide c = search needs
+
+wide-requires : tie.Need-wide-requires Inv-loop μ-loop
+wide-requires c κs = search needs
+
+bits-requires : tie.Need-bits-requires Inv-loop μ-loop
+bits-requires c κs = search needs
 
 mixed-requires : tie.Need-mixed-requires Inv-loop μ-loop
 mixed-requires c κs = search needs
@@ -40,9 +47,11 @@ summed-spec =
     (tie.spec
     Inv-loop
     μ-loop
-    upto-requires
     loop-holds
-    number-requires
+    mul-wide
+    shared-slice-copy-out-wide
+    wide-requires
+    bits-requires
     mixed-requires
     add-i
     loop-less

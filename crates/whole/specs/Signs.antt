@@ -1,4 +1,4 @@
--- A number with a sign, and what of it is a u64.
+-- A number with a sign, what of it is a u64, and the opposite of a number as an i32.
 -- Assumes nothing.
 use mathlib.Core.Path.{_≡_, refl}
 use mathlib.Core.Bool.{true, false, true≢false}
@@ -9,9 +9,10 @@ use borrow.Author.Tests.{ltb-true}
 use lib.Dec.{T}
 use lib.IntN.{ℤ, pos, negsuc, _-ℤ_, natAbs}
 use lib.Signed.{ltZ, nonNeg, mag}
-use mir.Syntax.{w64}
-use mir.Val.{Fits, SFits}
-use Rattle.whole.specs.Parts.{add-parts, eq-of}
+use mir.Facts.{toZ-ofZ}
+use mir.Syntax.{w32, w64}
+use mir.Val.{Fits, SFits, toZ}
+use Rattle.whole.specs.Parts.{Within, add-parts, b-lit, b-sub, eq-of, fit32}
 
 -- -1 - x of an x below nought
 flip : (a : ℕ) → negsuc 0 -ℤ negsuc a ≡ pos a
@@ -28,3 +29,10 @@ flip-size (negsuc a) h m = rw (flip a) (tt, record { fits = omega arith })
 pub above-size : (z : ℤ) → ltZ z (pos 0) ≡ false → mag z < 2 ^ 63 → T (nonNeg z) × Fits w64 (natAbs z)
 above-size (pos a) h m = (tt, record { fits = omega arith })
 above-size (negsuc a) h m = absurd (true≢false h)
+
+-- the opposite of a number below 2^31, as an i32
+minus-fits : (n : ℕ) → n < 2 ^ 31 → SFits w32 (pos 0 -ℤ pos n)
+minus-fits n h = let w : Within 2147483647 (pos n) = record { abs = omega arith } in fit32 (b-sub (b-lit (pos 0)) w) tt
+
+pub turned-fits : (n : ℕ) → n < 2 ^ 31 → SFits w32 (pos 0 -ℤ toZ w32 n)
+turned-fits n h = rw (toZ-ofZ {w = w32} {z = pos n} (record { sfits = h })) (minus-fits n h)

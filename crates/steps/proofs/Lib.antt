@@ -1,2 +1,0 @@
--- Laws of numbers with a sign.
-pub mod Signs
