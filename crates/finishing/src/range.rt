@@ -51,6 +51,7 @@ fn large_cell(x: [i64; 4]) -> bool
     is_past(WIDEST, x[3])
 }
 
+// Is a cell too large, or its bed?
 fn too_large(zl: i64, zr: i64, x: [i64; 4]) -> bool
     ensures { λ r. ⌜ r ≡ tooLarge (bedOf zl zr) (asCell x) ⌝ }
 {

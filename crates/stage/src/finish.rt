@@ -16,6 +16,6 @@ pub fn finish(u: &[[i64; 4]; 1024], bed: &[i32], jump: i64, n: usize, t: &mut [[
     requires { ⌜ (pos 0 ≤ℤ jump) × Within 262144 jump ⌝ }
     ensures { λ _. ⌜ (length (now (t .exit)) ≡ 1024) × Holds (now (t .exit)) n (finishIn n (now (bed .entry)) jump (seen (now (u .entry)))) ⌝ }
 {
-    // its answer is known
+    // true, as an unfinished table can always be worked
     let _done = finishing::finish(u, bed, jump, n, t);
 }
