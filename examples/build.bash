@@ -17,6 +17,16 @@ need() {
         { echo "install ${*:2} first" >&2; exit 2; }
 }
 
+# Sees to it that C programs can be built and run here.
+need_c() {
+    if [ "${#emulator[@]}" -eq 0 ]; then
+        need "$compiler" gcc libc6-dev
+    else
+        need "$compiler" gcc-x86-64-linux-gnu libc6-dev-amd64-cross
+        need "${emulator[0]}" qemu-user
+    fi
+}
+
 # Builds target/libbassoonsun.a; what rt says is shown only where it fails.
 build_library() {
     command -v rt >/dev/null 2>&1 || { echo "the Rattle toolchain's command rt is not on PATH" >&2; exit 2; }
@@ -28,17 +38,12 @@ build_library() {
 
 # Compiles the C file $1 and links it with the library, as $2; more arguments go to the compiler.
 build_program() {
-    if [ "${#emulator[@]}" -eq 0 ]; then
-        need "$compiler" gcc libc6-dev
-    else
-        need "$compiler" gcc-x86-64-linux-gnu libc6-dev-amd64-cross
-    fi
+    need_c
     "$compiler" -std=c11 -O2 -Wall -Wextra -Werror -I "$root/include" "${@:3}" \
         "$1" "$root/target/libbassoonsun.a" -o "$2" -lm || exit 2
 }
 
 # Runs the program $1 with the arguments after it.
 run_program() {
-    [ "${#emulator[@]}" -eq 0 ] || need "${emulator[0]}" qemu-user
     "${emulator[@]}" "$@"
 }
