@@ -1,16 +1,15 @@
 -- What can be worked, by the test and by the ranges; and that what the public function says leaves one answer and one table.
 -- Assumes nothing.
-use mathlib.Core.Path.{_≡_, refl, sym, _∙_, ap}
-use mathlib.Core.Bool.{Bool, true, false, not, _||_}
+use mathlib.Core.Path.{_≡_, sym, _∙_}
+use mathlib.Core.Bool.{Bool, false, not}
 use mathlib.Core.List.{List, [], _∷_}
 use Prim.Native.Nat.{ℕ, _+_, _≤_}
-use native.Mathlib.Omega.{arith}
 use borrow.Author.Tests.{eq-eqb, le-ltb}
 use lib.Dec.{eqb, ltb, eqb→eq, nltb→le}
 use lib.ListN.{length}
 use lib.IntN.{ℤ, pos}
 use lib.Signed.{ltZ, _≤ℤ_}
-use Rattle.whole.specs.Flags.{held, failed, clash, by, or-l, or-r, not-f}
+use Rattle.whole.specs.Flags.{held, failed, by, or-l, or-r, not-f}
 use Rattle.whole.specs.Parts.{Within, b-nonneg, range-b}
 use Rattle.whole.specs.Choice.{not-beyond, within-past}
 use Rattle.whole.specs.Tests.{lt-no, no-lt}
@@ -22,7 +21,7 @@ use Rattle.rules.specs.Reach.{State, Bed}
 use Rattle.rules.specs.Finishing.{finish}
 use Rattle.rules.specs.Refusals.{any, outside, past}
 use Rattle.rules.specs.Laws.Accept.{any-none}
-use Rattle.finishing.specs.Held.{bedAt, Ground, Wide, Rough, Unfinished}
+use Rattle.finishing.specs.Held.{bedAt, Rough, Unfinished}
 use Rattle.finishing.specs.Narrow.{reachBy, jumpBy}
 use Rattle.finishing.specs.Says.{widest, largeBed, largeCell, tooLarge, unfit, FinishSays}
 

@@ -10,7 +10,7 @@ use lib.ListN.{getD}
 use lib.IntN.{ℤ, pos, natAbs, _+ℤ_, _-ℤ_, _*ℤ_}
 use lib.Signed.{quotZ, ltZ, _≤ℤ_}
 use Rattle.whole.specs.Flags.{or-l, or-r}
-use Rattle.whole.specs.Parts.{Within, b-add, b-sub, b-lit, b-up, b-range, range-b, b-nonneg, abs-parts, one-part, le-trans, abs-mul}
+use Rattle.whole.specs.Parts.{Within, b-add, b-sub, b-lit, b-up, b-range, range-b, b-nonneg, abs-parts, one-part, abs-mul}
 use Rattle.whole.specs.Difference.{at, lit, _⊞_, _⊟_, ⊖, le!, eq!, le?}
 use Rattle.whole.specs.Quotient.{b-quot-by, abs-quot}
 use Rattle.whole.specs.Tests.{lt-no}

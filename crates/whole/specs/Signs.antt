@@ -1,8 +1,8 @@
 -- A number with a sign, what of it is a u64, and the opposite of a number as an i32.
 -- Assumes nothing.
-use mathlib.Core.Path.{_≡_, refl}
+use mathlib.Core.Path.{_≡_}
 use mathlib.Core.Bool.{true, false, true≢false}
-use Prim.Native.Nat.{ℕ, suc, _+_, _<_, _^_}
+use Prim.Native.Nat.{ℕ, suc, _<_, _^_}
 use native.Mathlib.Nat.{not-suc-le-zero}
 use native.Mathlib.Omega.{arith}
 use borrow.Author.Tests.{ltb-true}

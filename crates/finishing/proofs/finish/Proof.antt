@@ -11,10 +11,9 @@ use mir.Facts.{toZ-ofZ}
 use Rattle.whole.specs.Flags.{clash}
 use Rattle.tables.specs.Rows.{Filled}
 use Rattle.tables.specs.Cells.{asList, seen}
-use Rattle.rules.specs.Finishing.{finish}
-use Rattle.finishing.specs.Narrow.{reachBy, jumpBy, finishIn, finish-call}
+use Rattle.finishing.specs.Narrow.{finishIn, finish-call}
 use Rattle.finishing.specs.Says.{unfit}
-use Rattle.finishing.specs.Fit.{Workable, fit-works}
+use Rattle.finishing.specs.Fit.{fit-works}
 use Rattle.finishing.proofs.finish.Statement.{statement}
 use Rattle.finishing.proofs.finish.Tie as tie
 

@@ -16,12 +16,13 @@ use Rattle.whole.specs.Tests.{lt-no, lt-yes, no-lt}
 use Rattle.whole.specs.Choice.{sizeZ}
 use Rattle.tables.specs.Some.{some, some-none, some-yes}
 use Rattle.tables.specs.Cells.{Cell}
-use Rattle.rules.specs.Limits.{longestCell, longestStep, largestJump, highestBed, deepest, fullest}
+use Rattle.rules.specs.Limits.{longestCell, longestStep, largestJump, highestBed, deepest, fullest, fastest}
+use Rattle.rules.specs.Face.{speed}
 use Rattle.rules.specs.Lawful.{Lawful}
 use Rattle.rules.specs.Reach.{Reach, Call, State, ql, qr, Bed, under, h0, hl, hr}
 use Rattle.rules.specs.Stage.{faceAt}
 use Rattle.rules.specs.Step.{rubbed, stageOne, carry, next}
-use Rattle.rules.specs.Refusals.{outside, past, offCell, off, tooLong, badCall, badBed, chk, stageChecks, early, checks, verdict, refusal}
+use Rattle.rules.specs.Refusals.{outside, past, offCell, off, fastCell, fastFriction, tooLong, badCall, badBed, chk, stageChecks, early, checks, verdict, refusal}
 use Rattle.rules.specs.AtRest.{AtRest}
 use Rattle.rules.specs.Laws.Agree.{Same}
 use Rattle.rules.specs.Laws.Accept.{Clear, any-none, One, any-one, passed}
@@ -139,6 +140,14 @@ accepted r c s e =
     let p = passed 0 (early r c s) (chk 8 a ∷ stageChecks r c (stageOne r c s) ++ chk 8 b ∷ []) tt e in
     let q = passed 0 (chk 8 a ∷ stageChecks r c (stageOne r c s) ++ chk 8 b ∷ []) [] tt (p .1) in
     record { early = early-of r c s (p .0); brief = brief r c (stageOne r c s) (q .0 .1 .1 .1 .0); one = q .0 .0; end = q .0 .1 .1 .1 .1 .0 }
+
+-- and no cell of the state it starts from is faster than 131,072, with friction or without
+pub accepted-slow : (r : Reach) (c : Call) (s : State) → refusal r c s ≡ 0 → (i : ℕ) → i < r .n → past fastest (speed (c .dry) (s i .q0) (h0 (under r i) (s i))) ≡ false
+unfolding refusal checks early stageChecks fastFriction fastCell
+accepted-slow r c s e i l =
+    let a = some (off r (stageOne r c s)) (r .n) in let b = some (off r (next r c s)) (r .n) in
+    let p = passed 0 (early r c s) (chk 8 a ∷ stageChecks r c (stageOne r c s) ++ chk 8 b ∷ []) tt e in
+    some-none (fastFriction r c s) (r .n) (p .0 .1 .1 .1 .1 .0) i l
 
 -- no depth, mean or face, is below nought: in the state it starts from, in the finished stage one, in the end state
 pub record Depths (r : Reach) (s : State) : Type 0 where

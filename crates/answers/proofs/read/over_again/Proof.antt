@@ -1,7 +1,7 @@
 -- `over_again` ends: i counts up to 24.
 use lib.ListN.{length}
 use mathlib.Core.Path.{_≡_}
-use Prim.Native.Nat.{_≤_, _-_}
+use Prim.Native.Nat.{_-_}
 use borrow.Author.Needs.{needs}
 use Rattle.answers.proofs.read.over_again.Statement.{statement}
 use Rattle.answers.proofs.read.over_again.Tie as tie

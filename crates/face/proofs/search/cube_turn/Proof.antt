@@ -1,5 +1,5 @@
 -- A turn ends at the whole cube root or above it, and so does 16,384.
-use Prim.Native.Nat.{ℕ, _+_, _*_, _/_, _^_, _≤_, _<_}
+use Prim.Native.Nat.{ℕ, _*_, _^_, _≤_, _<_}
 use native.Mathlib.Nat.{div-le-self, mul-le-mul}
 use native.Mathlib.Omega.{arith}
 use Rattle.whole.specs.Root.{cube-turn-above}

@@ -1,5 +1,5 @@
 -- The turn ends at the cube-root number or above it, and from there the search goes down to it.
-use Prim.Native.Nat.{ℕ, _+_, _-_, _*_, _^_, _≤_, _<_}
+use Prim.Native.Nat.{ℕ, _+_, _-_, _*_, _≤_, _<_}
 use native.Mathlib.Nat.{mul-le-mul, mul-le-mul-left}
 use native.Mathlib.Omega.{arith}
 use Rattle.rules.specs.Laws.Speeds.{cube-by}

@@ -1,5 +1,5 @@
 -- A turn ends at the whole root or above it, and, from 4 or more, below 2^32.
-use Prim.Native.Nat.{ℕ, _*_, _/_, _^_, _≤_, _<_}
+use Prim.Native.Nat.{ℕ, _*_, _/_, _≤_}
 use native.Mathlib.Nat.{div-mul-le-self, mul-le-mul-left}
 use native.Mathlib.Omega.{arith}
 use Rattle.whole.specs.Root.{turn-above}
