@@ -1,3 +1,5 @@
+-- The last cell has no neighbour to its right, and so no inner face there.
+-- Any other is parted from the next where the levels that the two show differ by more than the jump.
 use mathlib.Core.Path.{_≡_, _∙_}
 use Prim.Native.Nat.{suc, _+_, _<_}
 use native.Mathlib.Omega.{arith}
