@@ -8,8 +8,8 @@ use lib.IntN.{ℤ}
 use lib.Ieee.{Float}
 use Rattle.rules.specs.Face.{Flux}
 use Rattle.rules.specs.Lent.{Outcome, refused, accepted}
-use Rattle.face.specs.Given.{Perhaps}
-use Rattle.face.specs.Given as given
+use Rattle.speeds.specs.Given.{Perhaps}
+use Rattle.speeds.specs.Given as given
 use Rattle.face.specs.Answers.{flux}
 use Rattle.face.specs.declared.answer.Carried.the-variants as carried
 use Rattle.double.specs.Root.{RootIs}

@@ -1,18 +1,19 @@
 // What crosses a face between water of depth hl and speed ul on its left and depth hr and speed ur
-// on its right. A wave speed is the one root of a side: it is worked once and passed on. No depth
-// here is below nought, so a depth of at most nought is none.
+// on its right. A wave speed is the one root of a side: it is worked once and passed on. A depth
+// that has a wave speed is not below nought, so a depth of at most nought is none.
 use crate::answer::Carried;
 use crate::choice::greatest;
 use crate::choice::least;
 use crate::choice::size;
-use crate::limits::side_fits;
-use crate::search::wave_of;
+use crate::limits::speed_fits;
+use speeds::answer::Whole;
 ghost use mathlib.Core.Path.{_≡_};
 ghost use mathlib.Core.Bool.{_&&_};
 ghost use Rattle.whole.specs.Parts.{Within};
-ghost use Rattle.rules.specs.Face.{none, mass, mixed, wet, alone, between};
+ghost use Rattle.rules.specs.Face.{none, wave, mass, mixed, wet, alone, between, face};
 ghost use Rattle.rules.specs.Laws.Sizes.{Sound};
-ghost use Rattle.face.specs.Given.{given, side, faceGiven};
+ghost use Rattle.speeds.specs.Given.{given};
+ghost use Rattle.face.specs.Given.{side, faceGiven};
 ghost use Rattle.face.specs.Answers.{flux};
 ghost use Rattle.face.specs.Sides.{Speeds, Edges, Apart, Mixable, uStarOf, aStarOf, leftOf, rightOf, topOf, pressureOf, wetOf};
 
@@ -132,13 +133,12 @@ fn sided(hl: i64, ul: i64, hr: i64, ur: i64, sl: i64, sr: i64) -> Carried
     between(hl, ul, hr, ur, sl, sr, s)
 }
 
-// Where at least one side has water.
-fn wet(hl: i64, ul: i64, hr: i64, ur: i64) -> Carried
+// Where at least one side has water. The wave speeds of the two sides are al and ar.
+fn wet(hl: i64, ul: i64, al: i64, hr: i64, ur: i64, ar: i64) -> Carried
     requires { ⌜ Sound (side hl ul) × Sound (side hr ur) ⌝ }
+    requires { ⌜ (al ≡ wave hl) × (ar ≡ wave hr) ⌝ }
     ensures { λ r. ⌜ flux r ≡ given (wetOf (side hl ul) (side hr ur)) ⌝ }
 {
-    let al = wave_of(hl);
-    let ar = wave_of(hr);
     let sl = left_wave(hl, ul, al, ur, ar);
     let sr = right_wave(hr, ul, al, ur, ar);
     sided(hl, ul, hr, ur, sl, sr)
@@ -151,18 +151,34 @@ fn both_dry(hl: i64, hr: i64) -> bool
     hl <= 0 && hr <= 0
 }
 
-// What crosses the face. A dry side's speed must be within the limits too, and enters S.
-pub fn face(hl: i64, ul: i64, hr: i64, ur: i64) -> Carried
-    ensures { λ r. ⌜ flux r ≡ faceGiven (side hl ul) (side hr ur) ⌝ }
+// What crosses between two sides that are within the limits.
+fn carried(hl: i64, ul: i64, al: i64, hr: i64, ur: i64, ar: i64) -> Carried
+    requires { ⌜ Sound (side hl ul) × Sound (side hr ur) ⌝ }
+    requires { ⌜ (al ≡ wave hl) × (ar ≡ wave hr) ⌝ }
+    ensures { λ r. ⌜ flux r ≡ given (face (side hl ul) (side hr ur)) ⌝ }
 {
-    if !side_fits(hl, ul) {
-        return Carried::Refused;
-    }
-    if !side_fits(hr, ur) {
-        return Carried::Refused;
-    }
     if both_dry(hl, hr) {
         return Carried::Flux(0, 0, 0, 0);
     }
-    wet(hl, ul, hr, ur)
+    wet(hl, ul, al, hr, ur, ar)
+}
+
+// What crosses the face. A dry side's speed must be within the limits too, and enters S; a depth
+// beyond the limits has no wave speed.
+pub fn face(hl: i64, ul: i64, hr: i64, ur: i64) -> Carried
+    ensures { λ r. ⌜ flux r ≡ faceGiven (side hl ul) (side hr ur) ⌝ }
+{
+    if !speed_fits(ul) {
+        return Carried::Refused;
+    }
+    if !speed_fits(ur) {
+        return Carried::Refused;
+    }
+    match speeds::wave::wave(hl) {
+        Whole::Is(al) => match speeds::wave::wave(hr) {
+            Whole::Is(ar) => carried(hl, ul, al, hr, ur, ar),
+            Whole::Refused => Carried::Refused,
+        },
+        Whole::Refused => Carried::Refused,
+    }
 }

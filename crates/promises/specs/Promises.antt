@@ -26,16 +26,18 @@ use Rattle.rules.specs.Lent.{Lent, cellsOf, reachOf, callOf, stateOf, number, f
 use Rattle.rules.specs.Laws.Accept.{Clear, passed}
 use Rattle.rules.specs.Laws.Face.{lawful}
 use Rattle.rules.specs.Laws.Runs.{stop, step, Large, depths, eight, accepted-depths, run-balanced, run-wet, run-rest}
-use Rattle.face.specs.Given.{speedGiven, waveGiven, cubeGiven, faceGiven}
+use Rattle.speeds.specs.Given.{speedGiven, waveGiven, cubeGiven}
+use Rattle.face.specs.Given.{faceGiven}
 use Rattle.face.specs.Answers.{flux}
-use Rattle.face.specs.Answers.{number as worth}
+use Rattle.speeds.specs.Answers.{number as worth}
 use Rattle.double.specs.Root.{RootIs}
 use Rattle.double.specs.Face.{FaceIs}
-use Rattle.face.specs.declared.answer.Whole.{Whole}
+use Rattle.speeds.specs.declared.answer.Whole.{Whole}
 use Rattle.face.specs.declared.answer.Carried.{Carried}
 use Rattle.double.specs.declared.root.RootAnswer.{RootAnswer}
 use Rattle.double.specs.declared.face.DoubleAnswer.{DoubleAnswer}
-use Rattle.face.proofs.Unique.{speed-unique, wave-unique, cube-unique, face-unique}
+use Rattle.speeds.proofs.Unique.{speed-unique, wave-unique, cube-unique}
+use Rattle.face.proofs.Unique.{face-unique}
 use Rattle.double.proofs.root.Unique.{root-unique}
 use Rattle.double.proofs.face.Unique as doubles
 use Rattle.finishing.specs.Says.{FinishSays}

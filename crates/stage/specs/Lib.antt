@@ -8,7 +8,6 @@ pub mod Around
 pub mod Drag
 pub mod Filling
 pub mod Four
-pub mod Told
 pub mod Lines
 pub mod Crossings
 pub mod Agreed

@@ -5,7 +5,7 @@ use crate::sides::speed_of;
 use crate::table::bed_of;
 use crate::table::cell_of;
 use crate::table::rough_of;
-use face::answer::Whole;
+use speeds::answer::Whole;
 ghost use mathlib.Core.Path.{_≡_};
 ghost use mathlib.Core.Bool.{false};
 ghost use Prim.Native.Nat.{_+_, _*_, _≤_, _<_};
@@ -28,7 +28,7 @@ fn cube_of(h: i64) -> i64
     requires { ⌜ (pos 0 ≤ℤ h) × (h ≤ℤ deepest) ⌝ }
     ensures { λ r. ⌜ r ≡ cube h ⌝ }
 {
-    match face::cube::cube(h) {
+    match speeds::cube::cube(h) {
         Whole::Is(c) => c,
         Whole::Refused => 0,
     }

@@ -3,7 +3,7 @@
 use crate::cell::depths;
 use crate::cell::too_fast;
 use crate::table::bed_of;
-use face::answer::Whole;
+use speeds::answer::Whole;
 ghost use mathlib.Core.Path.{_≡_};
 ghost use mathlib.Core.Bool.{false, _||_};
 ghost use mathlib.Core.List.{[]};
@@ -24,13 +24,13 @@ ghost use Rattle.stage.specs.Held.{Inside, Ranged};
 ghost use Rattle.stage.specs.Around.{Around};
 ghost use Rattle.stage.specs.Rows.{sideBy, sideRow, sidesAt, fastSides};
 
-// The speed of a discharge at a depth. Both are within the limits, so the face crate never refuses.
+// The speed of a discharge at a depth. Both are within the limits, so it is never refused.
 pub fn speed_of(q: i64, h: i64) -> i64
     requires { ⌜ Within 8388608 q ⌝ }
     requires { ⌜ (pos 0 ≤ℤ h) × (h ≤ℤ deepest) ⌝ }
     ensures { λ r. ⌜ r ≡ speed dryDepth q h ⌝ }
 {
-    match face::speed::speed(q, h) {
+    match speeds::speed::speed(q, h) {
         Whole::Is(u) => u,
         Whole::Refused => 0,
     }

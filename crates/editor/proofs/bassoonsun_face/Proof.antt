@@ -5,7 +5,8 @@ use mathlib.Core.Path.{_≡_, sym, ap, subst, _∙_}
 use mir.Facts.{toZ-ofZ}
 use Rattle.whole.specs.Machine.{back}
 use Rattle.rules.specs.Face.{Flux}
-use Rattle.face.specs.Given.{Perhaps, side, faceGiven}
+use Rattle.speeds.specs.Given.{Perhaps}
+use Rattle.face.specs.Given.{side, faceGiven}
 use Rattle.face.specs.Answers.{flux}
 use Rattle.editor.specs.Told.{FaceTold, face-flux, face-none}
 use borrow.Author.Needs.{needs}

@@ -1,79 +1,141 @@
--- Each refusal is due to a side beyond the limits; past both the answer is the rule's.
+-- Each refusal is due to a side beyond the limits: a speed, or a depth that has no wave speed. Past all of them the answer is the rule's.
 use mathlib.Core.Path.{_≡_, sym, _∙_}
-use mathlib.Core.Bool.{true, false, _&&_}
+use mathlib.Core.Bool.{true, false}
 use mir.Facts.{toZ-ofZ}
 use borrow.Author.Needs.{needs}
 use borrow.Author.Tests.{not-true, not-false}
-use Rattle.rules.specs.Face.{none, nothing, face}
-use Rattle.face.specs.Given.{sideFits, side, faceGiven}
+use Rattle.whole.specs.Machine.{back64}
+use Rattle.rules.specs.Face.{wave}
+use Rattle.rules.specs.Laws.Sizes.{Sound}
+use Rattle.speeds.specs.Given.{depthFits, waveGiven}
+use Rattle.speeds.specs.Answers.{number}
+use Rattle.speeds.proofs.Fits.{wave-told, wave-untold}
+use Rattle.face.specs.Given.{side, speedFits, sideFits, faceGiven}
 use Rattle.face.specs.Answers.{flux}
-use Rattle.face.specs.Sides.{wetOf}
-use Rattle.face.proofs.Fits.{side-in}
+use Rattle.face.proofs.Fits.{side-in, fitting, too-deep, too-fast, left-refused, right-refused, face-given}
 use Rattle.face.proofs.flux.face.Statement.{statement}
 use Rattle.face.proofs.flux.face.Tie as tie
 
-side-fits-requires : tie.Need-side-fits-requires
-side-fits-requires c κs = search needs
+speed-fits-requires : tie.Need-speed-fits-requires
+speed-fits-requires c κs = search needs
 
 returns : tie.Need-returns
-unfolding faceGiven flux
+unfolding flux
 returns c =
-    let t = c .before in let s = t .before in
-    let e : sideFits (side (s .args .hl) (s .args .ul)) ≡ false = sym (simp (toZ-ofZ, s .fits .hl, s .fits .ul) at (t .side-fits .ensures)) ∙ not-true _ (c .if1 .taken) in
-    rw e
+    let s = c .before .before in
+    let e : speedFits (s .args .ul) ≡ false = sym (simp (toZ-ofZ, s .fits .ul) at (c .before .speed-fits .ensures)) ∙ not-true _ (c .if1 .taken) in
+    left-refused _ _ (too-fast (side _ _) e)
 
--- ---- a left side within the limits
-l-fits : (c : tie.Else1) → let p = c .before .before .args in sideFits (side (p .hl) (p .ul)) ≡ true
-l-fits c = let s = c .before .before in sym (simp (toZ-ofZ, s .fits .hl, s .fits .ul) at (c .before .side-fits .ensures)) ∙ not-false _ (c .if1 .left)
+-- ---- a left speed within the limits
+ul-fits : (c : tie.Else1) → speedFits (c .before .before .args .ul) ≡ true
+ul-fits c = let s = c .before .before in sym (simp (toZ-ofZ, s .fits .ul) at (c .before .speed-fits .ensures)) ∙ not-false _ (c .if1 .left)
 
-side-fits-requires-2 : tie.Need-side-fits-requires-2
-side-fits-requires-2 c κs = search needs
+speed-fits-requires-2 : tie.Need-speed-fits-requires-2
+speed-fits-requires-2 c κs = search needs
 
 returns-2 : tie.Need-returns-2
-unfolding faceGiven flux
+unfolding flux
 returns-2 c =
-    let t = c .before in let s = t .before .before .before in
-    let e : sideFits (side (s .args .hr) (s .args .ur)) ≡ false = sym (simp (toZ-ofZ, s .fits .hr, s .fits .ur) at (t .side-fits2 .ensures)) ∙ not-true _ (c .if2 .taken) in
-    rw (l-fits (t .before), e)
+    let s = c .before .before .before .before in
+    let e : speedFits (s .args .ur) ≡ false = sym (simp (toZ-ofZ, s .fits .ur) at (c .before .speed-fits2 .ensures)) ∙ not-true _ (c .if2 .taken) in
+    right-refused _ _ (too-fast (side _ _) e)
 
--- ---- and a right side
-r-fits : (c : tie.Else2) → let p = c .before .before .before .before .args in sideFits (side (p .hr) (p .ur)) ≡ true
-r-fits c = let s = c .before .before .before .before in sym (simp (toZ-ofZ, s .fits .hr, s .fits .ur) at (c .before .side-fits2 .ensures)) ∙ not-false _ (c .if2 .left)
+-- ---- and a right one
+ur-fits : (c : tie.Else2) → speedFits (c .before .before .before .before .args .ur) ≡ true
+ur-fits c = let s = c .before .before .before .before in sym (simp (toZ-ofZ, s .fits .ur) at (c .before .speed-fits2 .ensures)) ∙ not-false _ (c .if2 .left)
 
-both-dry-requires : tie.Need-both-dry-requires
-both-dry-requires c κs = search needs
+wave-requires : tie.Need-wave-requires
+wave-requires c κs = search needs
 
-dry-is : (c : tie.After-both-dry) → let p = c .before .before .before .before .before .args in c .both-dry .result ≡ (none (p .hl) && none (p .hr))
-dry-is c = let s = c .before .before .before .before .before in simp (toZ-ofZ, s .fits .hl, s .fits .hr) at (c .both-dry .ensures)
+enum-known-al : tie.Need-enum-known-al
+enum-known-al c = search needs
+
+-- ---- a left depth that has a wave speed
+module _ (c : tie.After-wave) where
+  abbrev from : tie.Start
+  from = c .before .before .before .before .before
+
+  hl-asked : number (c .wave .result) ≡ waveGiven (from .args .hl)
+  hl-asked = simp (toZ-ofZ, from .fits .hl) at (c .wave .ensures)
+
+wave-requires-2 : tie.Need-wave-requires-2
+wave-requires-2 c κs = search needs
+
+enum-known-ar : tie.Need-enum-known-ar
+enum-known-ar c = search needs
+
+-- ---- and a right one
+module _ (c : tie.After-wave2) where
+  abbrev first : tie.After-wave
+  first = c .before .before .before .before
+
+  hr-asked : number (c .wave2 .result) ≡ waveGiven (from first .args .hr)
+  hr-asked = simp (toZ-ofZ, from first .fits .hr) at (c .wave2 .ensures)
+
+-- ---- so both sides are within the limits
+module _ (c : tie.After-known-told2) where
+  abbrev second : tie.After-wave2
+  second = c .before .before .before
+
+  abbrev start : tie.Start
+  start = from (first second)
+
+  al-told : (depthFits (start .args .hl) ≡ true) × (c .before .before .before .before .before .al .given .0 .0 ≡ wave (start .args .hl))
+  al-told = wave-told (first second .wave .result) (start .args .hl) _ (second .before .before .al .given .1) (hl-asked (first second))
+
+  ar-told : (depthFits (start .args .hr) ≡ true) × (c .before .ar .given .0 .0 ≡ wave (start .args .hr))
+  ar-told = wave-told (second .wave2 .result) (start .args .hr) _ (c .before .ar .given .1) (hr-asked second)
+
+  l-sound : Sound (side (start .args .hl) (start .args .ul))
+  l-sound = side-in (side _ _) (fitting (side _ _) (al-told .0) (ul-fits (first second .before .before .before)))
+
+  r-sound : Sound (side (start .args .hr) (start .args .ur))
+  r-sound = side-in (side _ _) (fitting (side _ _) (ar-told .0) (ur-fits (first second .before)))
+
+carried-requires : tie.Need-carried-requires
+carried-requires c κs =
+    let s = start c in
+    rw (toZ-ofZ (s .fits .hl), toZ-ofZ (s .fits .ul), toZ-ofZ (s .fits .hr), toZ-ofZ (s .fits .ur))
+    ((l-sound c, r-sound c), (back64 (second c .before .known-told .given .0 .1) (al-told c .1), back64 (c .known-told2 .given .0 .1) (ar-told c .1)))
+
+enum-told : tie.Need-enum-told
+enum-told c = search needs
+
+enum-told-2 : tie.Need-enum-told-2
+enum-told-2 c = search needs
 
 returns-3 : tie.Need-returns-3
-unfolding faceGiven face nothing flux
 returns-3 c =
-    let t = c .before in let e = t .before in let s = e .before .before .before .before in
-    rw (l-fits (e .before .before), r-fits e, sym (dry-is t) ∙ c .if3 .taken)
-
--- ---- and water on one of them
-wet-requires : tie.Need-wet-requires
-wet-requires c κs =
-    let e = c .before .before in let s = e .before .before .before .before in let p = s .args in
-    simp (toZ-ofZ, s .fits .hl, s .fits .ul, s .fits .hr, s .fits .ur) (side-in (side (p .hl) (p .ul)) (l-fits (e .before .before)), side-in (side (p .hr) (p .ur)) (r-fits e))
+    let t = c .before in let s = start t in
+    (simp (toZ-ofZ, s .fits .hl, s .fits .ul, s .fits .hr, s .fits .ur) at (c .carried .ensures)) ∙ sym (face-given _ _ (l-sound t) (r-sound t))
 
 returns-4 : tie.Need-returns-4
-unfolding faceGiven face wetOf
+unfolding flux
 returns-4 c =
-    let t = c .before .before in let e = t .before in let s = e .before .before .before .before in
-    rw (l-fits (e .before .before), r-fits e, sym (dry-is t) ∙ c .before .if3 .left)
-    (simp (toZ-ofZ, s .fits .hl, s .fits .ul, s .fits .hr, s .fits .ur) at (c .wet .ensures))
+    let a = c .before .before in
+    right-refused _ _ (too-deep (side _ _) (wave-untold (a .wave2 .result) _ (c .enum-told .given .1) (hr-asked a)))
+
+returns-5 : tie.Need-returns-5
+unfolding flux
+returns-5 c =
+    let a = c .before .before in
+    left-refused _ _ (too-deep (side _ _) (wave-untold (a .wave .result) _ (c .enum-told2 .given .1) (hl-asked a)))
 
 pub face-spec : {M : Type 1} → statement M
 face-spec =
     tie.close
     (tie.spec
-    side-fits-requires
+    speed-fits-requires
     returns
-    side-fits-requires-2
+    speed-fits-requires-2
     returns-2
-    both-dry-requires
+    wave-requires
+    enum-known-al
+    wave-requires-2
+    enum-known-ar
+    carried-requires
+    enum-told
+    enum-told-2
     returns-3
-    wet-requires
-    returns-4)
+    returns-4
+    returns-5)

@@ -6,7 +6,8 @@ use mir.Facts.{toZ-ofZ}
 use borrow.Author.Needs.{needs}
 use Rattle.whole.specs.Machine.{back}
 use Rattle.rules.specs.Face.{Flux, face}
-use Rattle.face.specs.Given.{given, side}
+use Rattle.speeds.specs.Given.{given}
+use Rattle.face.specs.Given.{side}
 use Rattle.face.specs.Answers.{flux, one-flux}
 use Rattle.face.specs.declared.answer.Carried.{Carried}
 use Rattle.face.specs.declared.answer.Carried.the-variants as carried

@@ -1,14 +1,13 @@
--- Within the limits the face crate answers with the rule's speed.
+-- Within the limits the crate of speeds answers with the rule's speed.
 use mathlib.Core.Path.{_≡_, _∙_}
 use mir.Facts.{toZ-ofZ}
 use borrow.Author.Needs.{needs}
 use Rattle.whole.specs.Machine.{back64}
 use Rattle.rules.specs.Limits.{dryDepth}
 use Rattle.rules.specs.Face.{speed}
-use Rattle.face.specs.Given.{given}
-use Rattle.face.specs.Answers.{number}
-use Rattle.face.proofs.Fits.{speed-given}
-use Rattle.stage.specs.Told.{told, untold}
+use Rattle.speeds.specs.Given.{given}
+use Rattle.speeds.specs.Answers.{number, told, untold}
+use Rattle.speeds.proofs.Fits.{speed-given}
 use Rattle.stage.proofs.sides.speed_of.Statement.{statement}
 use Rattle.stage.proofs.sides.speed_of.Tie as tie
 

@@ -1,0 +1,68 @@
+-- What it says of a number that it is within the limits; and that within them each public function gives the rule's value.
+-- Assumes nothing.
+use mathlib.Core.Path.{_≡_, refl, sym, _∙_, ap}
+use mathlib.Core.Bool.{Bool, true, false, cond}
+use lib.IntN.{ℤ, pos, negℤ}
+use lib.Signed.{leZ, _≤ℤ_}
+use Rattle.whole.specs.Flags.{and-l, and-r}
+use Rattle.whole.specs.Parts.{Within, b-range, range-b}
+use Rattle.whole.specs.Tests.{le-yes, yes-le}
+use Rattle.rules.specs.Limits.{deepest, fullest, dryDepth}
+use Rattle.rules.specs.Face.{speed, wave}
+use Rattle.rules.specs.Friction.{cube}
+use Rattle.speeds.specs.Given.{Perhaps, given, refused, liesBetween, depthFits, dischargeFits, speedGiven, waveGiven, cubeGiven}
+use Rattle.speeds.specs.Answers.{number, same, never}
+use Rattle.speeds.specs.declared.answer.Whole.{Whole}
+use Rattle.speeds.specs.declared.answer.Whole.the-variants as whole
+
+-- ---- from the tests
+pub lies-in : (low x high : ℤ) → liesBetween low x high ≡ true → (low ≤ℤ x) × (x ≤ℤ high)
+unfolding liesBetween
+lies-in low x high e = (le-yes low x (and-l (leZ low x) (leZ x high) e), le-yes x high (and-r (leZ low x) (leZ x high) e))
+
+pub depth-in : (h : ℤ) → depthFits h ≡ true → (pos 0 ≤ℤ h) × (h ≤ℤ deepest)
+unfolding depthFits
+depth-in h e = lies-in (pos 0) h deepest e
+
+pub discharge-in : (q : ℤ) → dischargeFits q ≡ true → Within 8388608 q
+unfolding dischargeFits
+discharge-in q e = let p = lies-in (negℤ fullest) q fullest e in b-range (p .0) (p .1)
+
+-- ---- to the tests
+pub in-lies : (low x high : ℤ) → low ≤ℤ x → x ≤ℤ high → liesBetween low x high ≡ true
+unfolding liesBetween
+in-lies low x high p q = rw (yes-le low x p, yes-le x high q)
+
+pub in-depth : (h : ℤ) → pos 0 ≤ℤ h → h ≤ℤ deepest → depthFits h ≡ true
+unfolding depthFits
+in-depth h p q = in-lies (pos 0) h deepest p q
+
+pub in-discharge : (q : ℤ) → Within 8388608 q → dischargeFits q ≡ true
+unfolding dischargeFits
+in-discharge q w = let p = range-b w in in-lies (negℤ fullest) q fullest (p .0) (p .1)
+
+-- ---- so within the limits
+pub speed-given : (q h : ℤ) → Within 8388608 q → pos 0 ≤ℤ h → h ≤ℤ deepest → speedGiven q h ≡ given (speed dryDepth q h)
+unfolding speedGiven
+speed-given q h w a b = rw (in-discharge q w, in-depth h a b)
+
+pub cube-given : (h : ℤ) → pos 0 ≤ℤ h → h ≤ℤ deepest → cubeGiven h ≡ given (cube h)
+unfolding cubeGiven
+cube-given h a b = rw (in-depth h a b)
+
+-- ---- and what an answer says of the limits
+held : (b : Bool) (x z : ℤ) → given z ≡ cond b (given x) refused → (b ≡ true) × (z ≡ x)
+held true x z e = (refl, same e)
+held false x z e = never e
+
+let-go : (b : Bool) (x : ℤ) → refused ≡ cond b (given x) refused → b ≡ false
+let-go true x e = never (sym e)
+let-go false x e = refl
+
+pub wave-told : (r : Whole) (h z : ℤ) → r ≡ whole.Is z → number r ≡ waveGiven h → (depthFits h ≡ true) × (z ≡ wave h)
+unfolding number waveGiven
+wave-told r h z e f = held (depthFits h) (wave h) z (sym (ap number e) ∙ f)
+
+pub wave-untold : (r : Whole) (h : ℤ) → r ≡ whole.Refused → number r ≡ waveGiven h → depthFits h ≡ false
+unfolding number waveGiven
+wave-untold r h e f = let-go (depthFits h) (wave h) (sym (ap number e) ∙ f)

@@ -1,0 +1,37 @@
+-- The refusal is due to a depth beyond the limits; past it the answer is the rule's.
+use mathlib.Core.Path.{_≡_, sym, _∙_, ap}
+use mathlib.Core.Bool.{true, false}
+use mir.Facts.{toZ-ofZ}
+use borrow.Author.Needs.{needs}
+use borrow.Author.Tests.{not-true, not-false}
+use Rattle.whole.specs.Machine.{back64}
+use Rattle.speeds.specs.Given.{given, depthFits, waveGiven}
+use Rattle.speeds.specs.Answers.{number}
+use Rattle.speeds.proofs.Fits.{depth-in}
+use Rattle.speeds.proofs.wave.wave.Statement.{statement}
+use Rattle.speeds.proofs.wave.wave.Tie as tie
+
+depth-fits-requires : tie.Need-depth-fits-requires
+depth-fits-requires c κs = search needs
+
+returns : tie.Need-returns
+unfolding waveGiven number
+returns c =
+    let t = c .before in let s = t .before in
+    let e : depthFits (s .args .h) ≡ false = sym (simp (toZ-ofZ, s .fits .h) at (t .depth-fits .ensures)) ∙ not-true _ (c .if1 .taken) in
+    rw e
+
+h-fits : (c : tie.Else1) → depthFits (c .before .before .args .h) ≡ true
+h-fits c = sym (simp (toZ-ofZ, c .before .before .fits .h) at (c .before .depth-fits .ensures)) ∙ not-false _ (c .if1 .left)
+
+wave-of-requires : tie.Need-wave-of-requires
+wave-of-requires c κs = let s = c .before .before in simp (toZ-ofZ, s .fits .h) (depth-in (s .args .h) (h-fits c))
+
+returns-2 : tie.Need-returns-2
+unfolding waveGiven number
+returns-2 c =
+    let s = c .before .before .before in
+    rw (h-fits (c .before)) (ap given (back64 (c .wave-of .ok) (simp (toZ-ofZ, s .fits .h) at (c .wave-of .ensures))))
+
+pub wave-spec : {M : Type 1} → statement M
+wave-spec = tie.close (tie.spec depth-fits-requires returns wave-of-requires returns-2)

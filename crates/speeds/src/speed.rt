@@ -1,0 +1,26 @@
+// The speed of a discharge.
+use crate::answer::Whole;
+use crate::limits::depth_fits;
+use crate::limits::discharge_fits;
+ghost use mathlib.Core.Path.{_≡_};
+ghost use Rattle.speeds.specs.Given.{speedGiven};
+ghost use Rattle.speeds.specs.Answers.{number};
+
+// At or below this depth water does not move.
+const DRY: i64 = 4;
+
+// The speed of the discharge q at depth h.
+pub fn speed(q: i64, h: i64) -> Whole
+    ensures { λ r. ⌜ number r ≡ speedGiven q h ⌝ }
+{
+    if !discharge_fits(q) {
+        return Whole::Refused;
+    }
+    if !depth_fits(h) {
+        return Whole::Refused;
+    }
+    if h <= DRY {
+        return Whole::Is(0);
+    }
+    Whole::Is(q * 4096 / h)
+}
