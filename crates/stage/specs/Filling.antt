@@ -33,10 +33,10 @@ module _ {A : Type 0} (d : A) (n size : ℕ) (p : ℕ → Bool) (f : ℕ → A) 
 
   -- what the answer says of the table
   abbrev pub FillSays : Bool → List A → Type 0
-  FillSays r a = (r ≡ some p n) × (r ≡ false → Written d a n f)
+  FillSays r a = (length a ≡ size) × (r ≡ some p n) × (r ≡ false → Written d a n f)
 
-  pub fill-stops : (a : List A) (i : ℕ) → i < n → p i ≡ true → FillSays true a
-  fill-stops a i l e = (sym (yes-some p n i l e), λ z. clash (sym z))
+  pub fill-stops : (a : List A) (i : ℕ) → i < n → Filling a i → p i ≡ true → FillSays true a
+  fill-stops a i l h e = (h .room, sym (yes-some p n i l e), λ z. clash (sym z))
 
   pub fill-ends : (a : List A) (i : ℕ) → n ≤ i → Filling a i → FillSays false a
-  fill-ends a i l h = (sym (none-some p n (λ k m. h .none k (omega arith))), λ z k m. h .filled k (omega arith))
+  fill-ends a i l h = (h .room, sym (none-some p n (λ k m. h .none k (omega arith))), λ z k m. h .filled k (omega arith))

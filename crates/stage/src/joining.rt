@@ -47,25 +47,24 @@ pub fn end_volume(f: &[[i64; 4]; 1025], g: &[[i64; 4]; 1025], i: usize) -> i64
     half_of(f[i][3], g[i][3])
 }
 
-// The unfinished end state, into y: x after friction, u after stage two, f and g the two stages' faces.
+// The unfinished end state, in place of u after stage two: x after friction, f and g the two stages' faces.
 pub fn join(
     x: &[[i64; 4]; 1024],
-    u: &[[i64; 4]; 1024],
+    u: &mut [[i64; 4]; 1024],
     f: &[[i64; 4]; 1025],
     g: &[[i64; 4]; 1025],
     n: usize,
-    y: &mut [[i64; 4]; 1024],
 )
-    requires { ⌜ (n ≤ 1024) × (length (now y) ≡ 1024) ⌝ }
+    requires { ⌜ (n ≤ 1024) × (length (now u) ≡ 1024) ⌝ }
     requires { ⌜ Wides n (seen (now x)) × Wides n (seen (now u)) ⌝ }
     requires { ⌜ FaceRows (now f) n × FaceRows (now g) n ⌝ }
-    ensures { λ _. ⌜ (length (now (y .exit)) ≡ 1024) × Holds (now (y .exit)) n (λ i. joinedCell (seen (now (x .entry)) i) (seen (now (u .entry)) i) (half (getD (getD (now (f .entry)) i []) 3 (pos 0)) (getD (getD (now (g .entry)) i []) 3 (pos 0))) (half (getD (getD (now (f .entry)) (suc i) []) 3 (pos 0)) (getD (getD (now (g .entry)) (suc i) []) 3 (pos 0)))) ⌝ }
+    ensures { λ _. ⌜ (length (now (u .exit)) ≡ 1024) × Holds (now (u .exit)) n (λ i. joinedCell (seen (now (x .entry)) i) (seen (now (u .entry)) i) (half (getD (getD (now (f .entry)) i []) 3 (pos 0)) (getD (getD (now (g .entry)) i []) 3 (pos 0))) (half (getD (getD (now (f .entry)) (suc i) []) 3 (pos 0)) (getD (getD (now (g .entry)) (suc i) []) 3 (pos 0)))) ⌝ }
 {
     let mut i: usize = 0;
     while i < n {
         let wl = end_volume(f, g, i);
         let wr = end_volume(f, g, i + 1);
-        y[i] = joined_cell(x[i], u[i], wl, wr);
+        u[i] = joined_cell(x[i], u[i], wl, wr);
         i += 1;
     }
 }

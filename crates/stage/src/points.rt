@@ -63,7 +63,7 @@ fn points_of(b: [i64; 2], x: [i64; 4]) -> [i64; 3]
 pub fn points(t: &[[i64; 4]; 1024], bed: &[i32], n: usize, g: &mut [i64; 1024]) -> bool
     requires { ⌜ (n ≤ 1024) × (length (now bed) ≡ n + 1) × (length (now g) ≡ 1024) ⌝ }
     requires { ⌜ Ranged (now bed) n (seen (now t)) ⌝ }
-    ensures { λ r. ⌜ (r ≡ some (λ i. fastPoints dryDepth (bedAt (now (bed .entry)) i) (seen (now (t .entry)) i)) n) × (r ≡ false → Written (pos 0) (now (g .exit)) n (λ i. gauss dryDepth (bedAt (now (bed .entry)) i) (seen (now (t .entry)) i))) ⌝ }
+    ensures { λ r. ⌜ (length (now (g .exit)) ≡ 1024) × (r ≡ some (λ i. fastPoints dryDepth (bedAt (now (bed .entry)) i) (seen (now (t .entry)) i)) n) × (r ≡ false → Written (pos 0) (now (g .exit)) n (λ i. gauss dryDepth (bedAt (now (bed .entry)) i) (seen (now (t .entry)) i))) ⌝ }
 {
     let mut i: usize = 0;
     while i < n {

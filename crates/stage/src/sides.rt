@@ -87,7 +87,7 @@ pub fn either_fast(u: i64, w: i64) -> bool
 pub fn sides(t: &[[i64; 4]; 1024], bed: &[i32], n: usize, d: &mut [[i64; 4]; 1024]) -> bool
     requires { ⌜ (n ≤ 1024) × (length (now bed) ≡ n + 1) × (length (now d) ≡ 1024) ⌝ }
     requires { ⌜ Ranged (now bed) n (seen (now t)) ⌝ }
-    ensures { λ r. ⌜ (r ≡ some (fastSides (now (bed .entry)) (seen (now (t .entry)))) n) × (r ≡ false → Written [] (now (d .exit)) n (sidesAt (now (bed .entry)) (seen (now (t .entry))))) ⌝ }
+    ensures { λ r. ⌜ (length (now (d .exit)) ≡ 1024) × (r ≡ some (fastSides (now (bed .entry)) (seen (now (t .entry)))) n) × (r ≡ false → Written [] (now (d .exit)) n (sidesAt (now (bed .entry)) (seen (now (t .entry))))) ⌝ }
 {
     let mut i: usize = 0;
     while i < n {

@@ -33,15 +33,15 @@ pub fn stage(
     requires { ⌜ Ranged (now bed) n (seen (now t)) ⌝ }
     ensures { λ r. ⌜ StageSays (reachBy n dx (now (bed .entry))) (callBy dt left right) (seen (now (t .entry))) r (now (f .exit)) (now (u .exit)) ⌝ }
 {
-    let mut d = [[0i64; 4]; 1024];
-    if sides(t, bed, n, &mut d) {
+    // the sides stand in u until the faces have read them
+    if sides(t, bed, n, u) {
         return 6;
     }
     let mut g = [0i64; 1024];
     if points(t, bed, n, &mut g) {
         return 6;
     }
-    if faces(&d, n, left, right, dx, dt, f) {
+    if faces(u, n, left, right, dx, dt, f) {
         return 7;
     }
     update(t, bed, f, &g, n, dx, dt, u);

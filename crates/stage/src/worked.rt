@@ -82,10 +82,10 @@ fn stage_one(
     0
 }
 
-// Stage two from b, joined with a by the faces f and g, and finished, into y.
+// Stage two from b, joined with a by the faces f and g, and finished, in place of b.
 fn stage_two(
     a: &[[i64; 4]; 1024],
-    b: &[[i64; 4]; 1024],
+    b: &mut [[i64; 4]; 1024],
     f: &[[i64; 4]; 1025],
     bed: &[i32],
     n: usize,
@@ -95,23 +95,21 @@ fn stage_two(
     left: u32,
     right: u32,
     g: &mut [[i64; 4]; 1025],
-    y: &mut [[i64; 4]; 1024],
 ) -> u32
-    requires { ⌜ (0 < n) × (n ≤ 1024) × (length (now bed) ≡ n + 1) × (length (now g) ≡ 1025) × (length (now y) ≡ 1024) ⌝ }
+    requires { ⌜ (0 < n) × (n ≤ 1024) × (length (now bed) ≡ n + 1) × (length (now g) ≡ 1025) × (length (now b) ≡ 1024) ⌝ }
     requires { ⌜ Numbers dx dt jump ⌝ }
     requires { ⌜ Ranged (now bed) n (seen (now a)) × Ranged (now bed) n (seen (now b)) ⌝ }
     requires { ⌜ FaceRows (now f) n × RowsOf n dx (now bed) dt jump left right (now a) (now f) ⌝ }
-    ensures { λ r. ⌜ TwoSays n dx (now (bed .entry)) dt jump left right (now (a .entry)) (now (b .entry)) r (now (g .exit)) (now (y .exit)) ⌝ }
+    ensures { λ r. ⌜ TwoSays n dx (now (bed .entry)) dt jump left right (now (a .entry)) (now (b .entry)) r (now (g .exit)) (now (b .exit)) ⌝ }
 {
     let mut u = [[0i64; 4]; 1024];
     let k = stage(b, bed, n, dx, dt, left, right, g, &mut u);
     if k != 0 {
         return k;
     }
-    let mut j = [[0i64; 4]; 1024];
-    join(a, &u, f, g, n, &mut j);
-    finish(&j, bed, jump, n, y);
-    if off(y, bed, n) {
+    join(a, &mut u, f, g, n);
+    finish(&u, bed, jump, n, b);
+    if off(b, bed, n) {
         return 8;
     }
     0
@@ -156,25 +154,11 @@ fn both_stages(
         return Worked::Refused(k);
     }
     let mut g = [[0i64; 4]; 1025];
-    let mut y = [[0i64; 4]; 1024];
-    let m = stage_two(
-        &a,
-        &b,
-        &f,
-        bed,
-        n,
-        dx,
-        dt,
-        jump,
-        left,
-        right,
-        &mut g,
-        &mut y,
-    );
+    let m = stage_two(&a, &mut b, &f, bed, n, dx, dt, jump, left, right, &mut g);
     if m != 0 {
         return Worked::Refused(m);
     }
-    hand_out(&y, n, out);
+    hand_out(&b, n, out);
     Worked::Done(end_volume(&f, &g, 0), end_volume(&f, &g, n))
 }
 

@@ -74,7 +74,7 @@ either-fast-requires c κs = search needs
 returns : tie.Need-returns Inv-loop μ-loop
 returns c =
     let f = c .before in let g = f .before .before .before in let e = g .before .before .before in let l = e .before in
-    fill-stops (pos 0) _ 1024 _ _ (l .loop .g) (l .loop .i) (e .loop-test .taken) (fast f ∙ c .if1 .taken)
+    fill-stops (pos 0) _ 1024 _ _ (l .loop .g) (l .loop .i) (e .loop-test .taken) (l .loop .inv) (fast f ∙ c .if1 .taken)
 
 array-copy-out-g : tie.Need-array-copy-out-g Inv-loop μ-loop
 array-copy-out-g c = search needs

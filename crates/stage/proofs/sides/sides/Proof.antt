@@ -62,7 +62,7 @@ either-fast-requires c κs = search needs
 returns : tie.Need-returns Inv-loop μ-loop
 returns c =
     let f = c .before in let g = f .before .before .before in let e = g .before .before .before in let l = e .before in
-    fill-stops [] _ 1024 _ _ (l .loop .d) (l .loop .i) (e .loop-test .taken) (fast f ∙ c .if1 .taken)
+    fill-stops [] _ 1024 _ _ (l .loop .d) (l .loop .i) (e .loop-test .taken) (l .loop .inv) (fast f ∙ c .if1 .taken)
 
 mul-t10 : tie.Need-mul-t10 Inv-loop μ-loop
 mul-t10 c = search needs

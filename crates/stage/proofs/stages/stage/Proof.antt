@@ -27,11 +27,11 @@ use Rattle.stage.proofs.stages.stage.Tie as tie
 
 -- what the passed test of the sides says
 slow-sides : (c : tie.Else1) → let s = c .before .before .before in some (fastSides (now (s .args .bed)) (seen (now (s .args .t)))) (s .args .n) ≡ false
-slow-sides c = sym (c .before .sides .ensures .0) ∙ c .if1 .left
+slow-sides c = sym (c .before .sides .ensures .1) ∙ c .if1 .left
 
 sound : (c : tie.Else1) → let s = c .before .before .before in Sounds (c .before .sides .last .1 .1 .1 .0) (s .args .n)
 sound c = let s = c .before .before .before in
-    sounds (s .args .n) (now (s .args .bed)) (seen (now (s .args .t))) (s .pre .1 .1) (slow-sides c) (c .before .sides .last .1 .1 .1 .0) (c .before .sides .ensures .1 (c .if1 .left))
+    sounds (s .args .n) (now (s .args .bed)) (seen (now (s .args .t))) (s .pre .1 .1) (slow-sides c) (c .before .sides .last .1 .1 .1 .0) (c .before .sides .ensures .2 (c .if1 .left))
 
 -- what the faces say, of the length and the time step themselves
 crossed : (c : tie.After-faces) → let e1 = c .before .before .before .before .before .before in let s = e1 .before .before .before in
@@ -43,12 +43,12 @@ crossed c = let s = c .before .before .before .before .before .before .before .b
 -- and of the points
 slow-points : (c : tie.Else2) → let s = c .before .before .before .before .before .before in
     some (λ i. fastPoints dryDepth (bedAt (now (s .args .bed)) i) (seen (now (s .args .t)) i)) (s .args .n) ≡ false
-slow-points c = sym (c .before .points .ensures .0) ∙ c .if2 .left
+slow-points c = sym (c .before .points .ensures .1) ∙ c .if2 .left
 
 rows : (c : tie.Else3) → let fa = c .before in let e1 = fa .before .before .before .before .before .before in let s = e1 .before .before .before in
     Written [] (fa .faces .last .1 .1 .1 .1 .1 .1 .0) (suc (s .args .n)) (λ i. faceRow (s .args .dx) (s .args .dt) (faceAt (reachBy (s .args .n) (s .args .dx) (now (s .args .bed))) (callBy (s .args .dt) (s .args .left) (s .args .right)) (seen (now (s .args .t))) i))
 rows c = let fa = c .before in let e1 = fa .before .before .before .before .before .before in let s = e1 .before .before .before in
-    rows-are (s .args .n) (s .args .dx) (s .args .dt) (now (s .args .bed)) (s .args .left) (s .args .right) (seen (now (s .args .t))) (s .pre .0 .0) (e1 .before .sides .last .1 .1 .1 .0) (e1 .before .sides .ensures .1 (e1 .if1 .left)) (fa .faces .last .1 .1 .1 .1 .1 .1 .0) (crossed fa .2 (c .if3 .left))
+    rows-are (s .args .n) (s .args .dx) (s .args .dt) (now (s .args .bed)) (s .args .left) (s .args .right) (seen (now (s .args .t))) (s .pre .0 .0) (e1 .before .sides .last .1 .1 .1 .0) (e1 .before .sides .ensures .2 (e1 .if1 .left)) (fa .faces .last .1 .1 .1 .1 .1 .1 .0) (crossed fa .2 (c .if3 .left))
 
 sized : (c : tie.Else3) → let fa = c .before in let s = fa .before .before .before .before .before .before .before .before .before in FaceRows (fa .faces .last .1 .1 .1 .1 .1 .1 .0) (s .args .n)
 sized c = let fa = c .before in let e1 = fa .before .before .before .before .before .before in let s = e1 .before .before .before in
@@ -56,7 +56,7 @@ sized c = let fa = c .before in let e1 = fa .before .before .before .before .bef
 
 carried : (c : tie.Else2) → let s = c .before .before .before .before .before .before in Momenta (c .before .points .last .1 .1 .1 .0) (s .args .n)
 carried c = let s = c .before .before .before .before .before .before in
-    momenta (s .args .n) (s .args .dx) (s .args .dt) (now (s .args .bed)) (s .args .left) (s .args .right) (seen (now (s .args .t))) (s .pre .0 .0) (s .pre .1 .1) (slow-points c) (c .before .points .last .1 .1 .1 .0) (c .before .points .ensures .1 (c .if2 .left))
+    momenta (s .args .n) (s .args .dx) (s .args .dt) (now (s .args .bed)) (s .args .left) (s .args .right) (seen (now (s .args .t))) (s .pre .0 .0) (s .pre .1 .1) (slow-points c) (c .before .points .last .1 .1 .1 .0) (c .before .points .ensures .2 (c .if2 .left))
 
 sides-requires : tie.Need-sides-requires
 sides-requires c κs = search needs
@@ -64,9 +64,9 @@ sides-requires c κs = search needs
 returns : tie.Need-returns
 returns c = let s = c .before .before .before in
     record {
-      number = says-fast (s .args .n) (s .args .dx) (s .args .dt) (now (s .args .bed)) (s .args .left) (s .args .right) (seen (now (s .args .t))) (s .pre .0 .0) (sym (c .before .sides .ensures .0) ∙ c .if1 .taken);
+      number = says-fast (s .args .n) (s .args .dx) (s .args .dt) (now (s .args .bed)) (s .args .left) (s .args .right) (seen (now (s .args .t))) (s .pre .0 .0) (sym (c .before .sides .ensures .1) ∙ c .if1 .taken);
       f-size = s .pre .0 .3;
-      u-size = s .pre .0 .4;
+      u-size = c .before .sides .ensures .0;
       rows = λ e. let z : ⊥ = omega arith in absurd z;
       sized = λ e. let z : ⊥ = omega arith in absurd z;
       cells = λ e. let z : ⊥ = omega arith in absurd z;
@@ -79,9 +79,9 @@ points-requires c κs = search needs
 returns-2 : tie.Need-returns-2
 returns-2 c = let e1 = c .before .before .before in let s = e1 .before .before .before in
     record {
-      number = says-points (s .args .n) (s .args .dx) (s .args .dt) (now (s .args .bed)) (s .args .left) (s .args .right) (seen (now (s .args .t))) (s .pre .0 .0) (slow-sides e1) (sym (c .before .points .ensures .0) ∙ c .if2 .taken);
+      number = says-points (s .args .n) (s .args .dx) (s .args .dt) (now (s .args .bed)) (s .args .left) (s .args .right) (seen (now (s .args .t))) (s .pre .0 .0) (slow-sides e1) (sym (c .before .points .ensures .1) ∙ c .if2 .taken);
       f-size = s .pre .0 .3;
-      u-size = s .pre .0 .4;
+      u-size = e1 .before .sides .ensures .0;
       rows = λ e. let z : ⊥ = omega arith in absurd z;
       sized = λ e. let z : ⊥ = omega arith in absurd z;
       cells = λ e. let z : ⊥ = omega arith in absurd z;
@@ -96,9 +96,9 @@ returns-3 : tie.Need-returns-3
 returns-3 c = let fa = c .before in let e2 = fa .before .before .before in let e1 = e2 .before .before .before in let s = e1 .before .before .before in
     record {
       number = says-long (s .args .n) (s .args .dx) (s .args .dt) (now (s .args .bed)) (s .args .left) (s .args .right) (seen (now (s .args .t))) (s .pre .0 .0)
-          (e1 .before .sides .last .1 .1 .1 .0) (e1 .before .sides .ensures .1 (e1 .if1 .left)) (slow-sides e1) (slow-points e2) (sym (crossed fa .1) ∙ c .if3 .taken);
+          (e1 .before .sides .last .1 .1 .1 .0) (e1 .before .sides .ensures .2 (e1 .if1 .left)) (slow-sides e1) (slow-points e2) (sym (crossed fa .1) ∙ c .if3 .taken);
       f-size = crossed fa .0;
-      u-size = s .pre .0 .4;
+      u-size = e1 .before .sides .ensures .0;
       rows = λ e. let z : ⊥ = omega arith in absurd z;
       sized = λ e. let z : ⊥ = omega arith in absurd z;
       cells = λ e. let z : ⊥ = omega arith in absurd z;
@@ -107,18 +107,18 @@ returns-3 c = let fa = c .before in let e2 = fa .before .before .before in let e
 
 update-requires : tie.Need-update-requires
 update-requires c κs =
-    let e3 = c .before .before .before in let e2 = e3 .before .before .before .before in let s = e2 .before .before .before .before .before .before in
-    rw (toZ-ofZ (s .fits .dx), toZ-ofZ (s .fits .dt)) ((s .pre .0 .1, s .pre .0 .2, s .pre .0 .4), (s .pre .1 .1, (sized e3, (carried e2, s .pre .1 .0))))
+    let e3 = c .before .before .before in let e2 = e3 .before .before .before .before in let e1 = e2 .before .before .before in let s = e1 .before .before .before in
+    rw (toZ-ofZ (s .fits .dx), toZ-ofZ (s .fits .dt)) ((s .pre .0 .1, s .pre .0 .2, e1 .before .sides .ensures .0), (s .pre .1 .1, (sized e3, (carried e2, s .pre .1 .0))))
 
 returns-4 : tie.Need-returns-4
 returns-4 c =
     let e3 = c .before .before .before .before in let fa = e3 .before in let e2 = fa .before .before .before in let e1 = e2 .before .before .before in let s = e1 .before .before .before in
     let n = s .args .n in let bed = now (s .args .bed) in let st = seen (now (s .args .t)) in
-    let g = e2 .before .points .last .1 .1 .1 .0 in let wg = e2 .before .points .ensures .1 (e2 .if2 .left) in
+    let g = e2 .before .points .last .1 .1 .1 .0 in let wg = e2 .before .points .ensures .2 (e2 .if2 .left) in
     let u = simp (toZ-ofZ (s .fits .dx), toZ-ofZ (s .fits .dt)) at (c .update .ensures) in
     record {
       number = says-none n (s .args .dx) (s .args .dt) bed (s .args .left) (s .args .right) st (s .pre .0 .0)
-          (e1 .before .sides .last .1 .1 .1 .0) (e1 .before .sides .ensures .1 (e1 .if1 .left)) (slow-sides e1) (slow-points e2) (sym (crossed fa .1) ∙ e3 .if3 .left);
+          (e1 .before .sides .last .1 .1 .1 .0) (e1 .before .sides .ensures .2 (e1 .if1 .left)) (slow-sides e1) (slow-points e2) (sym (crossed fa .1) ∙ e3 .if3 .left);
       f-size = crossed fa .0;
       u-size = u .0;
       rows = λ e. rows e3;

@@ -63,9 +63,9 @@ one-range-in c i l = let ru = c .before .before .before .before .before in let s
     }
 
 -- ---- after stage two
-two-says : (c : tie.After-stage-two) → let e1 = c .before .before .before .before .before .before in let ru = e1 .before .before .before .before .before in let s = ru .before .before .before in
-    TwoSays (s .args .n) (s .args .dx) (now (s .args .bed)) (s .args .dt) (s .args .jump) (s .args .left) (s .args .right) (ru .rub .last .1 .1 .1 .1 .1 .0) (e1 .before .stage-one .last .1 .1 .1 .1 .1 .1 .1 .1 .1 .0) (c .stage-two .result) (c .stage-two .last .1 .1 .1 .1 .1 .1 .1 .1 .1 .1 .0) (c .stage-two .last .1 .1 .1 .1 .1 .1 .1 .1 .1 .1 .1 .0)
-two-says c = let s = c .before .before .before .before .before .before .before .before .before .before .before .before .before .before in
+two-says : (c : tie.After-stage-two) → let e1 = c .before .before .before .before .before in let ru = e1 .before .before .before .before .before in let s = ru .before .before .before in
+    TwoSays (s .args .n) (s .args .dx) (now (s .args .bed)) (s .args .dt) (s .args .jump) (s .args .left) (s .args .right) (ru .rub .last .1 .1 .1 .1 .1 .0) (e1 .before .stage-one .last .1 .1 .1 .1 .1 .1 .1 .1 .1 .0) (c .stage-two .result) (c .stage-two .last .1 .1 .1 .1 .1 .1 .1 .1 .1 .1 .0) (c .stage-two .last .1 .0)
+two-says c = let s = c .before .before .before .before .before .before .before .before .before .before .before .before .before in
     simp (toZ-ofZ (s .fits .dx), toZ-ofZ (s .fits .dt), toZ-ofZ (s .fits .jump)) at (c .stage-two .ensures)
 
 rub-requires : tie.Need-rub-requires
@@ -81,23 +81,23 @@ returns c = let so = c .before in let ru = so .before .before .before .before in
     (one-stopped (s .args .n) (s .args .dx) (now (s .args .bed)) (s .args .dt) (s .args .jump) (λ i. pos (getD (now (s .args .friction)) i 0)) (s .args .left) (s .args .right) (cellAt (now (s .args .state))) (s .pre .0 .0) (ru .rub .last .1 .1 .1 .1 .1 .0) (slowed ru) (so .stage-one .result) (one-says so .number) (c .if1 .taken), omega (arith, c .if1 .taken), refl)
 
 stage-two-requires : tie.Need-stage-two-requires
-stage-two-requires c κs = let e1 = c .before .before .before .before .before in let so = e1 .before in let ru = so .before .before .before .before in let s = ru .before .before .before in
+stage-two-requires c κs = let e1 = c .before .before .before .before in let so = e1 .before in let ru = so .before .before .before .before in let s = ru .before .before .before in
     rw (toZ-ofZ (s .fits .dx), toZ-ofZ (s .fits .dt), toZ-ofZ (s .fits .jump))
-    ((s .pre .0 .0, s .pre .0 .1, s .pre .0 .3, refl, refl), (s .pre .1 .0, ((in-range ru, one-range-in e1), (one-says so .sized (e1 .if1 .left), one-says so .rows (e1 .if1 .left)))))
+    ((s .pre .0 .0, s .pre .0 .1, s .pre .0 .3, refl, one-says so .b-size), (s .pre .1 .0, ((in-range ru, one-range-in e1), (one-says so .sized (e1 .if1 .left), one-says so .rows (e1 .if1 .left)))))
 
 returns-2 : tie.Need-returns-2
-returns-2 c = let w = c .before in let e1 = w .before .before .before .before .before .before in let so = e1 .before in let ru = so .before .before .before .before in let s = ru .before .before .before in
+returns-2 c = let w = c .before in let e1 = w .before .before .before .before .before in let so = e1 .before in let ru = so .before .before .before .before in let s = ru .before .before .before in
     (two-number (s .args .n) (s .args .dx) (now (s .args .bed)) (s .args .dt) (s .args .jump) (λ i. pos (getD (now (s .args .friction)) i 0)) (s .args .left) (s .args .right) (cellAt (now (s .args .state))) (s .pre .0 .0) (ru .rub .last .1 .1 .1 .1 .1 .0) (slowed ru) (so .stage-one .last .1 .1 .1 .1 .1 .1 .1 .1 .1 .0) (one-says so .cells (e1 .if1 .left)) (w .stage-two .result) (passed e1) (two-says w .number), omega (arith, c .if2 .taken), refl)
 
 hand-out-requires : tie.Need-hand-out-requires
 hand-out-requires c κs = search needs
 
 end-volume-requires : tie.Need-end-volume-requires
-end-volume-requires c κs = let e2 = c .before .before .before .before .before .before in let w = e2 .before in let e1 = w .before .before .before .before .before .before in
+end-volume-requires c κs = let e2 = c .before .before .before .before .before .before in let w = e2 .before in let e1 = w .before .before .before .before .before in
     (omega arith, (one-says (e1 .before) .sized (e1 .if1 .left) 0 (omega arith), two-says w .sized (e2 .if2 .left) 0 (omega arith)))
 
 end-volume-requires-2 : tie.Need-end-volume-requires-2
-end-volume-requires-2 c κs = let e2 = c .before .before .before .before .before .before .before .before .before in let w = e2 .before in let e1 = w .before .before .before .before .before .before in
+end-volume-requires-2 c κs = let e2 = c .before .before .before .before .before .before .before .before .before in let w = e2 .before in let e1 = w .before .before .before .before .before in
     let s = e1 .before .before .before .before .before .before .before .before in let n = s .args .n in
     (omega (arith, s .pre .0 .1), (one-says (e1 .before) .sized (e1 .if1 .left) n (omega arith), two-says w .sized (e2 .if2 .left) n (omega arith)))
 
@@ -106,7 +106,7 @@ same-length c = search needs
 
 returns-3 : tie.Need-returns-3
 returns-3 c =
-    let v1 = c .before .before .before in let ho = v1 .before .before .before .before in let e2 = ho .before .before .before in let w = e2 .before in let e1 = w .before .before .before .before .before .before in
+    let v1 = c .before .before .before in let ho = v1 .before .before .before .before in let e2 = ho .before .before .before in let w = e2 .before in let e1 = w .before .before .before .before .before in
     let so = e1 .before in let ru = so .before .before .before .before in let s = ru .before .before .before in let n = s .args .n in
     let a = ru .rub .last .1 .1 .1 .1 .1 .0 in let b = so .stage-one .last .1 .1 .1 .1 .1 .1 .1 .1 .1 .0 in let f = so .stage-one .last .1 .1 .1 .1 .1 .1 .1 .1 .0 in let g = w .stage-two .last .1 .1 .1 .1 .1 .1 .1 .1 .1 .1 .0 in
     let hb = one-says so .cells (e1 .if1 .left) in let rf = one-says so .rows (e1 .if1 .left) in let rg = two-says w .rows (e2 .if2 .left) in (
