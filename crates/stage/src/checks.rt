@@ -118,21 +118,6 @@ pub fn bad_friction(friction: &[u16]) -> bool
     false
 }
 
-// Is cell i of the lent state out of range? Its numbers are read here: that they are small enough to
-// be checked is known of an i32 only where it is read.
-fn off_at(state: &[i32], bed: &[i32], i: usize) -> bool
-    requires { ⌜ (i < 1024) × (4 * i + 3 < length (now state)) × (i + 1 < length (now bed)) ⌝ }
-    requires { ⌜ Ground (bedAt (now bed) i) ⌝ }
-    ensures { λ r. ⌜ r ≡ offCell (bedAt (now (bed .entry)) i) (cellAt (now (state .entry)) i) ⌝ }
-{
-    let at = 4 * i;
-    let e0 = state[at] as i64;
-    let e1 = state[at + 1] as i64;
-    let q0 = state[at + 2] as i64;
-    let q1 = state[at + 3] as i64;
-    off_cell(bed_of(bed, i), [e0, e1, q0, q1])
-}
-
 // 5: is some cell of the lent state out of range?
 pub fn off_lent(state: &[i32], bed: &[i32], n: usize) -> bool
     requires { ⌜ (n ≤ 1024) × (length (now state) ≡ 4 * n) × (length (now bed) ≡ n + 1) ⌝ }
@@ -141,7 +126,7 @@ pub fn off_lent(state: &[i32], bed: &[i32], n: usize) -> bool
 {
     let mut i: usize = 0;
     while i < n {
-        if off_at(state, bed, i) {
+        if off_cell(bed_of(bed, i), cell_of(state, i)) {
             return true;
         }
         i += 1;

@@ -8,6 +8,7 @@ use crate::table::rough_of;
 use speeds::answer::Whole;
 ghost use mathlib.Core.Path.{_≡_};
 ghost use mathlib.Core.Bool.{false};
+ghost use mathlib.Core.List.{[], _∷_};
 ghost use Prim.Native.Nat.{_+_, _*_, _≤_, _<_};
 ghost use lib.ListN.{getD, length};
 ghost use lib.IntN.{pos};
@@ -77,6 +78,15 @@ fn strength(dt: i64, f: i64, q: i64, h: i64) -> i64
     drag_of(dt, f, h, speed_of(q, h))
 }
 
+// What friction of strength d leaves of a cell, whose level stays.
+fn slowed_cell(d: i64, x: [i64; 4]) -> [i64; 4]
+    requires { ⌜ (pos 0 ≤ℤ d) × Within 10786209068 d ⌝ }
+    requires { ⌜ Within 8388608 (getD x 2 (pos 0)) × Within 8388608 (getD x 3 (pos 0)) ⌝ }
+    ensures { λ r. ⌜ r ≡ getD x 0 (pos 0) ∷ getD x 1 (pos 0) ∷ slowed d (getD x 2 (pos 0)) ∷ slowed d (getD x 3 (pos 0)) ∷ [] ⌝ }
+{
+    [x[0], x[1], slowed_by(d, x[2]), slowed_by(d, x[3])]
+}
+
 // A cell after friction. Dry cells keep what they have.
 fn rubbed_cell(dt: i64, f: i64, b: [i64; 2], x: [i64; 4]) -> [i64; 4]
     requires { ⌜ (pos 0 ≤ℤ dt) × Within 4096 dt ⌝ }
@@ -89,8 +99,7 @@ fn rubbed_cell(dt: i64, f: i64, b: [i64; 2], x: [i64; 4]) -> [i64; 4]
     if h[0] <= DRY {
         return x;
     }
-    let d = strength(dt, f, x[2], h[0]);
-    [x[0], x[1], slowed_by(d, x[2]), slowed_by(d, x[3])]
+    slowed_cell(strength(dt, f, x[2], h[0]), x)
 }
 
 // The state of the lent table after friction, into t.

@@ -10,11 +10,12 @@ ghost use Rattle.rules.specs.Step.{half, joinedCell};
 ghost use Rattle.finishing.specs.Held.{Wide, Wides};
 ghost use Rattle.stage.specs.Kept.{Row, FaceRows};
 
-fn half_of(a: i64, b: i64) -> i64
-    requires { ⌜ Within 70368744177664 a × Within 70368744177664 b ⌝ }
-    ensures { λ r. ⌜ r ≡ half a b ⌝ }
+// Half of number m of two rows.
+fn half_at(x: [i64; 4], y: [i64; 4], m: usize) -> i64
+    requires { ⌜ (m < 4) × Within 70368744177664 (getD x m (pos 0)) × Within 70368744177664 (getD y m (pos 0)) ⌝ }
+    ensures { λ r. ⌜ r ≡ half (getD x m (pos 0)) (getD y m (pos 0)) ⌝ }
 {
-    (a + b) / 2
+    (x[m] + y[m]) / 2
 }
 
 // A level after what came in at one face and went out at the other.
@@ -32,9 +33,9 @@ fn joined_cell(x: [i64; 4], y: [i64; 4], wl: i64, wr: i64) -> [i64; 4]
     ensures { λ r. ⌜ r ≡ asList (joinedCell (asCell x) (asCell y) wl wr) ⌝ }
 {
     let e0 = end_level(x[0], wl, wr);
-    let e1 = half_of(x[1], y[1]);
-    let q0 = half_of(x[2], y[2]);
-    let q1 = half_of(x[3], y[3]);
+    let e1 = half_at(x, y, 1);
+    let q0 = half_at(x, y, 2);
+    let q1 = half_at(x, y, 3);
     [e0, e1, q0, q1]
 }
 
@@ -44,7 +45,7 @@ pub fn end_volume(f: &[[i64; 4]; 1025], g: &[[i64; 4]; 1025], i: usize) -> i64
     requires { ⌜ Row (getD (now f) i []) × Row (getD (now g) i []) ⌝ }
     ensures { λ r. ⌜ r ≡ half (getD (getD (now (f .entry)) i []) 3 (pos 0)) (getD (getD (now (g .entry)) i []) 3 (pos 0)) ⌝ }
 {
-    half_of(f[i][3], g[i][3])
+    half_at(f[i], g[i], 3)
 }
 
 // The unfinished end state, in place of u after stage two: x after friction, f and g the two stages' faces.

@@ -1,14 +1,16 @@
-// Numbers of the lent tables, widened: each cast is proved once, here.
+// Numbers of the lent tables, widened: each cast is proved once, here. That a number of a table is no
+// larger than an i32 can be is known only where it is read.
 ghost use mathlib.Core.Path.{_≡_};
 ghost use Prim.Native.Nat.{_+_, _*_, _<_};
 ghost use lib.ListN.{getD, length};
 ghost use lib.IntN.{pos};
+ghost use Rattle.whole.specs.Parts.{Within};
 ghost use Rattle.tables.specs.Cells.{asList, cellAt};
-ghost use Rattle.finishing.specs.Held.{bedList, bedAt};
+ghost use Rattle.finishing.specs.Held.{bedList, bedAt, Wide};
 
 fn number(s: &[i32], j: usize) -> i64
     requires { ⌜ j < length (now s) ⌝ }
-    ensures { λ r. ⌜ r ≡ getD (now (s .entry)) j (pos 0) ⌝ }
+    ensures { λ r. ⌜ (r ≡ getD (now (s .entry)) j (pos 0)) × Within 70368744177664 (getD (now (s .entry)) j (pos 0)) ⌝ }
 {
     s[j] as i64
 }
@@ -16,7 +18,7 @@ fn number(s: &[i32], j: usize) -> i64
 // Cell i of a lent state.
 pub fn cell_of(s: &[i32], i: usize) -> [i64; 4]
     requires { ⌜ (i < 1024) × (4 * i + 3 < length (now s)) ⌝ }
-    ensures { λ r. ⌜ r ≡ asList (cellAt (now (s .entry)) i) ⌝ }
+    ensures { λ r. ⌜ (r ≡ asList (cellAt (now (s .entry)) i)) × Wide (cellAt (now (s .entry)) i) ⌝ }
 {
     let at = 4 * i;
     let e0 = number(s, at);

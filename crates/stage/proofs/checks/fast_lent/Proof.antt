@@ -37,14 +37,14 @@ fast-cell-requires : tie.Need-fast-cell-requires Inv-loop μ-loop
 fast-cell-requires c κs =
     let b = c .before in let a = b .before in let l = a .before in
     subst (λ (k : List ℤ). Inside (asBed k) (asCell (c .cell-of .result))) (sym (b .bed-of .ensures))
-    (subst (λ (k : List ℤ). Inside (bedAt (now (l .before .args .bed)) (l .loop .i)) (asCell k)) (sym (c .cell-of .ensures)) (l .before .pre .1 (l .loop .i) (a .loop-test .taken)))
+    (subst (λ (k : List ℤ). Inside (bedAt (now (l .before .args .bed)) (l .loop .i)) (asCell k)) (sym (c .cell-of .ensures .0)) (l .before .pre .1 (l .loop .i) (a .loop-test .taken)))
 
 -- what the test of this turn says
 here : (c : tie.After-fast-cell Inv-loop μ-loop) →
     let l = c .before .before .before .before in bad (now (l .before .args .state)) (now (l .before .args .bed)) (l .loop .i) ≡ c .fast-cell .result
 here c =
     let a = c .before in
-    sym (c .fast-cell .ensures ∙ (λ x. fastCell dryDepth (asBed (a .before .bed-of .ensures x)) (asCell (a .cell-of .ensures x))))
+    sym (c .fast-cell .ensures ∙ (λ x. fastCell dryDepth (asBed (a .before .bed-of .ensures x)) (asCell (a .cell-of .ensures .0 x))))
 
 returns : tie.Need-returns Inv-loop μ-loop
 returns c =

@@ -45,7 +45,7 @@ rubbed-cell-requires : tie.Need-rubbed-cell-requires Inv-loop μ-loop
 rubbed-cell-requires c κs =
     let b = c .before in let r = b .before in let e = r .before in let l = e .before in let s = l .before .before in
     let w = s .pre .1 .1 .1 (l .loop .i) (e .loop-test .taken) in
-    rw (toZ-ofZ (s .fits .dt), back64 (r .rough-of .ok) (r .rough-of .ensures), b .bed-of .ensures, c .cell-of .ensures)
+    rw (toZ-ofZ (s .fits .dt), back64 (r .rough-of .ok) (r .rough-of .ensures), b .bed-of .ensures, c .cell-of .ensures .0)
     (s .pre .1 .0, ((nat-nonneg (getD (now (s .args .friction)) (l .loop .i) 0), record { abs = w .rough }), (s .pre .1 .1 .0 (l .loop .i) (e .loop-test .taken), w .speed)))
 
 mul-t13 : tie.Need-mul-t13 Inv-loop μ-loop
@@ -67,7 +67,7 @@ loop-again c =
       omega arith,
       simp length-set (l .loop .inv .1),
       written-more [] (l .loop .t) (l .loop .i) _ _ room (l .loop .inv .2)
-          (rw (back64 (r .rough-of .ok) (r .rough-of .ensures), b .bed-of .ensures, k .cell-of .ensures) at (c .rubbed-cell .ensures)),
+          (rw (back64 (r .rough-of .ok) (r .rough-of .ensures), b .bed-of .ensures, k .cell-of .ensures .0) at (c .rubbed-cell .ensures)),
     )
 
 returns : tie.Need-returns Inv-loop μ-loop

@@ -92,41 +92,21 @@ x-size c =
       drag-most h low (m .mean-most) (p .dt) (p .f) u (s .pre .0 .1) (s .pre .1 .0 .1) (within-past 131072 u (s .pre .1 .1 .1)),
     )
 
-array-copy-out-t12 : tie.Need-array-copy-out-t12
-array-copy-out-t12 c = search needs
-
-array-copy-out-t18 : tie.Need-array-copy-out-t18
-array-copy-out-t18 c = search needs
-
-array-copy-out-slowed-by : tie.Need-array-copy-out-slowed-by
-array-copy-out-slowed-by c = search needs
-
-slowed-by-requires : tie.Need-slowed-by-requires
-slowed-by-requires c κs =
-    let t = c .before .before .before in let s = t .before .before .before .before .before .before in
-    rw (back64 (t .strength .ok) (x-is t), back (c .slowed-by-arg .given)) (x-size t, kept (s .pre .1 .1 .0) .q0)
-
-array-copy-out-slowed-by-2 : tie.Need-array-copy-out-slowed-by-2
-array-copy-out-slowed-by-2 c = search needs
-
-slowed-by-requires-2 : tie.Need-slowed-by-requires-2
-slowed-by-requires-2 c κs =
-    let t = c .before .before .before .before .before in let s = t .before .before .before .before .before .before in
-    rw (back64 (t .strength .ok) (x-is t), back (c .slowed-by-arg2 .given)) (x-size t, kept (s .pre .1 .1 .0) .q1)
+slowed-cell-requires : tie.Need-slowed-cell-requires
+slowed-cell-requires c κs =
+    let m = kept (c .before .before .before .before .before .before .pre .1 .1 .0) in
+    rw (back64 (c .strength .ok) (x-is c)) (x-size c, (m .q0, m .q1))
 
 returns-2 : tie.Need-returns-2
 unfolding rubbedCell bed cell strong
 returns-2 c =
-    let a2 = c .before in let b = a2 .before in let a1 = b .before in let t18 = a1 .before in let t12 = t18 .before in let t = t12 .before in
-    let e = t .before .before .before in let s = e .before .before .before in let p = s .args in
-    let x = back64 (t .strength .ok) (x-is t) in
-    let q0 = back64 (b .slowed-by .ok) (rw (x, back (a1 .slowed-by-arg .given)) at (b .slowed-by .ensures)) in
-    let q1 = back64 (c .slowed-by2 .ok) (rw (x, back (a2 .slowed-by-arg2 .given)) at (c .slowed-by2 .ensures)) in
-    λ i. back {z = cell s .e0} (t12 .t12 .given) i
-    ∷ back {z = cell s .e1} (t18 .t18 .given) i
-    ∷ (q0 ∙ sym (rub-wet (p .dt) dryDepth (p .f) (bed s) (cell s) (cell s .q0) (wet e))) i
-    ∷ (q1 ∙ sym (rub-wet (p .dt) dryDepth (p .f) (bed s) (cell s) (cell s .q1) (wet e))) i
-    ∷ []
+    let t = c .before in let e = t .before .before .before in let s = e .before .before .before in let p = s .args in
+    (rw (back64 (t .strength .ok) (x-is t)) at (c .slowed-cell .ensures))
+    ∙ (λ i. cell s .e0
+    ∷ cell s .e1
+    ∷ sym (rub-wet (p .dt) dryDepth (p .f) (bed s) (cell s) (cell s .q0) (wet e)) i
+    ∷ sym (rub-wet (p .dt) dryDepth (p .f) (bed s) (cell s) (cell s .q1) (wet e)) i
+    ∷ [])
 
 pub rubbed-cell-spec : {M : Type 1} → statement M
 rubbed-cell-spec =
@@ -138,10 +118,5 @@ rubbed-cell-spec =
     array-copy-out-strength
     array-copy-out-strength-2
     strength-requires
-    array-copy-out-t12
-    array-copy-out-t18
-    array-copy-out-slowed-by
-    slowed-by-requires
-    array-copy-out-slowed-by-2
-    slowed-by-requires-2
+    slowed-cell-requires
     returns-2)

@@ -15,7 +15,7 @@ number-requires-2 : tie.Need-number-requires-2
 number-requires-2 c κs = search needs
 
 returns : tie.Need-returns
-returns c = let p = back64 (c .before .number .ok) (c .before .number .ensures) in let q = back64 (c .number2 .ok) (rw add-one at (c .number2 .ensures)) in
+returns c = let p = back64 (c .before .number .ok) (c .before .number .ensures .0) in let q = back64 (c .number2 .ok) (rw add-one at (c .number2 .ensures .0)) in
     λ i. p i ∷ q i ∷ []
 
 pub bed-of-spec : {M : Type 1} → statement M
