@@ -14,7 +14,7 @@ use Rattle.tables.specs.Rows.{Written}
 use Rattle.tables.specs.Cells.{Cell}
 use Rattle.rules.specs.Limits.{dryDepth}
 use Rattle.rules.specs.Face.{Side, Flux, face}
-use Rattle.rules.specs.Reach.{State, Bed, sideL, sideR}
+use Rattle.rules.specs.Reach.{State, Bed, z1, hl, hr, depthL, depthR, groundL, groundR, sideL, sideR}
 use Rattle.rules.specs.Stage.{outer, leftEnd, rightEnd, atLeft, atRight, faceRight, faceAt, gauss, push, tilt, update}
 use Rattle.rules.specs.Refusals.{fastSide, fastFace, chk, verdict}
 use Rattle.rules.specs.Laws.Agree.{inside}
@@ -22,7 +22,7 @@ use Rattle.rules.specs.Laws.Positive.{inner}
 use Rattle.finishing.specs.Held.{bedAt}
 use Rattle.finishing.specs.Narrow.{reachBy}
 use Rattle.stage.specs.Narrow.{callBy}
-use Rattle.stage.specs.Rows.{leftIn, rightIn, sidesAt, fastSides, faceRow, crossAt, pushBy, tiltBy, updateBy}
+use Rattle.stage.specs.Rows.{leftIn, rightIn, sidesAt, fastSides, faceRow, crossAt, pushOf, tiltOf, updateBy}
 
 -- ---- a side that is too fast is so at its face: by cells and by faces it is one check
 module _ (n : ℕ) (dx dt : ℤ) (bed : List ℤ) (left right : ℕ) (s : State) (o : 0 < n) where
@@ -87,7 +87,7 @@ module _ (n : ℕ) (dx dt : ℤ) (bed : List ℤ) (left right : ℕ) (s : State)
 
 -- ---- an update from rows is the rule's
 pub update-is : (dx dt : ℤ) (b : Bed) (x : Cell) (l f : Flux) → updateBy dx dt b x (faceRow dx dt l) (faceRow dx dt f) (gauss dryDepth b x) ≡ update dx dt dryDepth b x l f
-unfolding updateBy update pushBy tiltBy push tilt
+unfolding updateBy update pushOf tiltOf push tilt depthL depthR groundL groundR hl hr z1
 update-is dx dt b x l f = refl
 
 -- ---- a stage's three checks in a row, by how far they are passed

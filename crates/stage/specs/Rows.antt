@@ -9,7 +9,7 @@ use lib.Signed.{quotZ, ltZ}
 use Rattle.tables.specs.Cells.{Cell}
 use Rattle.rules.specs.Limits.{dryDepth}
 use Rattle.rules.specs.Face.{Side, Flux, speed, face}
-use Rattle.rules.specs.Reach.{State, Bed, short, z1, h0, h1, depthL, depthR, groundL, groundR, sideL, sideR}
+use Rattle.rules.specs.Reach.{State, Bed, short, h0, h1, sideL, sideR}
 use Rattle.rules.specs.Stage.{outer, volume, carried, flowBefore, flowBehind, depthBefore, depthBehind, gauss}
 use Rattle.rules.specs.Refusals.{fastSide}
 use Rattle.rules.specs.Laws.Sizes.{Sound}
@@ -68,11 +68,18 @@ crossAt n left right d zero = face (outer left (leftIn d zero)) (leftIn d zero)
 crossAt n left right d (suc i) = cond (eqb (suc i) n) (face (rightIn d i) (outer right (rightIn d i))) (face (rightIn d i) (leftIn d (suc i)))
 
 -- ---- a cell after the stage, from the rows l and f of its faces and its momentum g
-unfoldable pub pushBy : Bed → Cell → ℤ → ℤ → ℤ
-pushBy b x kl kr = kl -ℤ kr -ℤ (depthR b x +ℤ depthL b x) *ℤ (groundR b x -ℤ groundL b x)
+-- E and D, of a mean depth m with the slope s over a bed from zl to zr, between faces of pressure kl and kr
+unfoldable pub pushOf : ℤ → ℤ → ℤ → ℤ → ℤ → ℤ → ℤ
+pushOf m s zl zr kl kr = kl -ℤ kr -ℤ ((m +ℤ s +ℤ short (m +ℤ s)) +ℤ (m -ℤ s +ℤ short (m -ℤ s))) *ℤ ((zr -ℤ short (m +ℤ s)) -ℤ (zl -ℤ short (m -ℤ s)))
 
-unfoldable pub tiltBy : Bed → Cell → ℤ → ℤ → ℤ
-tiltBy b x kl kr = pos 3 *ℤ kr +ℤ pos 3 *ℤ kl -ℤ pos 6 *ℤ (h0 b x *ℤ h0 b x) -ℤ pos 2 *ℤ (h1 b x *ℤ h1 b x) +ℤ pos 4 *ℤ (h1 b x *ℤ z1 b)
+unfoldable pub tiltOf : ℤ → ℤ → ℤ → ℤ → ℤ → ℤ → ℤ
+tiltOf m s zl zr kl kr = pos 3 *ℤ kr +ℤ pos 3 *ℤ kl -ℤ pos 6 *ℤ (m *ℤ m) -ℤ pos 2 *ℤ (s *ℤ s) +ℤ pos 4 *ℤ (s *ℤ quotZ (zr -ℤ zl) (pos 2))
+
+abbrev pub pushBy : Bed → Cell → ℤ → ℤ → ℤ
+pushBy b x kl kr = pushOf (h0 b x) (h1 b x) (b .zl) (b .zr) kl kr
+
+abbrev pub tiltBy : Bed → Cell → ℤ → ℤ → ℤ
+tiltBy b x kl kr = tiltOf (h0 b x) (h1 b x) (b .zl) (b .zr) kl kr
 
 unfoldable pub updateBy : ℤ → ℤ → Bed → Cell → List ℤ → List ℤ → ℤ → Cell
 updateBy dx dt b x l f g = record {

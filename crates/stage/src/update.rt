@@ -3,7 +3,7 @@ use crate::cell::depths;
 use crate::sides::short_of;
 use crate::table::bed_of;
 ghost use mathlib.Core.Path.{_≡_};
-ghost use mathlib.Core.List.{[]};
+ghost use mathlib.Core.List.{[], _∷_};
 ghost use Prim.Native.Nat.{suc, _+_, _≤_, _<_};
 ghost use lib.ListN.{getD, length};
 ghost use lib.IntN.{pos, _+ℤ_, _-ℤ_, _*ℤ_};
@@ -13,7 +13,8 @@ ghost use Rattle.tables.specs.Cells.{asCell, asList, seen, Holds};
 ghost use Rattle.finishing.specs.Held.{asBed, bedAt};
 ghost use Rattle.stage.specs.Held.{Inside, Ranged};
 ghost use Rattle.stage.specs.Kept.{Row, FaceRows, Momenta, slopeOf, thrust};
-ghost use Rattle.stage.specs.Rows.{pushBy, tiltBy, updateBy};
+ghost use Rattle.stage.specs.Rows.{pushOf, tiltOf, pushBy, tiltBy, updateBy};
+ghost use Rattle.stage.specs.Lines.{Pressed};
 
 // dt/dx of three times a sum: how a slope changes.
 fn slope_change(a: i64, dx: i64, dt: i64) -> i64
@@ -33,30 +34,41 @@ fn thrust_of(e: i64, dx: i64, dt: i64) -> i64
     981 * e * dt / (819200 * dx)
 }
 
-// E: the pressure at the two faces against the bed, any shortfall taken from both.
-fn push_of(b: [i64; 2], x: [i64; 4], l: [i64; 4], f: [i64; 4]) -> i64
-    requires { ⌜ Inside (asBed b) (asCell x) ⌝ }
-    requires { ⌜ Row l × Row f ⌝ }
-    ensures { λ r. ⌜ r ≡ pushBy (asBed b) (asCell x) (getD l 1 (pos 0)) (getD f 1 (pos 0)) ⌝ }
+// E: the pressures kl and kr of the two faces against the bed, from zl to zr under the mean depth m
+// and its slope s; any shortfall is taken from both.
+fn push_of(m: i64, s: i64, zl: i64, zr: i64, kl: i64, kr: i64) -> i64
+    requires { ⌜ Pressed m s zl zr kl kr ⌝ }
+    ensures { λ r. ⌜ r ≡ pushOf m s zl zr kl kr ⌝ }
 {
-    let h = depths(b, x);
-    let left = h[0] - h[1];
-    let right = h[0] + h[1];
+    let left = m - s;
+    let right = m + s;
     let sl = short_of(left);
     let sr = short_of(right);
-    l[1] - f[1] - (right + sr + (left + sl)) * (b[1] - sr - (b[0] - sl))
+    kl - kr - (right + sr + (left + sl)) * (zr - sr - (zl - sl))
 }
 
 // D: the same for the slope.
-fn tilt_of(b: [i64; 2], x: [i64; 4], l: [i64; 4], f: [i64; 4]) -> i64
+fn tilt_of(m: i64, s: i64, zl: i64, zr: i64, kl: i64, kr: i64) -> i64
+    requires { ⌜ Pressed m s zl zr kl kr ⌝ }
+    ensures { λ r. ⌜ r ≡ tiltOf m s zl zr kl kr ⌝ }
+{
+    3 * kr + 3 * kl - 6 * (m * m) - 2 * (s * s) + 4 * (s * ((zr - zl) / 2))
+}
+
+// E and D of a cell between the row l of its left face and the row f of its right.
+fn pressures(b: [i64; 2], x: [i64; 4], l: [i64; 4], f: [i64; 4]) -> [i64; 2]
     requires { ⌜ Inside (asBed b) (asCell x) ⌝ }
     requires { ⌜ Row l × Row f ⌝ }
-    ensures { λ r. ⌜ r ≡ tiltBy (asBed b) (asCell x) (getD l 1 (pos 0)) (getD f 1 (pos 0)) ⌝ }
+    ensures { λ r. ⌜ r ≡ pushBy (asBed b) (asCell x) (getD l 1 (pos 0)) (getD f 1 (pos 0)) ∷ tiltBy (asBed b) (asCell x) (getD l 1 (pos 0)) (getD f 1 (pos 0)) ∷ [] ⌝ }
 {
     let h = depths(b, x);
     let m = h[0];
     let s = h[1];
-    3 * f[1] + 3 * l[1] - 6 * (m * m) - 2 * (s * s) + 4 * (s * ((b[1] - b[0]) / 2))
+    let zl = b[0];
+    let zr = b[1];
+    let kl = l[1];
+    let kr = f[1];
+    [push_of(m, s, zl, zr, kl, kr), tilt_of(m, s, zl, zr, kl, kr)]
 }
 
 // The four lines of a cell between the row l of its left face and the row f of its right. Each asks
@@ -105,12 +117,11 @@ fn updated(b: [i64; 2], x: [i64; 4], l: [i64; 4], f: [i64; 4], g: i64, dx: i64, 
     requires { ⌜ (pos 0 <ℤ dx) × Within 1048576 dx × Within 4096 dt ⌝ }
     ensures { λ r. ⌜ r ≡ asList (updateBy dx dt (asBed b) (asCell x) l f g) ⌝ }
 {
-    let e = push_of(b, x, l, f);
-    let d = tilt_of(b, x, l, f);
+    let p = pressures(b, x, l, f);
     let e0 = level_mean(x, l, f);
     let e1 = level_slope(x, l, f, dx, dt);
-    let q0 = flow_mean(x, l, f, e, dx, dt);
-    let q1 = flow_slope(x, l, f, g, d, dx, dt);
+    let q0 = flow_mean(x, l, f, p[0], dx, dt);
+    let q1 = flow_slope(x, l, f, g, p[1], dx, dt);
     [e0, e1, q0, q1]
 }
 
