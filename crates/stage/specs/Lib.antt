@@ -19,5 +19,6 @@ pub mod Readied
 pub mod Ended
 pub mod Whole
 pub mod Worked
+pub mod Both
 pub mod Unique
 pub mod Fitted

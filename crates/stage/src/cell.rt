@@ -41,7 +41,9 @@ pub fn depths(b: [i64; 2], x: [i64; 4]) -> [i64; 2]
     requires { ⌜ Wide (asCell x) ⌝ }
     ensures { λ r. ⌜ r ≡ h0 (asBed b) (asCell x) ∷ h1 (asBed b) (asCell x) ∷ [] ⌝ }
 {
-    [above_mean(x[0], b[0], b[1]), above_slope(x[1], b[0], b[1])]
+    let zl = b[0];
+    let zr = b[1];
+    [above_mean(x[0], zl, zr), above_slope(x[1], zl, zr)]
 }
 
 // Is a depth below nought, or too deep?
