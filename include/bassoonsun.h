@@ -78,7 +78,7 @@ extern "C" {
  * it, water was seen to come in from outside, and after a wave of 0.5 m on 1 m of water the level at
  * the end rose until a 7. These are trials of the rules and no theorems.
  *
- * The call works on the stack, in about 300 KiB however short the reach: lend a worker thread that
+ * The call works on the stack, in about 200 KiB however short the reach: lend a worker thread that
  * calls it 512 KiB. */
 uint32_t bassoonsun_step(const int32_t *now, size_t now_len, int32_t *next, size_t next_len,
                          const int32_t *bed, size_t bed_len, const uint16_t *friction,

@@ -10,7 +10,7 @@ use Rattle.whole.specs.Tests.{le-yes, yes-le}
 use Rattle.rules.specs.Limits.{deepest, fullest, dryDepth}
 use Rattle.rules.specs.Face.{speed, wave}
 use Rattle.rules.specs.Friction.{cube}
-use Rattle.speeds.specs.Given.{Perhaps, given, refused, liesBetween, depthFits, dischargeFits, speedGiven, waveGiven, cubeGiven}
+use Rattle.speeds.specs.Given.{given, refused, liesBetween, depthFits, dischargeFits, speedGiven, waveGiven, cubeGiven}
 use Rattle.speeds.specs.Answers.{number, same, never}
 use Rattle.speeds.specs.declared.answer.Whole.{Whole}
 use Rattle.speeds.specs.declared.answer.Whole.the-variants as whole

@@ -1,11 +1,10 @@
 -- Sizes of the lines of an update: of what a slope changes by, and of the pressures E and D of a cell in range, which a thrust can take.
 -- Assumes nothing.
 use mathlib.Core.Path.{sym, subst}
-use mathlib.Core.List.{List, [], _∷_}
+use mathlib.Core.List.{List}
 use Prim.Native.Nat.{ℕ, _^_}
 use native.Mathlib.Omega.{arith}
 use lib.Dec.{T, ltb}
-use lib.ListN.{getD}
 use lib.IntN.{ℤ, pos, _+ℤ_, _-ℤ_, _*ℤ_}
 use lib.Signed.{_≤ℤ_, _<ℤ_}
 use Rattle.whole.specs.Parts.{Within, of-lt, b-add, b-sub, b-mul, b-lit, b-up, b-nonneg, fit}

@@ -15,7 +15,7 @@ ghost use Rattle.tables.specs.Cells.{asCell, cellAt, seen};
 ghost use Rattle.rules.specs.Limits.{dryDepth};
 ghost use Rattle.rules.specs.Refusals.{outside, badBed, badRough, offCell, fastCell};
 ghost use Rattle.rules.specs.Lent.{misfit};
-ghost use Rattle.finishing.specs.Held.{asBed, bedAt, Ground, Grounds, Unfinished};
+ghost use Rattle.finishing.specs.Held.{asBed, bedAt, Grounds, Unfinished};
 ghost use Rattle.stage.specs.Held.{Inside, Ranged};
 ghost use Rattle.stage.specs.Narrow.{badNumbers};
 

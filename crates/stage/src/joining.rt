@@ -1,7 +1,7 @@
 // The end of the step: what friction left and what stage two gives, joined by the volumes of the faces.
 ghost use mathlib.Core.Path.{_≡_};
-ghost use mathlib.Core.List.{[], _∷_};
-ghost use Prim.Native.Nat.{ℕ, suc, _≤_, _<_};
+ghost use mathlib.Core.List.{[]};
+ghost use Prim.Native.Nat.{suc, _≤_, _<_};
 ghost use lib.ListN.{getD, length};
 ghost use lib.IntN.{pos, _+ℤ_, _-ℤ_};
 ghost use Rattle.whole.specs.Parts.{Within};

@@ -16,7 +16,6 @@ ghost use mathlib.Core.Path.{_≡_};
 ghost use mathlib.Core.List.{[]};
 ghost use Prim.Native.Nat.{_+_, _*_, _≤_, _<_};
 ghost use lib.ListN.{getD, length};
-ghost use lib.IntN.{pos};
 ghost use Rattle.tables.specs.Rows.{Filled};
 ghost use Rattle.tables.specs.Cells.{cellAt, seen};
 ghost use Rattle.rules.specs.Refusals.{verdict};

@@ -1,6 +1,6 @@
 // The new state, written into the lent table: the last thing that an accepted step does.
 ghost use mathlib.Core.Path.{_≡_};
-ghost use Prim.Native.Nat.{ℕ, _+_, _*_, _≤_, _<_};
+ghost use Prim.Native.Nat.{_+_, _*_, _≤_, _<_};
 ghost use lib.ListN.{getD, set, length};
 ghost use lib.IntN.{pos};
 ghost use Rattle.whole.specs.Parts.{Within};

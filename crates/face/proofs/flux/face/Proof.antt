@@ -10,7 +10,7 @@ use Rattle.rules.specs.Laws.Sizes.{Sound}
 use Rattle.speeds.specs.Given.{depthFits, waveGiven}
 use Rattle.speeds.specs.Answers.{number}
 use Rattle.speeds.proofs.Fits.{wave-told, wave-untold}
-use Rattle.face.specs.Given.{side, speedFits, sideFits, faceGiven}
+use Rattle.face.specs.Given.{side, speedFits}
 use Rattle.face.specs.Answers.{flux}
 use Rattle.face.proofs.Fits.{side-in, fitting, too-deep, too-fast, left-refused, right-refused, face-given}
 use Rattle.face.proofs.flux.face.Statement.{statement}
