@@ -1,7 +1,7 @@
 -- Sizes of the lines of an update: of what a slope changes by, and of the pressures E and D of a cell in range, which a thrust can take.
 -- Assumes nothing.
 use mathlib.Core.Path.{sym, subst}
-use mathlib.Core.List.{List}
+use mathlib.Core.List.{List, _∷_}
 use Prim.Native.Nat.{ℕ, _^_}
 use native.Mathlib.Omega.{arith}
 use lib.Dec.{T, ltb}
@@ -49,6 +49,10 @@ pub record Pressed (m s zl zr kl kr : ℤ) : Type 0 where
   pub kr-in : Within 68719476736 kr
 
 module _ {m s zl zr kl kr : ℤ} (p : Pressed m s zl zr kl kr) where
+  -- the six, in their order, and then others
+  abbrev pub and-then : List Entry → List Entry
+  and-then l = sized (p .mean) tt ∷ sized (p .slope) tt ∷ sized (p .zl-in) tt ∷ sized (p .zr-in) tt ∷ sized (p .kl-in) tt ∷ sized (p .kr-in) tt ∷ l
+
   pub left-short : Within 0 (short (m -ℤ s))
   left-short = short-size (m -ℤ s) (p .left)
 

@@ -3,22 +3,15 @@ use mathlib.Core.Path.{_≡_, _∙_, ap, sym, subst}
 use mathlib.Core.List.{List, [], _∷_}
 use lib.IntN.{_+ℤ_, _-ℤ_, _*ℤ_}
 use Rattle.whole.specs.Parts.{Within, b-up}
-use Rattle.whole.specs.Machine.{X, v, _⊕_, _⊝_, _⊗_, Entry, entry, got, need, value}
+use Rattle.whole.specs.Machine.{X, v, _⊕_, _⊝_, _⊗_, Entry, got, need, value}
 use Rattle.rules.specs.Reach.{short}
 use Rattle.stage.specs.Rows.{pushOf}
-use Rattle.stage.specs.Lines.{sized, left-short, right-short}
+use Rattle.stage.specs.Lines.{sized, and-then, left-short, right-short}
 use Rattle.stage.proofs.update.push_of.Statement.{statement}
 use Rattle.stage.proofs.update.push_of.Tie as tie
 
 abbrev env : tie.Start → List Entry
-env s =
-    entry (s .fits .m) (s .pre .mean)
-    ∷ entry (s .fits .s) (s .pre .slope)
-    ∷ entry (s .fits .zl) (s .pre .zl-in)
-    ∷ entry (s .fits .zr) (s .pre .zr-in)
-    ∷ entry (s .fits .kl) (s .pre .kl-in)
-    ∷ entry (s .fits .kr) (s .pre .kr-in)
-    ∷ []
+env s = and-then (s .pre) []
 
 abbrev left : X
 left = v 0 ⊝ v 1
@@ -55,18 +48,8 @@ module _ (c : tie.After-short-of2) where
   right-in : Within 0 (c .short-of2 .result)
   right-in = subst (Within 0) (sym right-none) (right-short (s .pre))
 
-  -- the shortfalls stand before the six numbers that are given
   abbrev all : List Entry
-  all =
-      entry (s .fits .m) (s .pre .mean)
-      ∷ entry (s .fits .s) (s .pre .slope)
-      ∷ entry (s .fits .zl) (s .pre .zl-in)
-      ∷ entry (s .fits .zr) (s .pre .zr-in)
-      ∷ entry (s .fits .kl) (s .pre .kl-in)
-      ∷ entry (s .fits .kr) (s .pre .kr-in)
-      ∷ sized left-in tt
-      ∷ sized right-in tt
-      ∷ []
+  all = and-then (s .pre) (sized left-in tt ∷ sized right-in tt ∷ [])
 
 abbrev deep : X
 deep = right ⊕ v 7 ⊕ (left ⊕ v 6)

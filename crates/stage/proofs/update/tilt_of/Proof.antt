@@ -1,21 +1,15 @@
 -- The mean is within the deepest and the slope within half of it, so every square and product of D stays small.
-use mathlib.Core.List.{List, [], _∷_}
+use mathlib.Core.List.{List, []}
 use lib.Dec.{lit<}
 use lib.IntN.{pos}
-use Rattle.whole.specs.Machine.{X, v, k, _⊕_, _⊝_, _⊗_, _⊘_, Entry, entry, need, value}
+use Rattle.whole.specs.Machine.{X, v, k, _⊕_, _⊝_, _⊗_, _⊘_, Entry, need, value}
 use Rattle.stage.specs.Rows.{tiltOf}
+use Rattle.stage.specs.Lines.{and-then}
 use Rattle.stage.proofs.update.tilt_of.Statement.{statement}
 use Rattle.stage.proofs.update.tilt_of.Tie as tie
 
 abbrev env : tie.Start → List Entry
-env s =
-    entry (s .fits .m) (s .pre .mean)
-    ∷ entry (s .fits .s) (s .pre .slope)
-    ∷ entry (s .fits .zl) (s .pre .zl-in)
-    ∷ entry (s .fits .zr) (s .pre .zr-in)
-    ∷ entry (s .fits .kl) (s .pre .kl-in)
-    ∷ entry (s .fits .kr) (s .pre .kr-in)
-    ∷ []
+env s = and-then (s .pre) []
 
 abbrev faces : X
 faces = k (pos 3) ⊗ v 5 ⊕ k (pos 3) ⊗ v 4
