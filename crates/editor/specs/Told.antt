@@ -12,13 +12,13 @@ use Rattle.speeds.specs.Given.{Perhaps}
 use Rattle.speeds.specs.Given as given
 use Rattle.face.specs.Answers.{flux}
 use Rattle.face.specs.declared.answer.Carried.the-variants as carried
-use Rattle.double.specs.Root.{RootIs}
+use Rattle.root.specs.Root.{RootIs}
 use Rattle.double.specs.Face.{FaceIs}
-use Rattle.double.specs.declared.root.RootAnswer.{RootAnswer}
-use Rattle.double.specs.declared.root.RootAnswer.the-variants as root
+use Rattle.root.specs.declared.RootAnswer.{RootAnswer}
+use Rattle.root.specs.declared.RootAnswer.the-variants as root
 use Rattle.double.specs.declared.face.DoubleAnswer.{DoubleAnswer}
 use Rattle.double.specs.declared.face.DoubleAnswer.the-variants as double
-use Rattle.double.proofs.root.Unique.{root-unique}
+use Rattle.root.proofs.Unique.{root-unique}
 use Rattle.double.proofs.face.Unique as doubles
 use Rattle.step.specs.Gives.{answer, leaves, code}
 use Rattle.step.specs.declared.Answer.{Answer}

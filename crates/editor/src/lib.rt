@@ -1,7 +1,7 @@
 // The library for callers in C: numbers, tables as pointer and length, and a number for an answer.
 // include/bassoonsun.h declares these functions.
 use double::face::DoubleAnswer;
-use double::root::RootAnswer;
+use root::RootAnswer;
 use face::answer::Carried;
 use step::Answer;
 ghost use lib.ListN.{length};
@@ -87,7 +87,7 @@ pub extern "C" fn bassoonsun_face_double(
 pub extern "C" fn bassoonsun_root(x: f64, root: &mut [f64; 1]) -> u32
     ensures { λ r. ⌜ RootTold x r (now (root .entry)) (now (root .exit)) ⌝ }
 {
-    let c = double::root::root(x);
+    let c = root::root(x);
     match c {
         RootAnswer::Root(y) => {
             root[0] = y;

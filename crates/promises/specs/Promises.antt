@@ -30,15 +30,15 @@ use Rattle.speeds.specs.Given.{speedGiven, waveGiven, cubeGiven}
 use Rattle.face.specs.Given.{faceGiven}
 use Rattle.face.specs.Answers.{flux}
 use Rattle.speeds.specs.Answers.{number as worth}
-use Rattle.double.specs.Root.{RootIs}
+use Rattle.root.specs.Root.{RootIs}
 use Rattle.double.specs.Face.{FaceIs}
 use Rattle.speeds.specs.declared.answer.Whole.{Whole}
 use Rattle.face.specs.declared.answer.Carried.{Carried}
-use Rattle.double.specs.declared.root.RootAnswer.{RootAnswer}
+use Rattle.root.specs.declared.RootAnswer.{RootAnswer}
 use Rattle.double.specs.declared.face.DoubleAnswer.{DoubleAnswer}
 use Rattle.speeds.proofs.Unique.{speed-unique, wave-unique, cube-unique}
 use Rattle.face.proofs.Unique.{face-unique}
-use Rattle.double.proofs.root.Unique.{root-unique}
+use Rattle.root.proofs.Unique.{root-unique}
 use Rattle.double.proofs.face.Unique as doubles
 use Rattle.finishing.specs.Says.{FinishSays}
 use Rattle.finishing.specs.Fit.{one-finish}

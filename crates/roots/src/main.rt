@@ -1,7 +1,7 @@
 // The root over 128 blocks of 1,000 doubles, or of 1,000 squares with their neighbours, and at the
 // edges of its range. A line gives the running sum of a block's answers, so that a difference is
 // found within that block. What it must write comes from tests/reference/roots.py.
-use double::root::RootAnswer;
+use root::RootAnswer;
 use libc::STDOUT_FILENO;
 use std::num::wrapping_add_u64;
 use std::num::wrapping_sub_u64;
@@ -40,7 +40,7 @@ fn bits(x: f64) -> u64 {
 
 // The bits of the root, or 1 where it is refused: no root has those.
 fn answer(b: u64) -> u64 {
-    match double::root::root(double(b)) {
+    match root::root(double(b)) {
         RootAnswer::Root(r) => bits(r),
         RootAnswer::Refused => 1,
     }

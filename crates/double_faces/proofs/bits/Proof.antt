@@ -1,6 +1,6 @@
 -- `bits` asks for the bits of what equals itself, which is no NaN.
 use borrow.Author.Needs.{needs}
-use Rattle.double.proofs.root.Patterns.{equal-no-nan}
+use Rattle.root.proofs.Patterns.{equal-no-nan}
 use Rattle.double_faces.proofs.bits.Statement.{statement}
 use Rattle.double_faces.proofs.bits.Tie as tie
 

@@ -2,7 +2,7 @@
 use Prim.Native.Nat.{_+_, _/_, _^_}
 use native.Mathlib.Omega.{arith}
 use borrow.Author.Needs.{needs}
-use Rattle.double.proofs.root.Patterns.{no-nan}
+use Rattle.root.proofs.Patterns.{no-nan}
 use Rattle.double_faces.proofs.unit.Statement.{statement}
 use Rattle.double_faces.proofs.unit.Tie as tie
 

@@ -1,7 +1,7 @@
 -- The root's answer, as a number and what is written.
 use denote.Ref.{now}
 use mathlib.Core.Path.{sym, ap}
-use Rattle.double.specs.declared.root.RootAnswer.{RootAnswer}
+use Rattle.root.specs.declared.RootAnswer.{RootAnswer}
 use Rattle.editor.specs.Told.{rootCode, rootInto}
 use borrow.Author.Needs.{needs}
 use Rattle.editor.proofs.bassoonsun_root.Statement.{statement}

@@ -1,7 +1,7 @@
 -- `double` makes a double from bits that are no NaN's.
 use Prim.Native.Nat.{_%_, _^_}
 use borrow.Author.Needs.{needs}
-use Rattle.double.proofs.root.Patterns.{no-nan}
+use Rattle.root.proofs.Patterns.{no-nan}
 use Rattle.roots.proofs.double.Statement.{statement}
 use Rattle.roots.proofs.double.Tie as tie
 
