@@ -1,8 +1,8 @@
 // The library for callers in C: numbers, tables as pointer and length, and a number for an answer.
 // include/bassoonsun.h declares these functions.
 use double::face::DoubleAnswer;
-use root::RootAnswer;
 use face::answer::Carried;
+use root::RootAnswer;
 use step::Answer;
 ghost use lib.ListN.{length};
 ghost use Rattle.rules.specs.Lent.{stepOf};
