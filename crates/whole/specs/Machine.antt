@@ -14,7 +14,7 @@ use Prim.Native.Nat.{ℕ, zero, suc, _+_, _*_, _/_, _^_, _<_}
 use native.Mathlib.Omega.{arith}
 use lib.Dec.{T, ltb, lit≤}
 use lib.IntN.{ℤ, pos, negsuc, negℤ, natAbs, _+ℤ_, _-ℤ_, _*ℤ_}
-use lib.Signed.{mag, quotZ, leZ, ltZ, _<ℤ_}
+use lib.Signed.{mag, natAbs-le, quotZ, leZ, ltZ, _<ℤ_}
 use mir.Syntax.{w32, w64}
 use mir.Val.{SFits, toZ, ofZ}
 use mir.ValLaws.{toZ-ofZ}
@@ -223,6 +223,16 @@ widens z h = let f : SFits w32 z = record { sfits = h } in rw (toZ-ofZ w32 z f) 
 
 pub widened : {z : ℤ} → mag z < 2 ^ 31 → toZ w64 (ofZ w64 (toZ w32 (ofZ w32 z))) ≡ z
 widened {z} h = let f : SFits w32 z = record { sfits = h } in rw (toZ-ofZ w32 z f) (toZ-ofZ w64 z (sfits-widen {w = w32} tt f))
+
+pub read32 : (z : ℤ) → mag z < 2 ^ 31 → toZ w32 (ofZ w32 z) ≡ z
+read32 z h = toZ-ofZ w32 z (record { sfits = h })
+
+-- and the cast's result, among the numbers that the code computes with
+pub wide-in : (z : ℤ) → mag z < 2 ^ 31 → Within 2147483648 (toZ w32 (ofZ w32 z))
+wide-in z h = rw (toZ-ofZ w32 z (record { sfits = h })) (record { abs = natAbs-le z h })
+
+abbrev pub cast32 : (z : ℤ) → mag z < 2 ^ 31 → Entry
+cast32 z h = entry (widens z h) (wide-in z h)
 
 -- `x as i32` of an i64
 pub narrows : (z : ℤ) → mag z < 2 ^ 31 → SFits w32 (toZ w64 (ofZ w64 z))

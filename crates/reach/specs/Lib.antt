@@ -1,0 +1,3 @@
+-- What the code is told of a reach and of a call, as the rules' records; and the ranges of beds and cells in work.
+pub mod Told
+pub mod Ranges

@@ -1,0 +1,26 @@
+-- What the code is told, as the rules' records.
+use mathlib.Core.List.{List}
+use Prim.Native.Nat.{ℕ, suc}
+use lib.ListN.{getD}
+use lib.IntN.{ℤ, pos}
+use Rattle.rules.specs.Limits.{dryDepth}
+use Rattle.rules.specs.Face.{face}
+use Rattle.rules.specs.Reach as rules
+use Rattle.reach.specs.declared.Reach.{Reach}
+use Rattle.reach.specs.declared.Call.{Call}
+use Rattle.reach.specs.declared.bed.Bed.{Bed}
+
+-- the reach, with the lent bed
+abbrev pub reachIn : Reach → List ℤ → rules.Reach
+reachIn r bed = record { n = r .n; dx = r .dx; bed = λ i. getD bed i (pos 0); face = face }
+
+-- the call, with the friction ρ of each cell
+abbrev pub callOn : Call → (ℕ → ℤ) → rules.Call
+callOn c ρ = record { dt = c .dt; jump = c .jump; dry = dryDepth; rough = ρ; left = c .left; right = c .right }
+
+-- the bed of a cell; and the bed under cell i, of the lent table
+abbrev pub bedIn : Bed → rules.Bed
+bedIn b = record { zl = b .zl; zr = b .zr }
+
+abbrev pub bedAt : List ℤ → ℕ → rules.Bed
+bedAt bed i = record { zl = getD bed i (pos 0); zr = getD bed (suc i) (pos 0) }

@@ -1,0 +1,22 @@
+// What a reach is to the code: its limits, the cells of its working tables, and the numbers that
+// travel together. The rules' records of the same names hold the bed and the friction too, which are
+// lent tables here.
+pub mod bed;
+pub mod limits;
+
+// The working state of one cell: level mean, level slope, discharge mean, discharge slope.
+pub type Cell = [i64; 4];
+
+// What stays from step to step: n cells of length dx.
+pub struct Reach {
+    pub n: usize,
+    pub dx: i64,
+}
+
+// What may differ: the time step, the jump, and the kinds of the two ends, 0 a wall or 1 open.
+pub struct Call {
+    pub dt: i64,
+    pub jump: i64,
+    pub left: u32,
+    pub right: u32,
+}

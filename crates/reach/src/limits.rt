@@ -1,0 +1,49 @@
+// The limits of the scope document, named once for the code; crates/rules/specs/Limits.antt names the
+// same numbers for the rules. Whole numbers count 1/4096 of a metre, second, m/s or m2/s.
+ghost use mathlib.Core.Path.{_≡_};
+ghost use Rattle.rules.specs.Refusals as rules;
+
+// Cells in a reach, and their faces.
+pub const CELLS: usize = 1024;
+
+pub const FACES: usize = CELLS + 1;
+
+// A bed value, 256 m, and a Manning value in 1/1000.
+pub const HIGHEST_BED: i64 = 1048576;
+
+pub const ROUGHEST: u16 = 200;
+
+// A cell's length, 256 m; a time step, 1 s; a jump, 64 m.
+pub const LONGEST_CELL: i64 = 1048576;
+
+pub const LONGEST_STEP: i64 = 4096;
+
+pub const LARGEST_JUMP: i64 = 262144;
+
+// A depth, 64 m; a discharge, 2048 m2/s, and a speed, 32 m/s, either way.
+pub const DEEPEST: i64 = 262144;
+
+pub const FULLEST: i64 = 8388608;
+
+pub const FASTEST: i64 = 131072;
+
+// At or below this depth water does not move.
+pub const DRY_DEPTH: i64 = 4;
+
+// Is x outside the list that starts at low and ends with high?
+pub fn outside(low: i64, high: i64, x: i64) -> bool
+    ensures { λ r. ⌜ r ≡ rules.outside low high x ⌝ }
+{
+    x < low || high < x
+}
+
+// Is x past a limit, either way? The size of an x below nought is one more than -1 - x, which always
+// fits.
+pub fn past(most: i64, x: i64) -> bool
+    ensures { λ r. ⌜ r ≡ rules.past most x ⌝ }
+{
+    if x < 0 {
+        return most <= -1 - x;
+    }
+    most < x
+}
