@@ -6,6 +6,7 @@ pub mod Face
 pub mod Sizes
 pub mod Agree
 pub mod Accept
+pub mod Verdicts
 pub mod Lengths
 pub mod Positive
 pub mod Balance

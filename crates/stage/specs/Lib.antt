@@ -6,8 +6,6 @@ pub mod Rows
 pub mod Kept
 pub mod Around
 pub mod Drag
-pub mod Filling
-pub mod Four
 pub mod Lines
 pub mod Crossings
 pub mod Agreed

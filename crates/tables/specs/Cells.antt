@@ -141,3 +141,8 @@ Stores s i f = (k : ℕ) → k < i → cellAt s k ≡ f k
 pub stores-more : (s : List ℤ) (i : ℕ) (f : ℕ → Cell) (c : Cell) → 4 * i + 3 < length s → Stores s i f → c ≡ f i → Stores (putCell s i c) (i + 1) f
 stores-more s i f c room old new =
     below-more (λ k. cellAt (putCell s i c) k ≡ f k) i (λ k l. put-other s i c k l ∙ old k l) (put-same s i c room ∙ new)
+
+-- a list of four numbers is the list of its cell
+pub of-four : (l : List ℤ) → length l ≡ 4 → l ≡ asList (asCell l)
+unfolding flat row
+of-four l e = sym (flat-cells 1 l e)

@@ -2,4 +2,5 @@
 pub mod Some
 pub mod Scan
 pub mod Rows
+pub mod Filling
 pub mod Cells

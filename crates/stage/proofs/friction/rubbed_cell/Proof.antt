@@ -17,7 +17,7 @@ use Rattle.rules.specs.Reach.{Bed, h0}
 use Rattle.rules.specs.Step.{rub, rubbedCell}
 use Rattle.rules.specs.Refusals.{fastCell}
 use Rattle.finishing.specs.Held.{asBed}
-use Rattle.stage.specs.Four.{of-four}
+use Rattle.tables.specs.Cells.{of-four}
 use Rattle.whole.specs.Choice.{within-past}
 use Rattle.stage.specs.Kept.{kept}
 use Rattle.stage.specs.Drag.{drag-least, drag-most}

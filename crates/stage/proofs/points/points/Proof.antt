@@ -14,7 +14,7 @@ use Rattle.rules.specs.Stage.{gauss}
 use Rattle.rules.specs.Refusals.{fastPoints}
 use Rattle.finishing.specs.Held.{bedAt}
 use Rattle.stage.specs.Rows.{pointRow}
-use Rattle.stage.specs.Filling.{Filling, fill-none, fill-more, fill-stops, fill-ends}
+use Rattle.tables.specs.Filling.{Filling, fill-none, fill-more, fill-stops, fill-ends}
 use borrow.Author.Needs.{needs}
 use Rattle.stage.proofs.points.points.Statement.{statement}
 use Rattle.stage.proofs.points.points.Tie as tie

@@ -7,7 +7,7 @@ use denote.Ref.{now}
 use Rattle.whole.specs.Machine.{back}
 use Rattle.tables.specs.Cells.{seen}
 use Rattle.stage.specs.Rows.{sidesAt, fastSides}
-use Rattle.stage.specs.Filling.{Filling, fill-none, fill-more, fill-stops, fill-ends}
+use Rattle.tables.specs.Filling.{Filling, fill-none, fill-more, fill-stops, fill-ends}
 use borrow.Author.Needs.{needs}
 use Rattle.stage.proofs.sides.sides.Statement.{statement}
 use Rattle.stage.proofs.sides.sides.Tie as tie
