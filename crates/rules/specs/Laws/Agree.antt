@@ -17,7 +17,8 @@ use Rattle.rules.specs.Reach.{Reach, Call, State, el, er, under, sideL, 
 use Rattle.rules.specs.Stage.{leftEnd, rightEnd, atLeft, atRight, faceRight, faceAt, volume, update, stage}
 use Rattle.rules.specs.Finishing.{parted, marked, minmod, withRight, withLeft, limited, limit, cut, dried, finish}
 use Rattle.rules.specs.Step.{rubbedCell, rubbed, stageOne, carry, half, joinedCell, joined, next}
-use Rattle.rules.specs.Refusals.{offCell, off, fastCell, fastFriction, fastSide, fastFace, fastPoints, fastGauss, tooLong, badCall, badBed, badRough, chk, stageChecks, early, checks, verdict, refusal}
+use Rattle.rules.specs.Refusals.{offCell, off, fastCell, fastFriction, fastSide, fastFace, fastPoints, fastGauss, tooLong}
+use Rattle.rules.specs.Refusals.{badCall, badBed, badRough, chk, stageChecks, early, checks, verdict, refusal}
 
 abbrev pub Same : Reach → State → State → Type 0
 Same r s t = (i : ℕ) → i < r .n → s i ≡ t i
@@ -30,7 +31,8 @@ inside i n l e = omega (arith, differ)
     differ d = clash (sym e ∙ holds (eqb (suc i) n) (subst (λ (m : ℕ). T (eqb (suc i) m)) d (eqb-refl (suc i))))
 
 -- a choice between the last cell and the others
-last : {A : Type 0} (i n : ℕ) → i < n → (x y x′ y′ : A) → x ≡ x′ → (suc i < n → y ≡ y′) → cond (eqb (suc i) n) x y ≡ cond (eqb (suc i) n) x′ y′
+last : {A : Type 0} (i n : ℕ) → i < n → (x y x′ y′ : A) → x ≡ x′ → (suc i < n → y ≡ y′)
+    → cond (eqb (suc i) n) x y ≡ cond (eqb (suc i) n) x′ y′
 last i n l x y x′ y′ p q = by (eqb (suc i) n) (λ e. rw e p) (λ e. rw e (q (inside i n l e)))
 
 module _ (r : Reach) (c : Call) (s t : State) (e : Same r s t) where
@@ -85,8 +87,10 @@ module _ (r : Reach) (c : Call) (s t : State) (e : Same r s t) where
   limit-same : Same r (limit r c s) (limit r c t)
   unfolding limit
   limit-same i l =
-      let a : limited r (λ j. s j .e0) i (s i .e1) ≡ limited r (λ j. t j .e0) i (t i .e1) = limited-same (λ x. x .e0) (s i .e1) i l ∙ ap (λ (x : Cell). limited r (λ j. t j .e0) i (x .e1)) (e i l) in
-      let b : limited r (λ j. s j .q0) i (s i .q1) ≡ limited r (λ j. t j .q0) i (t i .q1) = limited-same (λ x. x .q0) (s i .q1) i l ∙ ap (λ (x : Cell). limited r (λ j. t j .q0) i (x .q1)) (e i l) in
+      let a : limited r (λ j. s j .e0) i (s i .e1) ≡ limited r (λ j. t j .e0) i (t i .e1) = limited-same (λ x. x .e0) (s i .e1) i l
+      ∙ ap (λ (x : Cell). limited r (λ j. t j .e0) i (x .e1)) (e i l) in
+      let b : limited r (λ j. s j .q0) i (s i .q1) ≡ limited r (λ j. t j .q0) i (t i .q1) = limited-same (λ x. x .q0) (s i .q1) i l
+      ∙ ap (λ (x : Cell). limited r (λ j. t j .q0) i (x .q1)) (e i l) in
       λ k. record {
         e0 = e i l k .e0;
         e1 = cond (marked-same i l k) (a k) (e i l k .e1);
@@ -107,18 +111,22 @@ module _ (r : Reach) (c : Call) (s t : State) (e : Same r s t) where
 module _ (r : Reach) (c : Call) (s t : State) (e : Same r s t) where
   pub stageOne-same : Same r (stageOne r c s) (stageOne r c t)
   unfolding stageOne
-  stageOne-same = finish-same r c (stage r c (rubbed r c s)) (stage r c (rubbed r c t)) (stage-same r c (rubbed r c s) (rubbed r c t) (rubbed-same r c s t e))
+  stageOne-same = finish-same r c (stage r c (rubbed r c s)) (stage r c (rubbed r c t))
+      (stage-same r c (rubbed r c s) (rubbed r c t) (rubbed-same r c s t e))
 
   pub carry-same : 0 < r .n → (i : ℕ) → i < suc (r .n) → carry r c s i ≡ carry r c t i
   unfolding carry
   carry-same o i l = ap₂ (λ (f g : Flux). half (volume (r .dx) (c .dt) f) (volume (r .dx) (c .dt) g))
-      (faceAt-same r c (rubbed r c s) (rubbed r c t) (rubbed-same r c s t e) o i l) (faceAt-same r c (stageOne r c s) (stageOne r c t) stageOne-same o i l)
+      (faceAt-same r c (rubbed r c s) (rubbed r c t) (rubbed-same r c s t e) o i l)
+      (faceAt-same r c (stageOne r c s) (stageOne r c t) stageOne-same o i l)
 
   joined-same : Same r (joined r c s) (joined r c t)
   unfolding joined
   joined-same i l =
-      ap₂ (λ (x y : Cell). joinedCell x y (carry r c s i) (carry r c s (suc i))) (rubbed-same r c s t e i l) (stage-same r c (stageOne r c s) (stageOne r c t) stageOne-same i l)
-      ∙ ap₂ (joinedCell (rubbed r c t i) (stage r c (stageOne r c t) i)) (carry-same (omega arith) i (omega arith)) (carry-same (omega arith) (suc i) (omega arith))
+      ap₂ (λ (x y : Cell). joinedCell x y (carry r c s i) (carry r c s (suc i))) (rubbed-same r c s t e i l)
+      (stage-same r c (stageOne r c s) (stageOne r c t) stageOne-same i l)
+      ∙ ap₂ (joinedCell (rubbed r c t i) (stage r c (stageOne r c t) i)) (carry-same (omega arith) i (omega arith))
+      (carry-same (omega arith) (suc i) (omega arith))
 
   pub next-same : Same r (next r c s) (next r c t)
   unfolding next
@@ -139,7 +147,8 @@ module _ (r : Reach) (c : Call) (o : 0 < r .n) (s t : State) (e : Same r s t) wh
   fastFace-at zero l = ap fastSide (atLeft-same r c s t e zero o)
   fastFace-at (suc i) l = by (eqb (suc i) (r .n))
       (λ d. rw d (ap (λ (x : Side). fastSide x || false) (atRight-same r c s t e i (omega arith))))
-      (λ d. rw d (ap₂ (λ (x y : Side). fastSide x || fastSide y) (atRight-same r c s t e i (omega arith)) (atLeft-same r c s t e (suc i) (inside i (r .n) (omega arith) d))))
+      (λ d. rw d (ap₂ (λ (x y : Side). fastSide x || fastSide y) (atRight-same r c s t e i (omega arith))
+      (atLeft-same r c s t e (suc i) (inside i (r .n) (omega arith) d))))
 
   pub fastFace-same : some (fastFace r c s) (suc (r .n)) ≡ some (fastFace r c t) (suc (r .n))
   fastFace-same = some-same (fastFace r c s) (fastFace r c t) (suc (r .n)) fastFace-at
@@ -150,7 +159,8 @@ module _ (r : Reach) (c : Call) (o : 0 < r .n) (s t : State) (e : Same r s t) wh
 
   pub tooLong-same : some (tooLong r c s) (suc (r .n)) ≡ some (tooLong r c t) (suc (r .n))
   unfolding tooLong
-  tooLong-same = some-same (tooLong r c s) (tooLong r c t) (suc (r .n)) (λ i l. ap (λ (f : Flux). ltZ (pos 4096 *ℤ r .dx) (pos 2 *ℤ c .dt *ℤ f .S)) (faceAt-same r c s t e o i l))
+  tooLong-same = some-same (tooLong r c s) (tooLong r c t) (suc (r .n))
+      (λ i l. ap (λ (f : Flux). ltZ (pos 4096 *ℤ r .dx) (pos 2 *ℤ c .dt *ℤ f .S)) (faceAt-same r c s t e o i l))
 
   pub stageChecks-same : stageChecks r c s ≡ stageChecks r c t
   unfolding stageChecks
@@ -166,4 +176,5 @@ module _ (r : Reach) (c : Call) (o : 0 < r .n) (s t : State) (e : Same r s t) wh
       let f = off-same r c o (stageOne r c s) (stageOne r c t) (stageOne-same r c s t e) in
       let g = stageChecks-same r c o (stageOne r c s) (stageOne r c t) (stageOne-same r c s t e) in
       let h = off-same r c o (next r c s) (next r c t) (next-same r c s t e) in
-      λ k. verdict (chk 2 (badCall r c) ∷ chk 3 (some (λ i. badBed (r .bed i)) (suc (r .n))) ∷ chk 4 (some (λ i. badRough (c .rough i)) (r .n)) ∷ chk 5 (a k) ∷ chk 6 (b k) ∷ d k ++ chk 8 (f k) ∷ g k ++ chk 8 (h k) ∷ [])
+      λ k. verdict (chk 2 (badCall r c) ∷ chk 3 (some (λ i. badBed (r .bed i)) (suc (r .n)))
+      ∷ chk 4 (some (λ i. badRough (c .rough i)) (r .n)) ∷ chk 5 (a k) ∷ chk 6 (b k) ∷ d k ++ chk 8 (f k) ∷ g k ++ chk 8 (h k) ∷ [])

@@ -32,7 +32,8 @@ telescope h h′ G f (suc n) =
     ap₂ _+ℤ_ (telescope h h′ G f n) (f n)
     ∙ solve (sum h n ∷ h n ∷ G zero ∷ G n ∷ G (suc n) ∷ []) (v 0 ⊕ v 2 ⊝ v 3 ⊕ (v 1 ⊕ v 3 ⊝ v 4)) (v 0 ⊕ v 1 ⊕ v 2 ⊝ v 4) tt
 
-next-depth : (r : Reach) (c : Call) (s : State) (i : ℕ) → h0 (under r i) (next r c s i) ≡ h0 (under r i) (s i) +ℤ carry r c s i -ℤ carry r c s (suc i)
+next-depth : (r : Reach) (c : Call) (s : State) (i : ℕ)
+    → h0 (under r i) (next r c s i) ≡ h0 (under r i) (s i) +ℤ carry r c s i -ℤ carry r c s (suc i)
 unfolding next finish dried cut limit joined joinedCell rubbed rubbedCell h0
 next-depth r c s i = let e = s i .e0 in let a = carry r c s i in let b = carry r c s (suc i) in let z = z0 (under r i) in
     eq! (at e ⊞ at a ⊟ at b ⊟ at z) (at e ⊟ at z ⊞ at a ⊟ at b) (omega arith)

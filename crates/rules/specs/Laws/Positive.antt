@@ -29,32 +29,39 @@ pub record Fine (r : Reach) (c : Call) : Type 0 where
 
 -- ---- what one face takes: shared by every reach
 -- rightward out of a depth h at most h·S; over a step that is short enough, at most half of h
-pub takes : (r : Reach) (c : Call) → Fine r c → (f : Flux) → pos 0 ≤ℤ f .S → (pos 2 *ℤ c .dt *ℤ f .S) ≤ℤ (pos 4096 *ℤ r .dx) → (h : ℤ) → pos 0 ≤ℤ h
-    → (pos 4096 *ℤ f .F) ≤ℤ (h *ℤ f .S) → (pos 2 *ℤ volume (r .dx) (c .dt) f) ≤ℤ h
+pub takes : (r : Reach) (c : Call) → Fine r c → (f : Flux) → pos 0 ≤ℤ f .S → (pos 2 *ℤ c .dt *ℤ f .S) ≤ℤ (pos 4096 *ℤ r .dx) → (h : ℤ)
+    → pos 0 ≤ℤ h → (pos 4096 *ℤ f .F) ≤ℤ (h *ℤ f .S) → (pos 2 *ℤ volume (r .dx) (c .dt) f) ≤ℤ h
 unfolding volume
 takes r c ok f S≥0 brief h h≥0 out = half-le (f .F *ℤ c .dt) (r .dx) h (ok .dx) h≥0
     (mul-cancel-le (pos 2 *ℤ (f .F *ℤ c .dt)) (h *ℤ r .dx) (pos 4096) (record { lt = tt })
     (let a = nonneg h≥0 in let b = nonneg (ok .dt) in let s = nonneg S≥0 in let d = nonneg (lt-le (ok .dx)) in let x = at (f .F) in
     le! (lit 2 ⊠ (x ⊠ b) ⊠ lit 4096) (a ⊠ d ⊠ lit 4096)
-    (omega (arith, cross (le? (lit 0) b (ok .dt)) (le? (lit 4096 ⊠ x) (a ⊠ s) out), cross (le? (lit 0) a h≥0) (le? (lit 2 ⊠ b ⊠ s) (lit 4096 ⊠ d) brief)))))
+    (omega (
+      arith,
+      cross (le? (lit 0) b (ok .dt)) (le? (lit 4096 ⊠ x) (a ⊠ s) out),
+      cross (le? (lit 0) a h≥0) (le? (lit 2 ⊠ b ⊠ s) (lit 4096 ⊠ d) brief),
+    ))))
 
 pub volume-flip : (dx dt : ℤ) (f : Flux) → volume dx dt (flip f) ≡ negℤ (volume dx dt f)
 unfolding volume
-volume-flip dx dt f = ap (λ (z : ℤ). quotZ z dx) (eq! (⊖ (at (f .F)) ⊠ at dt) (⊖ (at (f .F) ⊠ at dt)) (omega arith)) ∙ quot-neg (f .F *ℤ dt) dx
+volume-flip dx dt f =
+    ap (λ (z : ℤ). quotZ z dx) (eq! (⊖ (at (f .F)) ⊠ at dt) (⊖ (at (f .F) ⊠ at dt)) (omega arith)) ∙ quot-neg (f .F *ℤ dt) dx
 
 -- leftward: the mirror image
-pub gives : (r : Reach) (c : Call) → Fine r c → (f : Flux) → pos 0 ≤ℤ f .S → (pos 2 *ℤ c .dt *ℤ f .S) ≤ℤ (pos 4096 *ℤ r .dx) → (h : ℤ) → pos 0 ≤ℤ h
-    → negℤ (h *ℤ f .S) ≤ℤ (pos 4096 *ℤ f .F) → negℤ h ≤ℤ (pos 2 *ℤ volume (r .dx) (c .dt) f)
+pub gives : (r : Reach) (c : Call) → Fine r c → (f : Flux) → pos 0 ≤ℤ f .S → (pos 2 *ℤ c .dt *ℤ f .S) ≤ℤ (pos 4096 *ℤ r .dx) → (h : ℤ)
+    → pos 0 ≤ℤ h → negℤ (h *ℤ f .S) ≤ℤ (pos 4096 *ℤ f .F) → negℤ h ≤ℤ (pos 2 *ℤ volume (r .dx) (c .dt) f)
 gives r c ok f S≥0 brief h h≥0 back =
     let w = volume (r .dx) (c .dt) f in
     let k : (pos 2 *ℤ volume (r .dx) (c .dt) (flip f)) ≤ℤ h =
-    takes r c ok (flip f) S≥0 brief h h≥0 (le! (lit 4096 ⊠ ⊖ (at (f .F))) (at h ⊠ at (f .S)) (omega (arith, le? (⊖ (at h ⊠ at (f .S))) (lit 4096 ⊠ at (f .F)) back))) in
+    takes r c ok (flip f) S≥0 brief h h≥0
+    (le! (lit 4096 ⊠ ⊖ (at (f .F))) (at h ⊠ at (f .S)) (omega (arith, le? (⊖ (at h ⊠ at (f .S))) (lit 4096 ⊠ at (f .F)) back))) in
     let m : (pos 2 *ℤ negℤ w) ≤ℤ h = rw (volume-flip (r .dx) (c .dt) f) at k in
     le! (⊖ (at h)) (lit 2 ⊠ at w) (omega (arith, le? (lit 2 ⊠ ⊖ (at w)) (at h) m))
 
 -- a mean of at least half the face depths, of which each face takes at most half
 pub stays : (m a b vl vr : ℤ) → (a +ℤ b) ≤ℤ (pos 2 *ℤ m) → (pos 2 *ℤ vr) ≤ℤ b → negℤ a ≤ℤ (pos 2 *ℤ vl) → pos 0 ≤ℤ (m +ℤ vl -ℤ vr)
-stays m a b vl vr p q d = le! (lit 0) (at m ⊞ at vl ⊟ at vr) (omega (arith, le? (at a ⊞ at b) (lit 2 ⊠ at m) p, le? (lit 2 ⊠ at vr) (at b) q, le? (⊖ (at a)) (lit 2 ⊠ at vl) d))
+stays m a b vl vr p q d = le! (lit 0) (at m ⊞ at vl ⊟ at vr)
+    (omega (arith, le? (at a ⊞ at b) (lit 2 ⊠ at m) p, le? (lit 2 ⊠ at vr) (at b) q, le? (⊖ (at a)) (lit 2 ⊠ at vl) d))
 
 -- ---- the depths of a state
 pub record Nonneg (b : Bed) (x : Cell) : Type 0 where
@@ -68,7 +75,10 @@ Wet r s = (i : ℕ) → i < r .n → Nonneg (under r i) (s i)
 -- nor then the mean, of which they are two halves
 pub mean≥0 : (b : Bed) (x : Cell) → Nonneg b x → pos 0 ≤ℤ h0 b x
 unfolding hl hr
-mean≥0 b x n = let m = h0 b x in let d = h1 b x in le! (lit 0) (at m) (omega (arith, le? (lit 0) (at m ⊟ at d) (n .left), le? (lit 0) (at m ⊞ at d) (n .right)))
+mean≥0 b x n =
+    let m = h0 b x in
+    let d = h1 b x in
+    le! (lit 0) (at m) (omega (arith, le? (lit 0) (at m ⊟ at d) (n .left), le? (lit 0) (at m ⊞ at d) (n .right)))
 
 -- ---- the shortfall correction: nothing where there is depth, and no depth below nought in any case
 pub no-short : (h : ℤ) → pos 0 ≤ℤ h → short h ≡ pos 0
@@ -156,10 +166,12 @@ module _ (r : Reach) (law : Lawful (r .face)) (c : Call) (ok : Fine r c) where
         let k : Gives (hl b x) f = subst (λ (z : ℤ). Gives z f) (depthL-is b x (w i l .left)) (face-gives s i l) in
         gives r c ok f (k .size) (t i (omega arith)) (hl b x) (w i l .left) (k .back)
 
-    pub stage-mean : pos 0 ≤ℤ (h0 (under r i) (s i) +ℤ volume (r .dx) (c .dt) (faceAt r c s i) -ℤ volume (r .dx) (c .dt) (faceRight r c s i))
+    pub stage-mean : pos 0
+        ≤ℤ (h0 (under r i) (s i) +ℤ volume (r .dx) (c .dt) (faceAt r c s i) -ℤ volume (r .dx) (c .dt) (faceRight r c s i))
     unfolding hl hr
     stage-mean = let b = under r i in let x = s i in let m = h0 b x in let d = h1 b x in
-        stays m (hl b x) (hr b x) (volume (r .dx) (c .dt) (faceAt r c s i)) (volume (r .dx) (c .dt) (faceRight r c s i)) (le! (at m ⊟ at d ⊞ (at m ⊞ at d)) (lit 2 ⊠ at m) (omega arith)) out-right out-left
+        stays m (hl b x) (hr b x) (volume (r .dx) (c .dt) (faceAt r c s i)) (volume (r .dx) (c .dt) (faceRight r c s i))
+        (le! (at m ⊟ at d ⊞ (at m ⊞ at d)) (lit 2 ⊠ at m) (omega arith)) out-right out-left
 
 -- ---- finishing
 pub clipped-most : (m x : ℤ) → pos 0 ≤ℤ m → clipped m x ≤ℤ m
@@ -169,7 +181,8 @@ clipped-most m x h = cond-ind (ltZ m x) m (cond (ltZ x (negℤ m)) (negℤ m) x)
 
 pub clipped-least : (m x : ℤ) → pos 0 ≤ℤ m → negℤ m ≤ℤ clipped m x
 unfolding clipped
-clipped-least m x h = cond-ind (ltZ m x) m (cond (ltZ x (negℤ m)) (negℤ m) x) (λ z. negℤ m ≤ℤ z) (λ e. le! (⊖ (at m)) (at m) (omega (arith, of-le h)))
+clipped-least m x h =
+    cond-ind (ltZ m x) m (cond (ltZ x (negℤ m)) (negℤ m) x) (λ z. negℤ m ≤ℤ z) (λ e. le! (⊖ (at m)) (at m) (omega (arith, of-le h)))
     (λ e. cond-ind (ltZ x (negℤ m)) (negℤ m) x (λ z. negℤ m ≤ℤ z) (λ d. le-refl (negℤ m)) (λ d. lt-no x (negℤ m) d))
 
 -- the mean stays, and the slope lies within it
@@ -205,8 +218,12 @@ module _ (r : Reach) (law : Lawful (r .face)) (c : Call) (ok : Fine r c) (s : St
   pub stageOne-mean : (i : ℕ) → i < r .n → pos 0 ≤ℤ h0 (under r i) (stage r c (rubbed r c s) i)
   unfolding stage update h0
   stageOne-mean i l =
-      let a = rubbed r c s i .e0 in let b = z0 (under r i) in let x = volume (r .dx) (c .dt) (faceAt r c (rubbed r c s) i) in let y = volume (r .dx) (c .dt) (faceRight r c (rubbed r c s) i) in
-      le! (lit 0) (at a ⊞ at x ⊟ at y ⊟ at b) (omega (arith, le? (lit 0) (at a ⊟ at b ⊞ at x ⊟ at y) (stage-mean r law c ok (rubbed r c s) (rubbed-wet r c s w) t i l)))
+      let a = rubbed r c s i .e0 in
+      let b = z0 (under r i) in
+      let x = volume (r .dx) (c .dt) (faceAt r c (rubbed r c s) i) in
+      let y = volume (r .dx) (c .dt) (faceRight r c (rubbed r c s) i) in
+      le! (lit 0) (at a ⊞ at x ⊟ at y ⊟ at b)
+      (omega (arith, le? (lit 0) (at a ⊟ at b ⊞ at x ⊟ at y) (stage-mean r law c ok (rubbed r c s) (rubbed-wet r c s w) t i l)))
 
   -- after stage one
   pub stageOne-wet : Wet r (stageOne r c s)
@@ -215,7 +232,8 @@ module _ (r : Reach) (law : Lawful (r .face)) (c : Call) (ok : Fine r c) (s : St
 
   module _ (t′ : Brief r c (stageOne r c s)) (i : ℕ) (l : i < r .n) where
     -- stage two's mean is not below nought either
-    later : pos 0 ≤ℤ (rubbed r c s i .e0 +ℤ volume (r .dx) (c .dt) (faceAt r c (rubbed r c s) i) -ℤ volume (r .dx) (c .dt) (faceRight r c (rubbed r c s) i) -ℤ z0 (under r i)
+    later : pos 0 ≤ℤ (rubbed r c s i .e0 +ℤ volume (r .dx) (c .dt) (faceAt r c (rubbed r c s) i) -ℤ volume (r .dx) (c .dt)
+        (faceRight r c (rubbed r c s) i) -ℤ z0 (under r i)
         +ℤ volume (r .dx) (c .dt) (faceAt r c (stageOne r c s) i) -ℤ volume (r .dx) (c .dt) (faceRight r c (stageOne r c s) i))
     unfolding stageOne finish dried cut limit stage update h0
     later = stage-mean r law c ok (stageOne r c s) stageOne-wet t′ i l
@@ -225,7 +243,8 @@ module _ (r : Reach) (law : Lawful (r .face)) (c : Call) (ok : Fine r c) (s : St
     joined-mean =
         let a = rubbed r c s i .e0 in let b = z0 (under r i) in
         let x = volume (r .dx) (c .dt) (faceAt r c (rubbed r c s) i) in let y = volume (r .dx) (c .dt) (faceRight r c (rubbed r c s) i) in
-        let x′ = volume (r .dx) (c .dt) (faceAt r c (stageOne r c s) i) in let y′ = volume (r .dx) (c .dt) (faceRight r c (stageOne r c s) i) in
+        let x′ = volume (r .dx) (c .dt) (faceAt r c (stageOne r c s) i) in
+        let y′ = volume (r .dx) (c .dt) (faceRight r c (stageOne r c s) i) in
         let now : pos 0 ≤ℤ (a -ℤ b) = mean≥0 (under r i) (s i) (w i l) in
         let k : pos 0 ≤ℤ (a -ℤ b +ℤ quotZ (x +ℤ x′) (pos 2) -ℤ quotZ (y +ℤ y′) (pos 2)) =
         halves (a -ℤ b) (x +ℤ x′) (y +ℤ y′) now

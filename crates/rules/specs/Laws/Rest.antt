@@ -19,8 +19,10 @@ use Rattle.whole.specs.Choice.{sizeZ, size-of}
 use Rattle.tables.specs.Cells.{Cell}
 use Rattle.rules.specs.Face.{Side, Flux, speed}
 use Rattle.rules.specs.Lawful.{Still, resting, Lawful}
-use Rattle.rules.specs.Reach.{Reach, Call, State, el, er, ql, qr, Bed, under, z0, z1, h0, h1, hl, hr, short, depthL, depthR, groundL, groundR, sideL, sideR}
-use Rattle.rules.specs.Stage.{outer, leftEnd, rightEnd, atLeft, atRight, faceRight, faceAt, volume, share, depthBefore, depthBehind, carried, gauss, push, tilt, update, stage}
+use Rattle.rules.specs.Reach.{Reach, Call, State, el, er, ql, qr, Bed, under, z0, z1, h0, h1, hl}
+use Rattle.rules.specs.Reach.{hr, short, depthL, depthR, groundL, groundR, sideL, sideR}
+use Rattle.rules.specs.Stage.{outer, leftEnd, rightEnd, atLeft, atRight, faceRight, faceAt, volume, share}
+use Rattle.rules.specs.Stage.{depthBefore, depthBehind, carried, gauss, push, tilt, update, stage}
 use Rattle.rules.specs.Finishing.{parted, marked, limit, beyond, clipped, cut, dried, finish}
 use Rattle.rules.specs.Friction.{drag, slowed}
 use Rattle.rules.specs.Step.{rub, rubbedCell, rubbed, stageOne, half, carry, joinedCell, joined, next}
@@ -58,7 +60,8 @@ zero-right b x d = eq! (at (x .e0) ⊟ at (z0 b) ⊞ (at (x .e1) ⊟ at (z1 b)))
 -- the bed holds the pressure: a² - c² against (c + a)·d, where the bed falls by d = a - c between the depths a and c
 push-alg : (a c ka kc d : ℤ) → ka ≡ a *ℤ a → kc ≡ c *ℤ c → (d ≡ a -ℤ c) ⊎ ((a ≡ pos 0) × (c ≡ pos 0)) → ka -ℤ kc -ℤ (c +ℤ a) *ℤ d ≡ pos 0
 push-alg a c ka kc d p q f = ⊎-elim
-    (λ e. ap (λ (z : ℤ). ka -ℤ kc -ℤ (c +ℤ a) *ℤ z) e ∙ ap₂ (λ (x y : ℤ). x -ℤ y -ℤ (c +ℤ a) *ℤ (a -ℤ c)) p q ∙ eq! (at a ⊠ at a ⊟ at c ⊠ at c ⊟ (at c ⊞ at a) ⊠ (at a ⊟ at c)) (lit 0) (omega arith))
+    (λ e. ap (λ (z : ℤ). ka -ℤ kc -ℤ (c +ℤ a) *ℤ z) e ∙ ap₂ (λ (x y : ℤ). x -ℤ y -ℤ (c +ℤ a) *ℤ (a -ℤ c)) p q
+    ∙ eq! (at a ⊠ at a ⊟ at c ⊠ at c ⊟ (at c ⊞ at a) ⊠ (at a ⊟ at c)) (lit 0) (omega arith))
     (λ e. rw (p, q, e .0, e .1) (eq! (lit 0 ⊟ lit 0 ⊠ at d) (lit 0) (omega arith))) f
 
 -- and the slope's share: of depth mean m and slope d over a bed of slope z it is 4·d·(d + z)
@@ -66,9 +69,11 @@ tilt-alg : (m d z ka kc : ℤ) → ka ≡ (m -ℤ d) *ℤ (m -ℤ d) → kc ≡ 
     → pos 3 *ℤ kc +ℤ pos 3 *ℤ ka -ℤ pos 6 *ℤ (m *ℤ m) -ℤ pos 2 *ℤ (d *ℤ d) +ℤ pos 4 *ℤ (d *ℤ z) ≡ pos 0
 tilt-alg m d z ka kc p q c =
     ap₂ (λ (a b : ℤ). pos 3 *ℤ a +ℤ pos 3 *ℤ b -ℤ pos 6 *ℤ (m *ℤ m) -ℤ pos 2 *ℤ (d *ℤ d) +ℤ pos 4 *ℤ (d *ℤ z)) q p
-    ∙ solve (m ∷ d ∷ z ∷ []) (k (pos 3) ⊗ ((v 0 ⊕ v 1) ⊗ (v 0 ⊕ v 1)) ⊕ k (pos 3) ⊗ ((v 0 ⊝ v 1) ⊗ (v 0 ⊝ v 1)) ⊝ k (pos 6) ⊗ (v 0 ⊗ v 0) ⊝ k (pos 2) ⊗ (v 1 ⊗ v 1) ⊕ k (pos 4) ⊗ (v 1 ⊗ v 2))
+    ∙ solve (m ∷ d ∷ z ∷ []) (k (pos 3) ⊗ ((v 0 ⊕ v 1) ⊗ (v 0 ⊕ v 1)) ⊕ k (pos 3) ⊗ ((v 0 ⊝ v 1) ⊗ (v 0 ⊝ v 1)) ⊝ k (pos 6) ⊗ (v 0 ⊗ v 0)
+    ⊝ k (pos 2) ⊗ (v 1 ⊗ v 1) ⊕ k (pos 4) ⊗ (v 1 ⊗ v 2))
     (k (pos 4) ⊗ (v 1 ⊗ (v 1 ⊕ v 2))) tt
-    ∙ ap (λ (t : ℤ). pos 4 *ℤ t) (⊎-elim (λ e. ap (λ (t : ℤ). t *ℤ (d +ℤ z)) e ∙ none-times (d +ℤ z)) (λ e. ap (λ (t : ℤ). d *ℤ t) e ∙ times-none d) c)
+    ∙ ap (λ (t : ℤ). pos 4 *ℤ t)
+    (⊎-elim (λ e. ap (λ (t : ℤ). t *ℤ (d +ℤ z)) e ∙ none-times (d +ℤ z)) (λ e. ap (λ (t : ℤ). d *ℤ t) e ∙ times-none d) c)
 
 -- an end beside still water is still: its outer side has no speed either
 outer-still : (kind : ℕ) (h : ℤ) → outer kind (resting h) ≡ resting h
@@ -93,8 +98,10 @@ module _ (r : Reach) (ev : EvenBed r) (s : State) (a : AtRest r s) where
         right = subst (λ (z : ℤ). pos 0 ≤ℤ z) (sym (zero-right (under r i) x d)) (le! (lit 0) (lit 0) (omega arith));
       })
       (λ f. record {
-        left = subst (λ (z : ℤ). pos 0 ≤ℤ z) (sym (hl-is r ev i l x)) (le! (lit 0) (at (x .e0) ⊟ at (x .e1) ⊟ at (r .bed i)) (omega (arith, of-le (f .left), of-eq (f .slope))));
-        right = subst (λ (z : ℤ). pos 0 ≤ℤ z) (sym (hr-is r ev i l x)) (le! (lit 0) (at (x .e0) ⊞ at (x .e1) ⊟ at (r .bed (suc i))) (omega (arith, of-le (f .right), of-eq (f .slope))));
+        left = subst (λ (z : ℤ). pos 0 ≤ℤ z) (sym (hl-is r ev i l x))
+            (le! (lit 0) (at (x .e0) ⊟ at (x .e1) ⊟ at (r .bed i)) (omega (arith, of-le (f .left), of-eq (f .slope))));
+        right = subst (λ (z : ℤ). pos 0 ≤ℤ z) (sym (hr-is r ev i l x))
+            (le! (lit 0) (at (x .e0) ⊞ at (x .e1) ⊟ at (r .bed (suc i))) (omega (arith, of-le (f .right), of-eq (f .slope))));
       })
       (a .cell i l)
 
@@ -106,12 +113,14 @@ module _ (r : Reach) (ev : EvenBed r) (s : State) (a : AtRest r s) where
     sideL-rest : (i : ℕ) → i < r .n → atLeft r c s i ≡ resting (hl (under r i) (s i))
     unfolding sideL
     sideL-rest i l = side-is (atLeft r c s i) (resting (hl (under r i) (s i))) (depthL-is (under r i) (s i) (rest-wet i l .left))
-        (speed-calm (c .dry) (ql (s i)) (depthL (under r i) (s i)) (eq! (at (s i .q0) ⊟ at (s i .q1)) (lit 0) (omega (arith, of-eq (a .calm i l .q0), of-eq (a .calm i l .q1)))))
+        (speed-calm (c .dry) (ql (s i)) (depthL (under r i) (s i))
+        (eq! (at (s i .q0) ⊟ at (s i .q1)) (lit 0) (omega (arith, of-eq (a .calm i l .q0), of-eq (a .calm i l .q1)))))
 
     sideR-rest : (i : ℕ) → i < r .n → atRight r c s i ≡ resting (hr (under r i) (s i))
     unfolding sideR
     sideR-rest i l = side-is (atRight r c s i) (resting (hr (under r i) (s i))) (depthR-is (under r i) (s i) (rest-wet i l .right))
-        (speed-calm (c .dry) (qr (s i)) (depthR (under r i) (s i)) (eq! (at (s i .q0) ⊞ at (s i .q1)) (lit 0) (omega (arith, of-eq (a .calm i l .q0), of-eq (a .calm i l .q1)))))
+        (speed-calm (c .dry) (qr (s i)) (depthR (under r i) (s i))
+        (eq! (at (s i .q0) ⊞ at (s i .q1)) (lit 0) (omega (arith, of-eq (a .calm i l .q0), of-eq (a .calm i l .q1)))))
 
     faceRight-still : (i : ℕ) → i < r .n → Still (hr (under r i) (s i)) (faceRight r c s i)
     unfolding faceRight
@@ -120,7 +129,8 @@ module _ (r : Reach) (ev : EvenBed r) (s : State) (a : AtRest r s) where
         (λ e. subst (λ (x : Side). Still h (rightEnd r c x)) (sym (sideR-rest i l)) (rightEnd-still r law c h (rest-wet i l .right)))
         (λ e. let m : suc i < r .n = inside i (r .n) l e in
         subst (λ (x : Side). Still h (r .face x (atLeft r c s (suc i)))) (sym (sideR-rest i l))
-        (subst (λ (x : Side). Still h (r .face (resting h) x)) (ap resting (meet i m) ∙ sym (sideL-rest (suc i) m)) (law .still h (rest-wet i l .right))))
+        (subst (λ (x : Side). Still h (r .face (resting h) x)) (ap resting (meet i m) ∙ sym (sideL-rest (suc i) m))
+        (law .still h (rest-wet i l .right))))
 
     faceAt-still : (i : ℕ) → i < r .n → Still (hl (under r i) (s i)) (faceAt r c s i)
     unfolding faceAt
@@ -133,7 +143,8 @@ module _ (r : Reach) (ev : EvenBed r) (s : State) (a : AtRest r s) where
     unfolding volume
     volume-none {h} {f} p = quot-none (f .F *ℤ c .dt) (r .dx) (ap (λ (z : ℤ). z *ℤ c .dt) (p .F≡) ∙ none-times (c .dt))
 
-    push-none : (i : ℕ) → i < r .n → (l f : Flux) → Still (hl (under r i) (s i)) l → Still (hr (under r i) (s i)) f → push (under r i) (s i) l f ≡ pos 0
+    push-none : (i : ℕ) → i < r .n → (l f : Flux) → Still (hl (under r i) (s i)) l → Still (hr (under r i) (s i)) f
+        → push (under r i) (s i) l f ≡ pos 0
     unfolding push groundL groundR
     push-none i m l f p q =
         let x = s i in let d = hl (under r i) x in let e = hr (under r i) x in let zl = r .bed i in let zr = r .bed (suc i) in
@@ -142,10 +153,18 @@ module _ (r : Reach) (ev : EvenBed r) (s : State) (a : AtRest r s) where
         (push-alg d e (l .K) (f .K) (zr -ℤ short e -ℤ (zl -ℤ short d)) (p .K≡) (q .K≡)
         (⊎-elim (λ y. inr (zero-left (under r i) x y, zero-right (under r i) x y))
         (λ g. inl (eq! (at zr ⊟ at (short e) ⊟ (at zl ⊟ at (short d))) (at d ⊟ at e)
-        (omega (arith, of-eq nl, of-eq nr, of-eq (g .slope), eq? (at d) (at (x .e0) ⊟ at (x .e1) ⊟ at zl) (hl-is r ev i m x), eq? (at e) (at (x .e0) ⊞ at (x .e1) ⊟ at zr) (hr-is r ev i m x)))))
+        (omega (
+          arith,
+          of-eq nl,
+          of-eq nr,
+          of-eq (g .slope),
+          eq? (at d) (at (x .e0) ⊟ at (x .e1) ⊟ at zl) (hl-is r ev i m x),
+          eq? (at e) (at (x .e0) ⊞ at (x .e1) ⊟ at zr) (hr-is r ev i m x),
+        ))))
         (a .cell i m)))
 
-    tilt-none : (i : ℕ) → i < r .n → (l f : Flux) → Still (hl (under r i) (s i)) l → Still (hr (under r i) (s i)) f → tilt (under r i) (s i) l f ≡ pos 0
+    tilt-none : (i : ℕ) → i < r .n → (l f : Flux) → Still (hl (under r i) (s i)) l → Still (hr (under r i) (s i)) f
+        → tilt (under r i) (s i) l f ≡ pos 0
     unfolding tilt hl hr h1
     tilt-none i m l f p q = let x = s i in tilt-alg (h0 (under r i) x) (h1 (under r i) x) (z1 (under r i)) (l .K) (f .K) (p .K≡) (q .K≡)
         (⊎-elim (λ d. inl (eq! (at (x .e1) ⊟ at (z1 (under r i))) (lit 0) (omega (arith, of-eq (d .slope)))))
@@ -161,18 +180,21 @@ module _ (r : Reach) (ev : EvenBed r) (s : State) (a : AtRest r s) where
     gauss-none i x m = rw (m .q0, m .q1) (ap₂ _+ℤ_ (carried-none (depthBefore (under r i) x)) (carried-none (depthBehind (under r i) x)))
 
     -- a cell between still faces stays
-    update-rest : (i : ℕ) → i < r .n → (l f : Flux) → Still (hl (under r i) (s i)) l → Still (hr (under r i) (s i)) f → update (r .dx) (c .dt) (c .dry) (under r i) (s i) l f ≡ s i
+    update-rest : (i : ℕ) → i < r .n → (l f : Flux) → Still (hl (under r i) (s i)) l → Still (hr (under r i) (s i)) f
+        → update (r .dx) (c .dt) (c .dry) (under r i) (s i) l f ≡ s i
     unfolding update
     update-rest i m l f p q = let x = s i in let y = update (r .dx) (c .dt) (c .dry) (under r i) x l f in let w = a .calm i m in
         cell-is y x
         (ap₂ (λ (a b : ℤ). x .e0 +ℤ a -ℤ b) (volume-none p) (volume-none q) ∙ plus-none (x .e0 +ℤ pos 0) ∙ plus-none (x .e0))
-        (ap (λ (z : ℤ). x .e1 -ℤ z) (quot-none (pos 3 *ℤ (f .F +ℤ l .F -ℤ pos 2 *ℤ x .q0) *ℤ c .dt) (r .dx) (rw (p .F≡, q .F≡, w .q0) (none-times (c .dt)))) ∙ plus-none (x .e1))
+        (ap (λ (z : ℤ). x .e1 -ℤ z) (quot-none (pos 3 *ℤ (f .F +ℤ l .F -ℤ pos 2 *ℤ x .q0) *ℤ c .dt) (r .dx)
+        (rw (p .F≡, q .F≡, w .q0) (none-times (c .dt)))) ∙ plus-none (x .e1))
         (ap₂ (λ (a b : ℤ). x .q0 +ℤ a +ℤ b)
         (quot-none ((l .A -ℤ f .A) *ℤ c .dt) (r .dx) (rw (p .A≡, q .A≡) (none-times (c .dt))))
         (quot-none (pos 981 *ℤ push (under r i) x l f *ℤ c .dt) (pos 819200 *ℤ r .dx) (rw (push-none i m l f p q) (none-times (c .dt))))
         ∙ plus-none (x .q0 +ℤ pos 0) ∙ plus-none (x .q0))
         (ap₂ (λ (a b : ℤ). x .q1 -ℤ a -ℤ b)
-        (quot-none (pos 3 *ℤ (f .A +ℤ l .A -ℤ gauss (c .dry) (under r i) x) *ℤ c .dt) (r .dx) (rw (p .A≡, q .A≡, gauss-none i x w) (none-times (c .dt))))
+        (quot-none (pos 3 *ℤ (f .A +ℤ l .A -ℤ gauss (c .dry) (under r i) x) *ℤ c .dt) (r .dx)
+        (rw (p .A≡, q .A≡, gauss-none i x w) (none-times (c .dt))))
         (quot-none (pos 981 *ℤ tilt (under r i) x l f *ℤ c .dt) (pos 819200 *ℤ r .dx) (rw (tilt-none i m l f p q) (none-times (c .dt))))
         ∙ plus-none (x .q1 +ℤ pos 0) ∙ plus-none (x .q1))
 
@@ -183,7 +205,8 @@ module _ (r : Reach) (ev : EvenBed r) (s : State) (a : AtRest r s) where
     -- ---- finishing
     parted-none : pos 0 ≤ℤ c .jump → (i : ℕ) → i < r .n → parted r c s i ≡ false
     unfolding parted
-    parted-none j i l = by (eqb (suc i) (r .n)) (λ e. rw e) (λ e. rw e (no-lt (c .jump) (sizeZ (el (s (suc i)) -ℤ er (s i))) (subst (λ (z : ℤ). z ≤ℤ c .jump) (sym (level-none i (inside i (r .n) l e))) j)))
+    parted-none j i l = by (eqb (suc i) (r .n)) (λ e. rw e) (λ e. rw e (no-lt (c .jump) (sizeZ (el (s (suc i)) -ℤ er (s i)))
+        (subst (λ (z : ℤ). z ≤ℤ c .jump) (sym (level-none i (inside i (r .n) l e))) j)))
       where
         level-none : (i : ℕ) → suc i < r .n → sizeZ (el (s (suc i)) -ℤ er (s i)) ≡ pos 0
         level-none i l = let p = el (s (suc i)) in let q = er (s i) in
@@ -200,10 +223,14 @@ module _ (r : Reach) (ev : EvenBed r) (s : State) (a : AtRest r s) where
         rw (unmarked j i l)
         (cell-is (dried (c .dry) (under r i) (cut (under r i) x)) x
         refl
-        (rw (no-lt m d (le! (at d) (at m) (omega (arith, le? (lit 0) (at m ⊟ at d) (rest-wet i l .left)))), no-lt d (negℤ m) (le! (⊖ (at m)) (at d) (omega (arith, le? (lit 0) (at m ⊞ at d) (rest-wet i l .right)))))
+        (rw (
+          no-lt m d (le! (at d) (at m) (omega (arith, le? (lit 0) (at m ⊟ at d) (rest-wet i l .left)))),
+          no-lt d (negℤ m) (le! (⊖ (at m)) (at d) (omega (arith, le? (lit 0) (at m ⊞ at d) (rest-wet i l .right)))),
+        )
         (eq! (at (x .e1) ⊟ at (z1 (under r i)) ⊞ at (z1 (under r i))) (at (x .e1)) (omega arith)))
         (cond-same (leZ (h0 (under r i) (cut (under r i) x)) (c .dry)) (pos 0) (x .q0) (x .q0) (sym (w .q0)) refl)
-        (cond-same (leZ (h0 (under r i) (cut (under r i) x)) (c .dry)) (pos 0) (cond (beyond m d) (pos 0) (x .q1)) (x .q1) (sym (w .q1)) (cond-same (beyond m d) (pos 0) (x .q1) (x .q1) (sym (w .q1)) refl)))
+        (cond-same (leZ (h0 (under r i) (cut (under r i) x)) (c .dry)) (pos 0) (cond (beyond m d) (pos 0) (x .q1)) (x .q1) (sym (w .q1))
+        (cond-same (beyond m d) (pos 0) (x .q1) (x .q1) (sym (w .q1)) refl)))
 
     -- ---- friction
     slowed-none : (x : ℤ) → slowed x (pos 0) ≡ pos 0
@@ -217,7 +244,8 @@ module _ (r : Reach) (ev : EvenBed r) (s : State) (a : AtRest r s) where
 
     pub rubbed-rest : Same r (rubbed r c s) s
     unfolding rubbed rubbedCell
-    rubbed-rest i l = cell-is (rubbed r c s i) (s i) refl refl (rub-none i (s i) (s i .q0) (a .calm i l .q0)) (rub-none i (s i) (s i .q1) (a .calm i l .q1))
+    rubbed-rest i l = cell-is (rubbed r c s i) (s i) refl refl (rub-none i (s i) (s i .q0) (a .calm i l .q0))
+        (rub-none i (s i) (s i .q1) (a .calm i l .q1))
 
     pub face-none : 0 < r .n → (i : ℕ) → i < suc (r .n) → volume (r .dx) (c .dt) (faceAt r c s i) ≡ pos 0
     unfolding faceAt
@@ -229,7 +257,8 @@ unfolding half
 half-same a = ap (λ (z : ℤ). quotZ z (pos 2)) (eq! (at a ⊞ at a) (at a ⊠ lit 2) (omega arith)) ∙ twice a
 
 -- ---- the step
-module _ (r : Reach) (law : Lawful (r .face)) (ev : EvenBed r) (n>0 : 0 < r .n) (c : Call) (j : pos 0 ≤ℤ c .jump) (s : State) (a : AtRest r s) where
+module _ (r : Reach) (law : Lawful (r .face)) (ev : EvenBed r) (n>0 : 0 < r .n) (c : Call) (j : pos 0 ≤ℤ c .jump) (s : State)
+    (a : AtRest r s) where
   rubbed-at : AtRest r (rubbed r c s)
   rubbed-at = rest-same r s (rubbed r c s) (rubbed-rest r ev s a law c) a
 
@@ -238,7 +267,8 @@ module _ (r : Reach) (law : Lawful (r .face)) (ev : EvenBed r) (n>0 : 0 < r .n) 
 
   stageOne-rest : Same r (stageOne r c s) s
   unfolding stageOne
-  stageOne-rest i l = finish-rest r ev (stage r c (rubbed r c s)) (rest-same r s (stage r c (rubbed r c s)) staged a) law c j i l ∙ staged i l
+  stageOne-rest i l = finish-rest r ev (stage r c (rubbed r c s)) (rest-same r s (stage r c (rubbed r c s)) staged a) law c j i l
+      ∙ staged i l
 
   stageOne-at : AtRest r (stageOne r c s)
   stageOne-at = rest-same r s (stageOne r c s) stageOne-rest a
@@ -246,7 +276,8 @@ module _ (r : Reach) (law : Lawful (r .face)) (ev : EvenBed r) (n>0 : 0 < r .n) 
   -- nothing crosses any face
   pub carry-none : (i : ℕ) → i < suc (r .n) → carry r c s i ≡ pos 0
   unfolding carry half
-  carry-none i l = ap₂ half (face-none r ev (rubbed r c s) rubbed-at law c n>0 i l) (face-none r ev (stageOne r c s) stageOne-at law c n>0 i l)
+  carry-none i l =
+      ap₂ half (face-none r ev (rubbed r c s) rubbed-at law c n>0 i l) (face-none r ev (stageOne r c s) stageOne-at law c n>0 i l)
 
   joined-rest : Same r (joined r c s) s
   unfolding joined joinedCell
@@ -254,7 +285,8 @@ module _ (r : Reach) (law : Lawful (r .face)) (ev : EvenBed r) (n>0 : 0 < r .n) 
       let x = rubbed r c s i in let y = stage r c (stageOne r c s) i in
       let e : y ≡ x = stage-rest r ev (stageOne r c s) stageOne-at law c i l ∙ stageOne-rest i l ∙ sym (rubbed-rest r ev s a law c i l) in
       cell-is (joined r c s i) x
-      (ap₂ (λ (p q : ℤ). x .e0 +ℤ p -ℤ q) (carry-none i (omega arith)) (carry-none (suc i) (omega arith)) ∙ plus-none (x .e0 +ℤ pos 0) ∙ plus-none (x .e0))
+      (ap₂ (λ (p q : ℤ). x .e0 +ℤ p -ℤ q) (carry-none i (omega arith)) (carry-none (suc i) (omega arith)) ∙ plus-none (x .e0 +ℤ pos 0)
+      ∙ plus-none (x .e0))
       (ap (λ (z : Cell). half (x .e1) (z .e1)) e ∙ half-same (x .e1))
       (ap (λ (z : Cell). half (x .q0) (z .q0)) e ∙ half-same (x .q0))
       (ap (λ (z : Cell). half (x .q1) (z .q1)) e ∙ half-same (x .q1))

@@ -22,7 +22,8 @@ use Rattle.rules.specs.Lawful.{Lawful}
 use Rattle.rules.specs.Reach.{Reach, Call, State, ql, qr, Bed, under, h0, hl, hr}
 use Rattle.rules.specs.Stage.{faceAt}
 use Rattle.rules.specs.Step.{rubbed, stageOne, carry, next}
-use Rattle.rules.specs.Refusals.{outside, past, offCell, off, fastCell, fastFriction, tooLong, badCall, badBed, chk, stageChecks, early, checks, verdict, refusal}
+use Rattle.rules.specs.Refusals.{outside, past, offCell, off, fastCell, fastFriction, tooLong, badCall}
+use Rattle.rules.specs.Refusals.{badBed, chk, stageChecks, early, checks, verdict, refusal}
 use Rattle.rules.specs.AtRest.{AtRest}
 use Rattle.rules.specs.Laws.Agree.{Same}
 use Rattle.rules.specs.Laws.Accept.{Clear, any-none, One, any-one, passed}
@@ -39,7 +40,8 @@ above-least a b x e = lt-no x a (or-l (ltZ x a) (ltZ b x) e)
 fine : (r : Reach) (c : Call) → badCall r c ≡ false → Fine r c
 unfolding badCall
 fine r c e =
-    let f = any-none (outside (pos 1) longestCell (r .dx) ∷ outside (pos 1) longestStep (c .dt) ∷ outside (pos 0) largestJump (c .jump) ∷ ltb 1 (c .left) ∷ ltb 1 (c .right) ∷ []) e in
+    let f = any-none (outside (pos 1) longestCell (r .dx) ∷ outside (pos 1) longestStep (c .dt) ∷ outside (pos 0) largestJump (c .jump)
+    ∷ ltb 1 (c .left) ∷ ltb 1 (c .right) ∷ []) e in
     record {
       dx = lt! (lit 0) (at (r .dx)) (omega (arith, of-le (above-least (pos 1) longestCell (r .dx) (f .0))));
       dt = le! (lit 0) (at (c .dt)) (omega (arith, of-le (above-least (pos 1) longestStep (c .dt) (f .1 .0))));
@@ -57,7 +59,8 @@ in-range : (r : Reach) (s : State) → some (off r s) (r .n) ≡ false → Wet r
 unfolding off offCell
 in-range r s e i l =
     let b = under r i in let x = s i in
-    let f = any-none (outside (pos 0) deepest (hl b x) ∷ outside (pos 0) deepest (hr b x) ∷ past fullest (ql x) ∷ past fullest (qr x) ∷ []) (some-none (off r s) (r .n) e i l) in
+    let f = any-none (outside (pos 0) deepest (hl b x) ∷ outside (pos 0) deepest (hr b x) ∷ past fullest (ql x) ∷ past fullest (qr x) ∷ [])
+    (some-none (off r s) (r .n) e i l) in
     record { left = above-least (pos 0) deepest (hl b x) (f .0); right = above-least (pos 0) deepest (hr b x) (f .1 .0) }
 
 brief : (r : Reach) (c : Call) (s : State) → some (tooLong r c s) (suc (r .n)) ≡ false → Brief r c s
@@ -73,7 +76,12 @@ pub record Early (r : Reach) (c : Call) (s : State) : Type 0 where
 
 early-of : (r : Reach) (c : Call) (s : State) → Clear (early r c s) → Early r c s
 unfolding early stageChecks
-early-of r c s k = record { fine = fine r c (k .0); even = even-bed r (k .1 .0); wet = in-range r s (k .1 .1 .1 .0); brief = brief r c (rubbed r c s) (k .1 .1 .1 .1 .1 .1 .1 .0) }
+early-of r c s k = record {
+  fine = fine r c (k .0);
+  even = even-bed r (k .1 .0);
+  wet = in-range r s (k .1 .1 .1 .0);
+  brief = brief r c (rubbed r c s) (k .1 .1 .1 .1 .1 .1 .1 .0);
+}
 
 -- ---- an 8 is due to a value too large, never to a depth below nought
 abbrev pub TooLarge : Bed → Cell → Type 0
@@ -93,13 +101,15 @@ large-of r s w e = let f = some-yes (off r s) (r .n) e in let i = f .0 in let b 
       wet = w;
       place = i;
       below = f .1;
-      large = go b x (w i (f .1)) (any-one (outside (pos 0) deepest (hl b x) ∷ outside (pos 0) deepest (hr b x) ∷ past fullest (ql x) ∷ past fullest (qr x) ∷ []) (f .2));
+      large = go b x (w i (f .1)) (any-one (outside (pos 0) deepest (hl b x) ∷ outside (pos 0) deepest (hr b x) ∷ past fullest (ql x)
+          ∷ past fullest (qr x) ∷ []) (f .2));
     }
   where
     too-deep : (d : ℤ) → pos 0 ≤ℤ d → outside (pos 0) deepest d ≡ true → deepest <ℤ d
     too-deep d h e = lt-yes deepest d (rw (no-lt d (pos 0) h) at e)
 
-    go : (b : Bed) (x : Cell) → Nonneg b x → One (outside (pos 0) deepest (hl b x) ∷ outside (pos 0) deepest (hr b x) ∷ past fullest (ql x) ∷ past fullest (qr x) ∷ []) → TooLarge b x
+    go : (b : Bed) (x : Cell) → Nonneg b x → One (outside (pos 0) deepest (hl b x) ∷ outside (pos 0) deepest (hr b x) ∷ past fullest (ql x)
+        ∷ past fullest (qr x) ∷ []) → TooLarge b x
     go b x n (inl a) = inl (too-deep (hl b x) (n .left) a)
     go b x n (inr (inl a)) = inr (inl (too-deep (hr b x) (n .right) a))
     go b x n (inr (inr (inl a))) = inr (inr (inl (lt-yes fullest (sizeZ (ql x)) a)))
@@ -124,7 +134,8 @@ module _ (r : Reach) (law : Lawful (r .face)) (c : Call) (s : State) where
       (λ d. inl (large-of r (stageOne r c s) (wet-stageOne k) d))
       (λ d.
       let q = passed 8 (stageChecks r c (stageOne r c s)) (chk 8 b ∷ []) tt (rw d at (p .1)) in
-      inr (large-of r (next r c s) (wet-next k (brief r c (stageOne r c s) (q .0 .1 .1 .0))) (by b (λ x. x) (λ x. let z : _≡_ {A = ℕ} 0 8 = rw x at (q .1) in let y : ⊥ = omega arith in absurd y))))
+      inr (large-of r (next r c s) (wet-next k (brief r c (stageOne r c s) (q .0 .1 .1 .0)))
+      (by b (λ x. x) (λ x. let z : _≡_ {A = ℕ} 0 8 = rw x at (q .1) in let y : ⊥ = omega arith in absurd y))))
 
 -- ---- an accepted call
 pub record Accepted (r : Reach) (c : Call) (s : State) : Type 0 where
@@ -139,10 +150,16 @@ accepted r c s e =
     let a = some (off r (stageOne r c s)) (r .n) in let b = some (off r (next r c s)) (r .n) in
     let p = passed 0 (early r c s) (chk 8 a ∷ stageChecks r c (stageOne r c s) ++ chk 8 b ∷ []) tt e in
     let q = passed 0 (chk 8 a ∷ stageChecks r c (stageOne r c s) ++ chk 8 b ∷ []) [] tt (p .1) in
-    record { early = early-of r c s (p .0); brief = brief r c (stageOne r c s) (q .0 .1 .1 .1 .0); one = q .0 .0; end = q .0 .1 .1 .1 .1 .0 }
+    record {
+      early = early-of r c s (p .0);
+      brief = brief r c (stageOne r c s) (q .0 .1 .1 .1 .0);
+      one = q .0 .0;
+      end = q .0 .1 .1 .1 .1 .0;
+    }
 
 -- and no cell of the state it starts from is faster than 131,072, with friction or without
-pub accepted-slow : (r : Reach) (c : Call) (s : State) → refusal r c s ≡ 0 → (i : ℕ) → i < r .n → past fastest (speed (c .dry) (s i .q0) (h0 (under r i) (s i))) ≡ false
+pub accepted-slow : (r : Reach) (c : Call) (s : State) → refusal r c s ≡ 0 → (i : ℕ) → i < r .n
+    → past fastest (speed (c .dry) (s i .q0) (h0 (under r i) (s i))) ≡ false
 unfolding refusal checks early stageChecks fastFriction fastCell
 accepted-slow r c s e i l =
     let a = some (off r (stageOne r c s)) (r .n) in let b = some (off r (next r c s)) (r .n) in
@@ -157,14 +174,19 @@ pub record Depths (r : Reach) (s : State) : Type 0 where
 pub depths : (r : Reach) (s : State) → Wet r s → Depths r s
 depths r s w = record { faces = w; mean = λ i l. mean≥0 (under r i) (s i) (w i l) }
 
-pub accepted-depths : (r : Reach) → Lawful (r .face) → (c : Call) (s : State) → refusal r c s ≡ 0 → (Depths r s) × (Depths r (stageOne r c s)) × (Depths r (next r c s))
-accepted-depths r law c s e = let p = accepted r c s e in
-    (depths r s (p .early .wet), depths r (stageOne r c s) (wet-stageOne r law c s (p .early)), depths r (next r c s) (wet-next r law c s (p .early) (p .brief)))
+pub accepted-depths : (r : Reach) → Lawful (r .face) → (c : Call) (s : State) → refusal r c s ≡ 0
+    → (Depths r s) × (Depths r (stageOne r c s)) × (Depths r (next r c s))
+accepted-depths r law c s e = let p = accepted r c s e in (
+  depths r s (p .early .wet),
+  depths r (stageOne r c s) (wet-stageOne r law c s (p .early)),
+  depths r (next r c s) (wet-next r law c s (p .early) (p .brief)),
+)
 
 -- ---- any number of accepted calls, each from the state that the one before it left in the reach; a and b: what crossed face 0 and face n
 pub data Run (r : Reach) : State → State → ℤ → ℤ → Type 0 where
   stop : (s : State) → Run r s s (pos 0) (pos 0)
-  step : (c : Call) (s m t : State) (a b : ℤ) → refusal r c s ≡ 0 → Same r m (next r c s) → Run r m t a b → Run r s t (carry r c s 0 +ℤ a) (carry r c s (r .n) +ℤ b)
+  step : (c : Call) (s m t : State) (a b : ℤ) → refusal r c s ≡ 0 → Same r m (next r c s) → Run r m t a b
+      → Run r s t (carry r c s 0 +ℤ a) (carry r c s (r .n) +ℤ b)
 
 wet-same : (r : Reach) (s t : State) → Same r t s → Wet r s → Wet r t
 wet-same r s t e w i l = subst (Nonneg (under r i)) (sym (e i l)) (w i l)
@@ -184,10 +206,13 @@ run-balanced r (step c s m t a b e f k) =
 -- no depth falls below nought
 pub run-wet : (r : Reach) → Lawful (r .face) → {s t : State} {a b : ℤ} → Run r s t a b → Wet r s → Wet r t
 run-wet r law (stop s) w = w
-run-wet r law (step c s m t a b e f k) w = let p = accepted r c s e in run-wet r law k (wet-same r (next r c s) m f (wet-next r law c s (p .early) (p .brief)))
+run-wet r law (step c s m t a b e f k) w =
+    let p = accepted r c s e in
+    run-wet r law k (wet-same r (next r c s) m f (wet-next r law c s (p .early) (p .brief)))
 
 -- a lake at rest keeps every number, and nothing crosses its ends
-pub run-rest : (r : Reach) → Lawful (r .face) → 0 < r .n → {s t : State} {a b : ℤ} → Run r s t a b → AtRest r s → (Same r t s) × (a ≡ pos 0) × (b ≡ pos 0)
+pub run-rest : (r : Reach) → Lawful (r .face) → 0 < r .n → {s t : State} {a b : ℤ} → Run r s t a b → AtRest r s
+    → (Same r t s) × (a ≡ pos 0) × (b ≡ pos 0)
 run-rest r law o (stop s) w = (λ i l. refl, refl, refl)
 run-rest r law o (step c s m t a b e f k) w =
     let p = accepted r c s e in let ev = p .early .even in let j = p .early .fine .jump in

@@ -27,7 +27,8 @@ module _ (r : Reach) (law : Lawful (r .face)) (c : Call) where
   -- the right wall is the left one of the mirror image
   right-wall : c .right ≡ 0 → (x : Side) → rightEnd r c x .F ≡ pos 0
   unfolding rightEnd outer
-  right-wall e x = rw e (sym (negℤ-negℤ (r .face x (mirror x) .F)) ∙ ap negℤ (ap (λ (f : Flux). f .F) (sym (law .mirrored x (mirror x)))) ∙ ap negℤ (wall (r .face) law (mirror x)))
+  right-wall e x = rw e (sym (negℤ-negℤ (r .face x (mirror x) .F)) ∙ ap negℤ (ap (λ (f : Flux). f .F) (sym (law .mirrored x (mirror x))))
+      ∙ ap negℤ (wall (r .face) law (mirror x)))
 
   still-volume : (f : Flux) → f .F ≡ pos 0 → volume (r .dx) (c .dt) f ≡ pos 0
   unfolding volume
@@ -35,11 +36,13 @@ module _ (r : Reach) (law : Lawful (r .face)) (c : Call) where
 
   pub left-shut : c .left ≡ 0 → (s : State) → carry r c s 0 ≡ pos 0
   unfolding carry half faceAt
-  left-shut e s = ap₂ half (still-volume (faceAt r c (rubbed r c s) 0) (left-wall e (atLeft r c (rubbed r c s) 0))) (still-volume (faceAt r c (stageOne r c s) 0) (left-wall e (atLeft r c (stageOne r c s) 0)))
+  left-shut e s = ap₂ half (still-volume (faceAt r c (rubbed r c s) 0) (left-wall e (atLeft r c (rubbed r c s) 0)))
+      (still-volume (faceAt r c (stageOne r c s) 0) (left-wall e (atLeft r c (stageOne r c s) 0)))
 
   pub right-shut : (m : ℕ) → r .n ≡ suc m → c .right ≡ 0 → (s : State) → carry r c s (suc m) ≡ pos 0
   unfolding carry half faceAt
-  right-shut m n e s = ap₂ half (still-volume (faceRight r c (rubbed r c s) m) (end (rubbed r c s))) (still-volume (faceRight r c (stageOne r c s) m) (end (stageOne r c s)))
+  right-shut m n e s = ap₂ half (still-volume (faceRight r c (rubbed r c s) m) (end (rubbed r c s)))
+      (still-volume (faceRight r c (stageOne r c s) m) (end (stageOne r c s)))
     where
       end : (s : State) → faceRight r c s m .F ≡ pos 0
       end s = ap (λ (f : Flux). f .F) (last-face r c s m n) ∙ right-wall e (atRight r c s m)
