@@ -2,20 +2,23 @@
 -- Assumes nothing.
 use mathlib.Core.Path.{_≡_, refl}
 use mathlib.Core.Bool.{Bool, true, false, _&&_}
-use lib.IntN.{ℤ, negℤ}
+use borrow.Author.Tests.{not-true}
+use lib.IntN.{ℤ}
 use Rattle.whole.specs.Flags.{and-l, and-r}
-use Rattle.whole.specs.Parts.{Within, b-range, range-b}
+use Rattle.whole.specs.Parts.{Within}
+use Rattle.whole.specs.Choice.{within-past, not-beyond}
 use Rattle.rules.specs.Limits.{fastest}
 use Rattle.rules.specs.Face.{Side, face}
+use Rattle.rules.specs.Refusals.{past}
 use Rattle.rules.specs.Laws.Sizes.{Sound}
 use Rattle.speeds.specs.Given.{given, refused, depthFits}
-use Rattle.speeds.proofs.Fits.{lies-in, in-lies, depth-in, in-depth}
+use Rattle.speeds.proofs.Fits.{depth-in, in-depth}
 use Rattle.face.specs.Given.{speedFits, sideFits, faceGiven}
 
 -- ---- from the tests
 speed-in : (u : ℤ) → speedFits u ≡ true → Within 131072 u
 unfolding speedFits
-speed-in u e = let p = lies-in (negℤ fastest) u fastest e in b-range (p .0) (p .1)
+speed-in u e = within-past 131072 u (not-true (past fastest u) e)
 
 pub side-in : (x : Side) → sideFits x ≡ true → Sound x
 unfolding sideFits
@@ -26,9 +29,7 @@ side-in x e =
 -- ---- to the tests
 in-side : (x : Side) → Sound x → sideFits x ≡ true
 unfolding sideFits speedFits
-in-side x s =
-    let p = range-b (s .speed) in
-    rw (in-depth (x .h) (s .least) (s .most), in-lies (negℤ fastest) (x .u) fastest (p .0) (p .1))
+in-side x s = rw (in-depth (x .h) (s .least) (s .most), not-beyond 131072 (x .u) (s .speed))
 
 pub fitting : (x : Side) → depthFits (x .h) ≡ true → speedFits (x .u) ≡ true → sideFits x ≡ true
 unfolding sideFits

@@ -5,6 +5,7 @@ pub mod Mirror
 pub mod Face
 pub mod Sizes
 pub mod Agree
+pub mod Inside
 pub mod Accept
 pub mod Verdicts
 pub mod Lengths

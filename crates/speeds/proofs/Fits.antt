@@ -1,45 +1,39 @@
 -- What it says of a number that it is within the limits; and that within them each public function gives the rule's value.
 -- Assumes nothing.
 use mathlib.Core.Path.{_≡_, refl, sym, _∙_, ap}
-use mathlib.Core.Bool.{Bool, true, false, cond}
-use lib.IntN.{ℤ, pos, negℤ}
-use lib.Signed.{leZ, _≤ℤ_}
-use Rattle.whole.specs.Flags.{and-l, and-r}
-use Rattle.whole.specs.Parts.{Within, b-range, range-b}
-use Rattle.whole.specs.Tests.{le-yes, yes-le}
+use mathlib.Core.Bool.{Bool, true, false, not, cond}
+use borrow.Author.Tests.{not-true}
+use lib.IntN.{ℤ, pos}
+use lib.Signed.{_≤ℤ_}
+use Rattle.whole.specs.Parts.{Within}
+use Rattle.whole.specs.Choice.{within-past, not-beyond}
 use Rattle.rules.specs.Limits.{deepest, fullest, dryDepth}
 use Rattle.rules.specs.Face.{speed, wave}
 use Rattle.rules.specs.Friction.{cube}
-use Rattle.speeds.specs.Given.{given, refused, liesBetween, depthFits, dischargeFits, speedGiven, waveGiven, cubeGiven}
+use Rattle.rules.specs.Refusals.{outside, past}
+use Rattle.rules.specs.Laws.Inside.{above-least, below-most, not-outside}
+use Rattle.speeds.specs.Given.{given, refused, depthFits, dischargeFits, speedGiven, waveGiven, cubeGiven}
 use Rattle.speeds.specs.Answers.{number, same, never}
 use Rattle.speeds.specs.declared.answer.Whole.{Whole}
 use Rattle.speeds.specs.declared.answer.Whole.the-variants as whole
 
 -- ---- from the tests
-pub lies-in : (low x high : ℤ) → liesBetween low x high ≡ true → (low ≤ℤ x) × (x ≤ℤ high)
-unfolding liesBetween
-lies-in low x high e = (le-yes low x (and-l (leZ low x) (leZ x high) e), le-yes x high (and-r (leZ low x) (leZ x high) e))
-
 pub depth-in : (h : ℤ) → depthFits h ≡ true → (pos 0 ≤ℤ h) × (h ≤ℤ deepest)
 unfolding depthFits
-depth-in h e = lies-in (pos 0) h deepest e
+depth-in h e = let f = not-true (outside (pos 0) deepest h) e in (above-least (pos 0) deepest h f, below-most (pos 0) deepest h f)
 
 pub discharge-in : (q : ℤ) → dischargeFits q ≡ true → Within 8388608 q
 unfolding dischargeFits
-discharge-in q e = let p = lies-in (negℤ fullest) q fullest e in b-range (p .0) (p .1)
+discharge-in q e = within-past 8388608 q (not-true (past fullest q) e)
 
 -- ---- to the tests
-pub in-lies : (low x high : ℤ) → low ≤ℤ x → x ≤ℤ high → liesBetween low x high ≡ true
-unfolding liesBetween
-in-lies low x high p q = rw (yes-le low x p, yes-le x high q)
-
 pub in-depth : (h : ℤ) → pos 0 ≤ℤ h → h ≤ℤ deepest → depthFits h ≡ true
 unfolding depthFits
-in-depth h p q = in-lies (pos 0) h deepest p q
+in-depth h p q = ap not (not-outside (pos 0) deepest h p q)
 
 pub in-discharge : (q : ℤ) → Within 8388608 q → dischargeFits q ≡ true
 unfolding dischargeFits
-in-discharge q w = let p = range-b w in in-lies (negℤ fullest) q fullest (p .0) (p .1)
+in-discharge q w = ap not (not-beyond 8388608 q w)
 
 -- ---- so within the limits
 pub speed-given : (q h : ℤ) → Within 8388608 q → pos 0 ≤ℤ h → h ≤ℤ deepest → speedGiven q h ≡ given (speed dryDepth q h)

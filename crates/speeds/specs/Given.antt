@@ -1,10 +1,10 @@
 -- What the public functions give: the rule's number within the limits, and beyond them a refusal, with no number.
-use mathlib.Core.Bool.{Bool, cond, _&&_}
-use lib.IntN.{ℤ, negℤ, pos}
-use lib.Signed.{leZ}
+use mathlib.Core.Bool.{Bool, not, cond, _&&_}
+use lib.IntN.{ℤ, pos}
 use Rattle.rules.specs.Limits.{deepest, fullest, dryDepth}
 use Rattle.rules.specs.Face.{speed, wave}
 use Rattle.rules.specs.Friction.{cube}
+use Rattle.rules.specs.Refusals.{outside, past}
 
 -- a value, or a refusal
 pub data Perhaps (A : Type 0) : Type 0 where
@@ -12,14 +12,11 @@ pub data Perhaps (A : Type 0) : Type 0 where
   refused : Perhaps A
 
 -- ---- the limits
-unfoldable pub liesBetween : ℤ → ℤ → ℤ → Bool
-liesBetween low x high = leZ low x && leZ x high
-
 unfoldable pub depthFits : ℤ → Bool
-depthFits h = liesBetween (pos 0) h deepest
+depthFits h = not (outside (pos 0) deepest h)
 
 unfoldable pub dischargeFits : ℤ → Bool
-dischargeFits q = liesBetween (negℤ fullest) q fullest
+dischargeFits q = not (past fullest q)
 
 -- ---- what is given
 unfoldable pub speedGiven : ℤ → ℤ → Perhaps ℤ

@@ -2,12 +2,10 @@
 use crate::answer::Whole;
 use crate::limits::depth_fits;
 use crate::limits::discharge_fits;
+use reach::limits::DRY_DEPTH;
 ghost use mathlib.Core.Path.{_≡_};
 ghost use Rattle.speeds.specs.Given.{speedGiven};
 ghost use Rattle.speeds.specs.Answers.{number};
-
-// At or below this depth water does not move.
-const DRY: i64 = 4;
 
 // The speed of the discharge q at depth h.
 pub fn speed(q: i64, h: i64) -> Whole
@@ -19,7 +17,7 @@ pub fn speed(q: i64, h: i64) -> Whole
     if !depth_fits(h) {
         return Whole::Refused;
     }
-    if h <= DRY {
+    if h <= DRY_DEPTH {
         return Whole::Is(0);
     }
     Whole::Is(q * 4096 / h)

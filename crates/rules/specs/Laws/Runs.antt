@@ -8,8 +8,8 @@ use Prim.Native.Nat.{ℕ, suc, _%_, _<_}
 use native.Mathlib.Omega.{arith}
 use lib.Dec.{eqb, eqb→eq, ltb}
 use lib.IntN.{ℤ, pos, natAbs, _+ℤ_, _-ℤ_, _*ℤ_}
-use lib.Signed.{ltZ, _≤ℤ_, _<ℤ_}
-use Rattle.whole.specs.Flags.{or-l, or-r, not-f, held, by}
+use lib.Signed.{_≤ℤ_, _<ℤ_}
+use Rattle.whole.specs.Flags.{or-r, not-f, held, by}
 use Rattle.whole.specs.Parts.{of-le}
 use Rattle.whole.specs.Difference.{at, lit, _⊞_, _⊟_, le!, lt!, eq! }
 use Rattle.whole.specs.Tests.{lt-no, lt-yes, no-lt}
@@ -26,6 +26,7 @@ use Rattle.rules.specs.Refusals.{outside, past, offCell, off, fastCell, 
 use Rattle.rules.specs.Refusals.{badBed, chk, stageChecks, early, checks, verdict, refusal}
 use Rattle.rules.specs.AtRest.{AtRest}
 use Rattle.rules.specs.Laws.Agree.{Same}
+use Rattle.rules.specs.Laws.Inside.{above-least}
 use Rattle.rules.specs.Laws.Accept.{Clear, any-none, One, any-one, passed}
 use Rattle.rules.specs.Laws.Positive.{Fine, Nonneg, Wet, mean≥0, Brief, stageOne-wet, next-wet}
 use Rattle.rules.specs.Laws.Balance.{sum-same, water, balanced}
@@ -33,10 +34,6 @@ use Rattle.rules.specs.Laws.EvenBed.{even-of, EvenBed}
 use Rattle.rules.specs.Laws.Rest.{rest-same, next-rest, carry-none}
 
 -- ---- what the checks say
--- a number that is not outside its list
-above-least : (a b x : ℤ) → outside a b x ≡ false → a ≤ℤ x
-above-least a b x e = lt-no x a (or-l (ltZ x a) (ltZ b x) e)
-
 fine : (r : Reach) (c : Call) → badCall r c ≡ false → Fine r c
 unfolding badCall
 fine r c e =
