@@ -1,17 +1,9 @@
 // An answer and what `next` holds, in one line.
 use crate::read::field;
 use libc::STDOUT_FILENO;
+use reach::size::magnitude;
 use std::num::wrapping_add_u64;
 use step::Answer;
-
-// The size of x. Not by -x, as the least i64 has no opposite.
-fn size(x: i64) -> u64 {
-    if x < 0 {
-        let y = -1 - x;
-        return wrapping_add_u64(1, y as u64);
-    }
-    x as u64
-}
 
 fn wide(x: i32) -> i64 {
     x as i64
@@ -23,7 +15,7 @@ fn show(x: i64) {
     } else {
         io::write_all(STDOUT_FILENO, b" ");
     }
-    io::print_decimal(STDOUT_FILENO, size(x));
+    io::print_decimal(STDOUT_FILENO, magnitude(x));
 }
 
 fn show_table(t: &[i32]) {
@@ -39,7 +31,7 @@ fn show_sum(t: &[i32]) {
     let mut sum = 0u64;
     let mut i: usize = 0;
     while i < t.len() {
-        sum = wrapping_add_u64(sum, size(wide(t[i])));
+        sum = wrapping_add_u64(sum, magnitude(wide(t[i])));
         i += 1;
     }
     io::write_all(STDOUT_FILENO, b" ");

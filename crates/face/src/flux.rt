@@ -4,8 +4,8 @@
 use crate::answer::Carried;
 use crate::choice::greatest;
 use crate::choice::least;
-use crate::choice::size;
 use crate::limits::speed_fits;
+use reach::size::size;
 use speeds::answer::Whole;
 ghost use mathlib.Core.Path.{_≡_};
 ghost use mathlib.Core.Bool.{_&&_};

@@ -1,3 +1,4 @@
 -- What the code is told of a reach and of a call, as the rules' records; and the ranges of beds and cells in work.
 pub mod Told
 pub mod Ranges
+pub mod Size

@@ -3,6 +3,7 @@
 // lent tables here.
 pub mod bed;
 pub mod limits;
+pub mod size;
 
 // The working state of one cell: level mean, level slope, discharge mean, discharge slope.
 pub type Cell = [i64; 4];

@@ -1,6 +1,7 @@
 // Numbers that look drawn at random, and are the same on every run.
 //
 // A number with a sign is kept as its 64 bits, so that its sums wrap and none of them can fail.
+use reach::size::magnitude;
 use std::num::wrapping_add_u64;
 use std::num::wrapping_sub_u64;
 
@@ -63,12 +64,8 @@ pub fn wide(x: i32) -> i64 {
 }
 
 pub fn bits(x: i64) -> u64 {
-    if x < 0 {
-        // not -x, as the least i64 has no opposite
-        let y = -1 - x;
-        return wrapping_sub_u64(0xffff_ffff_ffff_ffff, y as u64);
-    }
-    x as u64
+    let m = magnitude(x);
+    if x < 0 { wrapping_sub_u64(0, m) } else { m }
 }
 
 // The running sum with one more number.

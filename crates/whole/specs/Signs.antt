@@ -2,7 +2,7 @@
 -- Assumes nothing.
 use mathlib.Core.Path.{_≡_, sym, _∙_}
 use mathlib.Core.Bool.{true, false, true≢false}
-use Prim.Native.Nat.{ℕ, suc, _<_, _^_}
+use Prim.Native.Nat.{ℕ, suc, _+_, _<_, _^_}
 use native.Mathlib.Nat.{not-suc-le-zero}
 use native.Mathlib.Omega.{arith}
 use borrow.Author.Tests.{ltb-true}
@@ -36,6 +36,10 @@ flip-fits (negsuc a) h m = rw (flip a) (record { sfits = omega arith })
 pub flip-size : (z : ℤ) → ltZ z (pos 0) ≡ true → mag z < 2 ^ 63 → T (nonNeg (negsuc 0 -ℤ z)) × Fits w64 (natAbs (negsuc 0 -ℤ z))
 flip-size (pos a) h m = absurd (not-suc-le-zero (ltb-true a 0 h))
 flip-size (negsuc a) h m = rw (flip a) (tt, record { fits = omega arith })
+
+pub flip-is : (z : ℤ) → ltZ z (pos 0) ≡ true → natAbs (negsuc 0 -ℤ z) + 1 ≡ natAbs z
+flip-is (pos a) h = absurd (not-suc-le-zero (ltb-true a 0 h))
+flip-is (negsuc a) h = rw (flip a) (omega arith)
 
 pub above-size : (z : ℤ) → ltZ z (pos 0) ≡ false → mag z < 2 ^ 63 → T (nonNeg z) × Fits w64 (natAbs z)
 above-size (pos a) h m = (tt, record { fits = omega arith })

@@ -2,6 +2,8 @@
 // block: an independent model of the rules writes the same lines (tests/reference/whole_faces.py).
 use face::answer::Carried;
 use libc::STDOUT_FILENO;
+use reach::size::magnitude;
+use std::num::wrapping_sub_u64;
 ghost use Prim.Native.Nat.{_≤_, _<_};
 ghost use Rattle.whole.specs.Parts.{Within};
 
@@ -68,11 +70,8 @@ fn against(right: bool, x: u64) -> i64 {
 
 // The bits of v in two's complement.
 fn bits(v: i64) -> u64 {
-    if v < 0 {
-        let w = -(v + 1);
-        return !(w as u64);
-    }
-    v as u64
+    let m = magnitude(v);
+    if v < 0 { wrapping_sub_u64(0, m) } else { m }
 }
 
 fn mixed(h: u64, v: u64) -> u64 {

@@ -23,8 +23,8 @@ shared-slice-copy-out-wide c = search needs
 wide-requires : tie.Need-wide-requires Inv-loop μ-loop
 wide-requires c κs = search needs
 
-size-requires : tie.Need-size-requires Inv-loop μ-loop
-size-requires c κs = search needs
+magnitude-requires : tie.Need-magnitude-requires Inv-loop μ-loop
+magnitude-requires c κs = search needs
 
 wrapping-add-u64-requires : tie.Need-wrapping-add-u64-requires Inv-loop μ-loop
 wrapping-add-u64-requires c κs = search needs
@@ -60,7 +60,7 @@ show-sum-spec =
     mul-wide
     shared-slice-copy-out-wide
     wide-requires
-    size-requires
+    magnitude-requires
     wrapping-add-u64-requires
     add-i
     loop-less

@@ -1,10 +1,9 @@
-use mathlib.Core.Path.{_∙_, ap}
 use mathlib.Core.List.{List, [], _∷_}
+use borrow.Author.Needs.{needs}
 use lib.Dec.{lit<}
 use lib.IntN.{pos}
-use Rattle.whole.specs.Parts.{b-up}
-use Rattle.whole.specs.Choice.{sizeZ}
-use Rattle.whole.specs.Machine.{X, v, k, _⊕_, _⊝_, _⊗_, _⊘_, Entry, entry, need, value, got, back64}
+use Rattle.whole.specs.Machine.{X, v, k, _⊕_, _⊝_, _⊗_, _⊘_, Entry, entry, need, got, back64}
+use Rattle.reach.specs.Size.{sized}
 use Rattle.face.specs.Sides.{aStarOf}
 use Rattle.face.proofs.flux.star_wave.Statement.{statement}
 use Rattle.face.proofs.flux.star_wave.Tie as tie
@@ -34,11 +33,11 @@ div-size : tie.Need-div-size
 div-size c = (lit< tt, need (env c) quarter tt)
 
 size-requires : tie.Need-size-requires
-size-requires c κs = rw (value (env c) quarter tt) (b-up 401872 (got (env c) quarter tt .bound) tt)
+size-requires c κs = search needs
 
 returns : tie.Need-returns
 unfolding aStarOf
-returns c = back64 (c .size .ok) (c .size .ensures ∙ ap sizeZ (value (env (c .before)) quarter tt))
+returns c = back64 (c .size .ok) (sized (got (env (c .before)) quarter tt) (c .size .ensures) tt)
 
 pub star-wave-spec : {M : Type 1} → statement M
 star-wave-spec =

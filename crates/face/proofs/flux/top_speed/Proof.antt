@@ -1,9 +1,8 @@
-use mathlib.Core.Path.{_∙_, ap, ap₂}
-use mir.Facts.{toZ-ofZ}
+use mathlib.Core.Path.{_∙_, ap₂}
 use borrow.Author.Needs.{needs}
-use Rattle.whole.specs.Parts.{b-up}
-use Rattle.whole.specs.Choice.{maxZ, sizeZ}
-use Rattle.whole.specs.Machine.{back64}
+use Rattle.whole.specs.Choice.{maxZ}
+use Rattle.whole.specs.Machine.{g-var, back64}
+use Rattle.reach.specs.Size.{sized}
 use Rattle.face.specs.Sides.{topOf}
 use Rattle.face.proofs.flux.top_speed.Statement.{statement}
 use Rattle.face.proofs.flux.top_speed.Tie as tie
@@ -18,13 +17,13 @@ greatest-requires : tie.Need-greatest-requires
 greatest-requires c κs = search needs
 
 size-requires-3 : tie.Need-size-requires-3
-size-requires-3 c κs = let s = c .before .before .before in rw (toZ-ofZ (s .fits .ul)) (b-up 401872 (s .pre .uL-in) tt)
+size-requires-3 c κs = search needs
 
 greatest-requires-2 : tie.Need-greatest-requires-2
 greatest-requires-2 c κs = search needs
 
 size-requires-4 : tie.Need-size-requires-4
-size-requires-4 c κs = let s = c .before .before .before .before .before in rw (toZ-ofZ (s .fits .ur)) (b-up 401872 (s .pre .uR-in) tt)
+size-requires-4 c κs = search needs
 
 greatest-requires-3 : tie.Need-greatest-requires-3
 greatest-requires-3 c κs = search needs
@@ -42,10 +41,10 @@ returns c =
     back64 (c .greatest3 .ok) (c .greatest3 .ensures ∙ ap₂ maxZ
     (back64 (left .greatest2 .ok) (left .greatest2 .ensures ∙ ap₂ maxZ
     (back64 (waves .greatest .ok) (waves .greatest .ensures ∙ ap₂ maxZ
-    (back64 (l .size .ok) (l .size .ensures ∙ ap sizeZ (toZ-ofZ (s .fits .sl))))
-    (back64 (r .size2 .ok) (r .size2 .ensures ∙ ap sizeZ (toZ-ofZ (s .fits .sr))))))
-    (back64 (b .size3 .ok) (b .size3 .ensures ∙ ap sizeZ (toZ-ofZ (s .fits .ul))))))
-    (back64 (d .size4 .ok) (d .size4 .ensures ∙ ap sizeZ (toZ-ofZ (s .fits .ur)))))
+    (back64 (l .size .ok) (sized (g-var (s .fits .sl) (s .pre .sL-in)) (l .size .ensures) tt))
+    (back64 (r .size2 .ok) (sized (g-var (s .fits .sr) (s .pre .sR-in)) (r .size2 .ensures) tt))))
+    (back64 (b .size3 .ok) (sized (g-var (s .fits .ul) (s .pre .uL-in)) (b .size3 .ensures) tt))))
+    (back64 (d .size4 .ok) (sized (g-var (s .fits .ur) (s .pre .uR-in)) (d .size4 .ensures) tt)))
 
 pub top-speed-spec : {M : Type 1} → statement M
 top-speed-spec =
