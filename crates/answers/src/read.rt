@@ -38,7 +38,8 @@ fn byte(line: &[u8], at: usize) -> u8 {
     if at < line.len() { line[at] } else { b';' }
 }
 
-fn size(line: &[u8], from: usize) -> u64 {
+// The number whose digits begin at `from`.
+fn digits(line: &[u8], from: usize) -> u64 {
     let mut x = 0u64;
     let mut at = from;
     while at < line.len() {
@@ -52,11 +53,11 @@ fn size(line: &[u8], from: usize) -> u64 {
     x
 }
 
-fn number(line: &[u8], at: usize) -> u64 {
+fn signed(line: &[u8], at: usize) -> u64 {
     if byte(line, at) == b'-' {
-        wrapping_sub_u64(0, size(line, wrapping_add_usize(at, 1)))
+        wrapping_sub_u64(0, digits(line, wrapping_add_usize(at, 1)))
     } else {
-        size(line, at)
+        digits(line, at)
     }
 }
 
@@ -83,7 +84,7 @@ pub fn field(line: &[u8], k: u64) -> usize
 fn put(l: &mut [u64; 24], n: usize, line: &[u8], at: usize) -> usize {
     // a digit or a minus: in ASCII they come before the colon, and letters after it
     if byte(line, wrapping_sub_usize(at, 1)) == b' ' && byte(line, at) < b':' {
-        l[n % 24] = number(line, at);
+        l[n % 24] = signed(line, at);
         return wrapping_add_usize(n, 1);
     }
     n

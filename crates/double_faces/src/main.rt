@@ -114,7 +114,7 @@ fn run(block: u64) -> Tally {
     t
 }
 
-fn number(n: u64) {
+fn show_count(n: u64) {
     io::write_all(STDOUT_FILENO, b" ");
     io::print_decimal(STDOUT_FILENO, n);
 }
@@ -122,10 +122,10 @@ fn number(n: u64) {
 fn line(block: u64) {
     let t = run(block);
     io::write_all(STDOUT_FILENO, b"faces");
-    number(block);
-    number(t.fluxes);
-    number(t.dry);
-    number(t.refused);
+    show_count(block);
+    show_count(t.fluxes);
+    show_count(t.dry);
+    show_count(t.refused);
     io::write_all(STDOUT_FILENO, b" ");
     io::print_hex(STDOUT_FILENO, t.sum, 16);
     io::write_all(STDOUT_FILENO, b"\n");

@@ -29,7 +29,7 @@ use Rattle.rules.specs.Laws.Runs.{stop, step, Large, depths, eight, accepted-de
 use Rattle.speeds.specs.Given.{speedGiven, waveGiven, cubeGiven}
 use Rattle.face.specs.Given.{faceGiven}
 use Rattle.face.specs.Answers.{flux}
-use Rattle.speeds.specs.Answers.{number as worth}
+use Rattle.speeds.specs.Answers.{valueOf}
 use Rattle.root.specs.Root.{RootIs}
 use Rattle.double.specs.Face.{FaceIs}
 use Rattle.speeds.specs.declared.answer.Whole.{Whole}
@@ -67,13 +67,13 @@ pub finish-one : (n : ℕ) (bed : List ℤ) (jump : ℤ) (u : List (List ℤ)) (
     → FinishSays n bed jump u a old new → FinishSays n bed jump u b old new′ → (a ≡ b) × (new ≡ new′)
 finish-one n bed jump u a b old new new′ p q = one-finish n bed jump u a b old new new′ p q
 
-pub speed-one : (q h : ℤ) (a b : Whole) → worth a ≡ speedGiven q h → worth b ≡ speedGiven q h → a ≡ b
+pub speed-one : (q h : ℤ) (a b : Whole) → valueOf a ≡ speedGiven q h → valueOf b ≡ speedGiven q h → a ≡ b
 speed-one q h a b x y = speed-unique q h a b x y
 
-pub wave-one : (h : ℤ) (a b : Whole) → worth a ≡ waveGiven h → worth b ≡ waveGiven h → a ≡ b
+pub wave-one : (h : ℤ) (a b : Whole) → valueOf a ≡ waveGiven h → valueOf b ≡ waveGiven h → a ≡ b
 wave-one h a b x y = wave-unique h a b x y
 
-pub cube-one : (h : ℤ) (a b : Whole) → worth a ≡ cubeGiven h → worth b ≡ cubeGiven h → a ≡ b
+pub cube-one : (h : ℤ) (a b : Whole) → valueOf a ≡ cubeGiven h → valueOf b ≡ cubeGiven h → a ≡ b
 cube-one h a b x y = cube-unique h a b x y
 
 pub face-one : (l r : Side) (a b : Carried) → flux a ≡ faceGiven l r → flux b ≡ faceGiven l r → a ≡ b

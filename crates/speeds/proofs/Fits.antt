@@ -13,7 +13,7 @@ use Rattle.rules.specs.Friction.{cube}
 use Rattle.rules.specs.Refusals.{outside, past}
 use Rattle.rules.specs.Laws.Inside.{above-least, below-most, not-outside}
 use Rattle.speeds.specs.Given.{given, refused, depthFits, dischargeFits, speedGiven, waveGiven, cubeGiven}
-use Rattle.speeds.specs.Answers.{number, same, never}
+use Rattle.speeds.specs.Answers.{valueOf, same, never}
 use Rattle.speeds.specs.declared.answer.Whole.{Whole}
 use Rattle.speeds.specs.declared.answer.Whole.the-variants as whole
 
@@ -53,10 +53,10 @@ let-go : (b : Bool) (x : ℤ) → refused ≡ cond b (given x) refused → b ≡
 let-go true x e = never (sym e)
 let-go false x e = refl
 
-pub wave-told : (r : Whole) (h z : ℤ) → r ≡ whole.Is z → number r ≡ waveGiven h → (depthFits h ≡ true) × (z ≡ wave h)
-unfolding number waveGiven
-wave-told r h z e f = held (depthFits h) (wave h) z (sym (ap number e) ∙ f)
+pub wave-told : (r : Whole) (h z : ℤ) → r ≡ whole.Is z → valueOf r ≡ waveGiven h → (depthFits h ≡ true) × (z ≡ wave h)
+unfolding valueOf waveGiven
+wave-told r h z e f = held (depthFits h) (wave h) z (sym (ap valueOf e) ∙ f)
 
-pub wave-untold : (r : Whole) (h : ℤ) → r ≡ whole.Refused → number r ≡ waveGiven h → depthFits h ≡ false
-unfolding number waveGiven
-wave-untold r h e f = let-go (depthFits h) (wave h) (sym (ap number e) ∙ f)
+pub wave-untold : (r : Whole) (h : ℤ) → r ≡ whole.Refused → valueOf r ≡ waveGiven h → depthFits h ≡ false
+unfolding valueOf waveGiven
+wave-untold r h e f = let-go (depthFits h) (wave h) (sym (ap valueOf e) ∙ f)

@@ -4,11 +4,11 @@ use crate::limits::depth_fits;
 use crate::search::cube_of;
 ghost use mathlib.Core.Path.{_≡_};
 ghost use Rattle.speeds.specs.Given.{cubeGiven};
-ghost use Rattle.speeds.specs.Answers.{number};
+ghost use Rattle.speeds.specs.Answers.{valueOf};
 
 // The cube root of the depth h, in the units of a depth.
 pub fn cube(h: i64) -> Whole
-    ensures { λ r. ⌜ number r ≡ cubeGiven h ⌝ }
+    ensures { λ r. ⌜ valueOf r ≡ cubeGiven h ⌝ }
 {
     if !depth_fits(h) {
         return Whole::Refused;

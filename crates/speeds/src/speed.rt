@@ -5,11 +5,11 @@ use crate::limits::discharge_fits;
 use reach::limits::DRY_DEPTH;
 ghost use mathlib.Core.Path.{_≡_};
 ghost use Rattle.speeds.specs.Given.{speedGiven};
-ghost use Rattle.speeds.specs.Answers.{number};
+ghost use Rattle.speeds.specs.Answers.{valueOf};
 
 // The speed of the discharge q at depth h.
 pub fn speed(q: i64, h: i64) -> Whole
-    ensures { λ r. ⌜ number r ≡ speedGiven q h ⌝ }
+    ensures { λ r. ⌜ valueOf r ≡ speedGiven q h ⌝ }
 {
     if !discharge_fits(q) {
         return Whole::Refused;

@@ -5,7 +5,7 @@
 // each call. What it must write comes from tests/reference/steps.py.
 mod draw;
 mod fill;
-mod reach;
+mod kinds;
 mod spoil;
 
 use draw::above;
@@ -15,9 +15,9 @@ use draw::mixed;
 use draw::pick;
 use fill::fill_pattern;
 use fill::summed;
+use kinds::cells;
+use kinds::seed;
 use libc::STDOUT_FILENO;
-use reach::cells;
-use reach::seed;
 use spoil::given;
 use spoil::lent;
 use spoil::ready;

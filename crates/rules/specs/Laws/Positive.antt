@@ -29,10 +29,10 @@ pub record Fine (r : Reach) (c : Call) : Type 0 where
 
 -- ---- what one face takes: shared by every reach
 -- rightward out of a depth h at most h·S; over a step that is short enough, at most half of h
-pub takes : (r : Reach) (c : Call) → Fine r c → (f : Flux) → pos 0 ≤ℤ f .S → (pos 2 *ℤ c .dt *ℤ f .S) ≤ℤ (pos 4096 *ℤ r .dx) → (h : ℤ)
+pub takes-right : (r : Reach) (c : Call) → Fine r c → (f : Flux) → pos 0 ≤ℤ f .S → (pos 2 *ℤ c .dt *ℤ f .S) ≤ℤ (pos 4096 *ℤ r .dx) → (h : ℤ)
     → pos 0 ≤ℤ h → (pos 4096 *ℤ f .F) ≤ℤ (h *ℤ f .S) → (pos 2 *ℤ volume (r .dx) (c .dt) f) ≤ℤ h
 unfolding volume
-takes r c ok f S≥0 brief h h≥0 out = half-le (f .F *ℤ c .dt) (r .dx) h (ok .dx) h≥0
+takes-right r c ok f S≥0 brief h h≥0 out = half-le (f .F *ℤ c .dt) (r .dx) h (ok .dx) h≥0
     (mul-cancel-le (pos 2 *ℤ (f .F *ℤ c .dt)) (h *ℤ r .dx) (pos 4096) (record { lt = tt })
     (let a = nonneg h≥0 in let b = nonneg (ok .dt) in let s = nonneg S≥0 in let d = nonneg (lt-le (ok .dx)) in let x = at (f .F) in
     le! (lit 2 ⊠ (x ⊠ b) ⊠ lit 4096) (a ⊠ d ⊠ lit 4096)
@@ -48,12 +48,12 @@ volume-flip dx dt f =
     ap (λ (z : ℤ). quotZ z dx) (eq! (⊖ (at (f .F)) ⊠ at dt) (⊖ (at (f .F) ⊠ at dt)) (omega arith)) ∙ quot-neg (f .F *ℤ dt) dx
 
 -- leftward: the mirror image
-pub gives : (r : Reach) (c : Call) → Fine r c → (f : Flux) → pos 0 ≤ℤ f .S → (pos 2 *ℤ c .dt *ℤ f .S) ≤ℤ (pos 4096 *ℤ r .dx) → (h : ℤ)
+pub takes-left : (r : Reach) (c : Call) → Fine r c → (f : Flux) → pos 0 ≤ℤ f .S → (pos 2 *ℤ c .dt *ℤ f .S) ≤ℤ (pos 4096 *ℤ r .dx) → (h : ℤ)
     → pos 0 ≤ℤ h → negℤ (h *ℤ f .S) ≤ℤ (pos 4096 *ℤ f .F) → negℤ h ≤ℤ (pos 2 *ℤ volume (r .dx) (c .dt) f)
-gives r c ok f S≥0 brief h h≥0 back =
+takes-left r c ok f S≥0 brief h h≥0 back =
     let w = volume (r .dx) (c .dt) f in
     let k : (pos 2 *ℤ volume (r .dx) (c .dt) (flip f)) ≤ℤ h =
-    takes r c ok (flip f) S≥0 brief h h≥0
+    takes-right r c ok (flip f) S≥0 brief h h≥0
     (le! (lit 4096 ⊠ ⊖ (at (f .F))) (at h ⊠ at (f .S)) (omega (arith, le? (⊖ (at h ⊠ at (f .S))) (lit 4096 ⊠ at (f .F)) back))) in
     let m : (pos 2 *ℤ negℤ w) ≤ℤ h = rw (volume-flip (r .dx) (c .dt) f) at k in
     le! (⊖ (at h)) (lit 2 ⊠ at w) (omega (arith, le? (lit 2 ⊠ ⊖ (at w)) (at h) m))
@@ -106,11 +106,11 @@ unfolding sideR depthR
 sideR≥0 d b x = lifted (hr b x)
 
 -- ---- faces: what is taken from the cell left of a face, and from the one right of it
-pub record Takes (h : ℤ) (f : Flux) : Type 0 where
+pub record TakesRight (h : ℤ) (f : Flux) : Type 0 where
   pub size : pos 0 ≤ℤ f .S
   pub out : (pos 4096 *ℤ f .F) ≤ℤ (h *ℤ f .S)
 
-pub record Gives (h : ℤ) (f : Flux) : Type 0 where
+pub record TakesLeft (h : ℤ) (f : Flux) : Type 0 where
   pub size : pos 0 ≤ℤ f .S
   pub back : negℤ (h *ℤ f .S) ≤ℤ (pos 4096 *ℤ f .F)
 
@@ -122,33 +122,33 @@ abbrev pub Brief : Reach → Call → State → Type 0
 Brief r c s = (i : ℕ) → i < suc (r .n) → (pos 2 *ℤ c .dt *ℤ faceAt r c s i .S) ≤ℤ (pos 4096 *ℤ r .dx)
 
 module _ (r : Reach) (law : Lawful (r .face)) (c : Call) (ok : Fine r c) where
-  pub inner-takes : (a b : Side) → pos 0 ≤ℤ a .h → pos 0 ≤ℤ b .h → Takes (a .h) (r .face a b)
-  inner-takes a b p q = let k = law .bounds a b p q in record { size = k .size; out = k .out }
+  pub inner-right : (a b : Side) → pos 0 ≤ℤ a .h → pos 0 ≤ℤ b .h → TakesRight (a .h) (r .face a b)
+  inner-right a b p q = let k = law .bounds a b p q in record { size = k .size; out = k .out }
 
-  pub inner-gives : (a b : Side) → pos 0 ≤ℤ a .h → pos 0 ≤ℤ b .h → Gives (b .h) (r .face a b)
-  inner-gives a b p q = let k = law .bounds a b p q in record { size = k .size; back = k .back }
+  pub inner-left : (a b : Side) → pos 0 ≤ℤ a .h → pos 0 ≤ℤ b .h → TakesLeft (b .h) (r .face a b)
+  inner-left a b p q = let k = law .bounds a b p q in record { size = k .size; back = k .back }
 
-  pub rightEnd-takes : (x : Side) → pos 0 ≤ℤ x .h → Takes (x .h) (rightEnd r c x)
+  pub end-right : (x : Side) → pos 0 ≤ℤ x .h → TakesRight (x .h) (rightEnd r c x)
   unfolding rightEnd outer
-  rightEnd-takes x h = inner-takes x (outer (c .right) x) h h
+  end-right x h = inner-right x (outer (c .right) x) h h
 
-  pub leftEnd-gives : (x : Side) → pos 0 ≤ℤ x .h → Gives (x .h) (leftEnd r c x)
+  pub end-left : (x : Side) → pos 0 ≤ℤ x .h → TakesLeft (x .h) (leftEnd r c x)
   unfolding leftEnd outer
-  leftEnd-gives x h = inner-gives (outer (c .left) x) x h h
+  end-left x h = inner-left (outer (c .left) x) x h h
 
-  face-takes : (s : State) (i : ℕ) → Takes (atRight r c s i .h) (faceRight r c s i)
+  face-right : (s : State) (i : ℕ) → TakesRight (atRight r c s i .h) (faceRight r c s i)
   unfolding faceRight
-  face-takes s i = let a = atRight r c s i in let b = atLeft r c s (suc i) in
-      cond-ind (eqb (suc i) (r .n)) (rightEnd r c a) (r .face a b) (Takes (a .h))
-      (λ e. rightEnd-takes a (sideR≥0 (c .dry) (under r i) (s i)))
-      (λ e. inner-takes a b (sideR≥0 (c .dry) (under r i) (s i)) (sideL≥0 (c .dry) (under r (suc i)) (s (suc i))))
+  face-right s i = let a = atRight r c s i in let b = atLeft r c s (suc i) in
+      cond-ind (eqb (suc i) (r .n)) (rightEnd r c a) (r .face a b) (TakesRight (a .h))
+      (λ e. end-right a (sideR≥0 (c .dry) (under r i) (s i)))
+      (λ e. inner-right a b (sideR≥0 (c .dry) (under r i) (s i)) (sideL≥0 (c .dry) (under r (suc i)) (s (suc i))))
 
-  face-gives : (s : State) (i : ℕ) → i < r .n → Gives (atLeft r c s i .h) (faceAt r c s i)
+  face-left : (s : State) (i : ℕ) → i < r .n → TakesLeft (atLeft r c s i .h) (faceAt r c s i)
   unfolding faceAt faceRight
-  face-gives s zero l = leftEnd-gives (atLeft r c s zero) (sideL≥0 (c .dry) (under r zero) (s zero))
-  face-gives s (suc i) l = let a = atRight r c s i in let b = atLeft r c s (suc i) in
-      cond-ind (eqb (suc i) (r .n)) (rightEnd r c a) (r .face a b) (Gives (b .h)) (λ e. absurd (inner (suc i) (r .n) l e))
-      (λ e. inner-gives a b (sideR≥0 (c .dry) (under r i) (s i)) (sideL≥0 (c .dry) (under r (suc i)) (s (suc i))))
+  face-left s zero l = end-left (atLeft r c s zero) (sideL≥0 (c .dry) (under r zero) (s zero))
+  face-left s (suc i) l = let a = atRight r c s i in let b = atLeft r c s (suc i) in
+      cond-ind (eqb (suc i) (r .n)) (rightEnd r c a) (r .face a b) (TakesLeft (b .h)) (λ e. absurd (inner (suc i) (r .n) l e))
+      (λ e. inner-left a b (sideR≥0 (c .dry) (under r i) (s i)) (sideL≥0 (c .dry) (under r (suc i)) (s (suc i))))
 
   -- ---- a stage
   module _ (s : State) (w : Wet r s) (t : Brief r c s) (i : ℕ) (l : i < r .n) where
@@ -156,15 +156,15 @@ module _ (r : Reach) (law : Lawful (r .face)) (c : Call) (ok : Fine r c) where
     unfolding faceAt sideR
     out-right =
         let b = under r i in let x = s i in let f = faceRight r c s i in
-        let k : Takes (hr b x) f = subst (λ (z : ℤ). Takes z f) (depthR-is b x (w i l .right)) (face-takes s i) in
-        takes r c ok f (k .size) (t (suc i) (omega arith)) (hr b x) (w i l .right) (k .out)
+        let k : TakesRight (hr b x) f = subst (λ (z : ℤ). TakesRight z f) (depthR-is b x (w i l .right)) (face-right s i) in
+        takes-right r c ok f (k .size) (t (suc i) (omega arith)) (hr b x) (w i l .right) (k .out)
 
     out-left : negℤ (hl (under r i) (s i)) ≤ℤ (pos 2 *ℤ volume (r .dx) (c .dt) (faceAt r c s i))
     unfolding sideL
     out-left =
         let b = under r i in let x = s i in let f = faceAt r c s i in
-        let k : Gives (hl b x) f = subst (λ (z : ℤ). Gives z f) (depthL-is b x (w i l .left)) (face-gives s i l) in
-        gives r c ok f (k .size) (t i (omega arith)) (hl b x) (w i l .left) (k .back)
+        let k : TakesLeft (hl b x) f = subst (λ (z : ℤ). TakesLeft z f) (depthL-is b x (w i l .left)) (face-left s i l) in
+        takes-left r c ok f (k .size) (t i (omega arith)) (hl b x) (w i l .left) (k .back)
 
     pub stage-mean : pos 0
         ≤ℤ (h0 (under r i) (s i) +ℤ volume (r .dx) (c .dt) (faceAt r c s i) -ℤ volume (r .dx) (c .dt) (faceRight r c s i))

@@ -8,7 +8,7 @@ use Rattle.whole.specs.Machine.{back64}
 use Rattle.rules.specs.Face.{wave}
 use Rattle.rules.specs.Laws.Sizes.{Sound}
 use Rattle.speeds.specs.Given.{depthFits, waveGiven}
-use Rattle.speeds.specs.Answers.{number}
+use Rattle.speeds.specs.Answers.{valueOf}
 use Rattle.speeds.proofs.Fits.{wave-told, wave-untold}
 use Rattle.face.specs.Given.{side, speedFits}
 use Rattle.face.specs.Answers.{flux}
@@ -55,7 +55,7 @@ module _ (c : tie.After-wave) where
   abbrev from : tie.Start
   from = c .before .before .before .before .before
 
-  hl-asked : number (c .wave .result) ≡ waveGiven (from .args .hl)
+  hl-asked : valueOf (c .wave .result) ≡ waveGiven (from .args .hl)
   hl-asked = simp (toZ-ofZ, from .fits .hl) at (c .wave .ensures)
 
 wave-requires-2 : tie.Need-wave-requires-2
@@ -69,7 +69,7 @@ module _ (c : tie.After-wave2) where
   abbrev first : tie.After-wave
   first = c .before .before .before .before
 
-  hr-asked : number (c .wave2 .result) ≡ waveGiven (from first .args .hr)
+  hr-asked : valueOf (c .wave2 .result) ≡ waveGiven (from first .args .hr)
   hr-asked = simp (toZ-ofZ, from first .fits .hr) at (c .wave2 .ensures)
 
 -- ---- so both sides are within the limits

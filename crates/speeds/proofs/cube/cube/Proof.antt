@@ -6,7 +6,7 @@ use borrow.Author.Needs.{needs}
 use borrow.Author.Tests.{not-true, not-false}
 use Rattle.whole.specs.Machine.{back64}
 use Rattle.speeds.specs.Given.{given, depthFits, cubeGiven}
-use Rattle.speeds.specs.Answers.{number}
+use Rattle.speeds.specs.Answers.{valueOf}
 use Rattle.speeds.proofs.Fits.{depth-in}
 use Rattle.speeds.proofs.cube.cube.Statement.{statement}
 use Rattle.speeds.proofs.cube.cube.Tie as tie
@@ -15,7 +15,7 @@ depth-fits-requires : tie.Need-depth-fits-requires
 depth-fits-requires c κs = search needs
 
 returns : tie.Need-returns
-unfolding cubeGiven number
+unfolding cubeGiven valueOf
 returns c =
     let t = c .before in let s = t .before in
     let e : depthFits (s .args .h) ≡ false = sym (simp (toZ-ofZ, s .fits .h) at (t .depth-fits .ensures)) ∙ not-true _ (c .if1 .taken) in
@@ -28,7 +28,7 @@ cube-of-requires : tie.Need-cube-of-requires
 cube-of-requires c κs = let s = c .before .before in simp (toZ-ofZ, s .fits .h) (depth-in (s .args .h) (h-fits c))
 
 returns-2 : tie.Need-returns-2
-unfolding cubeGiven number
+unfolding cubeGiven valueOf
 returns-2 c =
     let s = c .before .before .before in
     rw (h-fits (c .before)) (ap given (back64 (c .cube-of .ok) (simp (toZ-ofZ, s .fits .h) at (c .cube-of .ensures))))

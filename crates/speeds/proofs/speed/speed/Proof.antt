@@ -13,7 +13,7 @@ use Rattle.whole.specs.Machine.{X, v, k, _⊗_, _⊘_, Entry, entry, need, valu
 use Rattle.rules.specs.Limits.{dryDepth}
 use Rattle.rules.specs.Laws.Speeds.{speed-dry, speed-wet}
 use Rattle.speeds.specs.Given.{given, dischargeFits, depthFits, speedGiven}
-use Rattle.speeds.specs.Answers.{number}
+use Rattle.speeds.specs.Answers.{valueOf}
 use Rattle.speeds.proofs.Fits.{discharge-in, depth-in}
 use Rattle.speeds.proofs.speed.speed.Statement.{statement}
 use Rattle.speeds.proofs.speed.speed.Tie as tie
@@ -22,7 +22,7 @@ discharge-fits-requires : tie.Need-discharge-fits-requires
 discharge-fits-requires c κs = search needs
 
 returns : tie.Need-returns
-unfolding speedGiven number
+unfolding speedGiven valueOf
 returns c =
     let t = c .before in let s = t .before in
     let e : dischargeFits (s .args .q) ≡ false = sym (simp (toZ-ofZ, s .fits .q) at (t .discharge-fits .ensures)) ∙ not-true _ (c .if1 .taken) in
@@ -36,7 +36,7 @@ depth-fits-requires : tie.Need-depth-fits-requires
 depth-fits-requires c κs = search needs
 
 returns-2 : tie.Need-returns-2
-unfolding speedGiven number
+unfolding speedGiven valueOf
 returns-2 c =
     let t = c .before in let s = t .before .before .before in
     let e : depthFits (s .args .h) ≡ false = sym (simp (toZ-ofZ, s .fits .h) at (t .depth-fits .ensures)) ∙ not-true _ (c .if2 .taken) in
@@ -47,7 +47,7 @@ h-fits : (c : tie.Else2) → depthFits (c .before .before .before .before .args 
 h-fits c = sym (simp (toZ-ofZ, c .before .before .before .before .fits .h) at (c .before .depth-fits .ensures)) ∙ not-false _ (c .if2 .left)
 
 returns-3 : tie.Need-returns-3
-unfolding speedGiven number
+unfolding speedGiven valueOf
 returns-3 c =
     let e = c .before in let s = e .before .before .before .before in
     rw (q-fits (e .before .before), h-fits e) (ap given (sym (speed-dry dryDepth (s .args .q) (s .args .h) (simp (toZ-ofZ, s .fits .h) at (c .if3 .taken)))))
@@ -73,7 +73,7 @@ div-t6 c =
     (divisor (env (c .before)) (v 1) tt (le-lt-trans (le-lit (pos 0) dryDepth tt) (le-no h dryDepth (moves c))), need (env (c .before)) rate tt)
 
 returns-4 : tie.Need-returns-4
-unfolding speedGiven number
+unfolding speedGiven valueOf
 returns-4 c =
     let e = c .before in let s = e .before .before .before .before in
     rw (q-fits (e .before .before), h-fits e) (ap given (value (env e) rate tt ∙ sym (speed-wet dryDepth (s .args .q) (s .args .h) (moves c))))

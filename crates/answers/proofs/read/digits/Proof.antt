@@ -1,9 +1,9 @@
--- `size` ends: at counts up to the line's length.
+-- `digits` ends: at counts up to the line's length.
 use lib.ListN.{length}
 use Prim.Native.Nat.{_-_}
 use borrow.Author.Needs.{needs}
-use Rattle.answers.proofs.read.size.Statement.{statement}
-use Rattle.answers.proofs.read.size.Tie as tie
+use Rattle.answers.proofs.read.digits.Statement.{statement}
+use Rattle.answers.proofs.read.digits.Tie as tie
 
 abbrev Inv-loop : tie.InvT-loop
 Inv-loop line from x₀ at₀ x at = Unit {0}
@@ -44,8 +44,8 @@ loop-again c = search needs
 returns-2 : tie.Need-returns-2 Inv-loop μ-loop
 returns-2 c = search needs
 
-pub size-spec : {M : Type 1} → statement M
-size-spec =
+pub digits-spec : {M : Type 1} → statement M
+digits-spec =
     tie.close
     (tie.spec
     Inv-loop
