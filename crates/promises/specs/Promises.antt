@@ -9,7 +9,7 @@
 -- Assumes nothing.
 use mathlib.Core.Path.{_≡_, refl, sym, _∙_, ap, ap₂, subst}
 use mathlib.Core.Bool.{Bool}
-use mathlib.Core.List.{List, []}
+use mathlib.Core.List.{List}
 use mathlib.Core.Logic.{_⊎_, inl, inr, ⊎-elim}
 use Prim.Native.Nat.{ℕ, _<_}
 use lib.ListN.{length}
@@ -23,7 +23,8 @@ use Rattle.rules.specs.Laws.Lengths.{unrefused}
 use Rattle.rules.specs.Step.{stageOne, next}
 use Rattle.rules.specs.Refusals.{checks, early, stageChecks}
 use Rattle.rules.specs.Lent.{Lent, cellsOf, reachOf, callOf, stateOf, number, filled, crossed, stepOf}
-use Rattle.rules.specs.Laws.Accept.{Clear, passed}
+use Rattle.rules.specs.Laws.Accept.{Clear}
+use Rattle.rules.specs.Laws.Verdicts.{cleared}
 use Rattle.rules.specs.Laws.Face.{lawful}
 use Rattle.rules.specs.Laws.Runs.{stop, step, Large, depths, eight, accepted-depths, run-balanced, run-wet, run-rest}
 use Rattle.speeds.specs.Given.{speedGiven, waveGiven, cubeGiven}
@@ -104,7 +105,7 @@ refused-untouched l k old new g = refused-table l k old new g
 -- it is accepted exactly when none is met
 pub accepted-clear : (l : Lent) (w v : ℤ) (old new : List ℤ) → Gives (stepOf l) (Accepted w v) old new → Clear (allChecks l)
 unfolding allChecks checks early stageChecks
-accepted-clear l w v old new g = passed 0 (allChecks l) [] tt (sym (number-is l) ∙ taken l w v old new g .number) .0
+accepted-clear l w v old new g = cleared (allChecks l) tt (sym (taken l w v old new g .number) ∙ number-is l)
 
 -- ---- demand 2: an accepted call's table and volumes are those of the rules' two stages, number for number
 pub accepted-rules : (l : Lent) (w v : ℤ) (old new : List ℤ) → Gives (stepOf l) (Accepted w v) old new → (new ≡ filled l) × (w ≡ crossed l 0) × (v ≡ crossed l (cellsOf l))

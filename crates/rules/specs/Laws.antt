@@ -8,6 +8,7 @@ pub mod Agree
 pub mod Inside
 pub mod Accept
 pub mod Verdicts
+pub mod Places
 pub mod Lengths
 pub mod Positive
 pub mod Balance

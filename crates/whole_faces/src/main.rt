@@ -24,7 +24,7 @@ fn part(x: u64, span: u64) -> u64
 
 // One of span values, `low` and on in steps of `unit`.
 fn chosen(x: u64, span: u64, unit: i64, low: i64) -> i64
-    requires { ⌜ (0 < span) × ((span ≤ 1048576) × ((Within 1048576 unit) × (Within 1048576 low))) ⌝ }
+    requires { ⌜ (0 < span) × (span ≤ 1048576) × (Within 1048576 unit) × (Within 1048576 low) ⌝ }
 {
     let r = part(x, span);
     r as i64 * unit + low

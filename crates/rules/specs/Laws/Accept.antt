@@ -4,7 +4,7 @@ use mathlib.Core.Path.{_≡_, refl, sym, _∙_, subst}
 use mathlib.Core.Bool.{Bool, true, false, cond, _||_}
 use mathlib.Core.List.{List, [], _∷_, _++_}
 use mathlib.Core.Logic.{_⊎_, inl, inr}
-use Prim.Native.Nat.{ℕ}
+use Prim.Native.Nat.{ℕ, zero, suc}
 use lib.Dec.{T, eqb, eqb-refl}
 use Rattle.whole.specs.Flags.{holds, or-l, or-r, clash}
 use Rattle.rules.specs.Refusals.{any, Check, verdict}
@@ -18,6 +18,18 @@ pub any-none : (bs : List Bool) → any bs ≡ false → None bs
 unfolding any
 any-none [] e = tt
 any-none (b ∷ bs) e = (or-l b (any bs) e, any-none bs (or-r b (any bs) e))
+
+-- so the one at each place fails
+abbrev pub flagAt : List Bool → ℕ → Bool
+flagAt [] i = false
+flagAt (b ∷ bs) zero = b
+flagAt (b ∷ bs) (suc i) = flagAt bs i
+
+pub none-at : (bs : List Bool) → any bs ≡ false → (i : ℕ) → flagAt bs i ≡ false
+unfolding any
+none-at [] e i = refl
+none-at (b ∷ bs) e zero = or-l b (any bs) e
+none-at (b ∷ bs) e (suc i) = none-at bs (or-r b (any bs) e) i
 
 -- one of a list holds
 abbrev pub One : List Bool → Type 0

@@ -2,7 +2,7 @@
 -- Assumes nothing.
 use mathlib.Core.Path.{_≡_, refl, sym, _∙_, ap, ap₂, subst}
 use mathlib.Core.Bool.{true, false, not}
-use mathlib.Core.List.{[], _∷_, _++_}
+use mathlib.Core.List.{List, [], _∷_, _++_}
 use mathlib.Core.Logic.{_⊎_, inl, inr}
 use Prim.Native.Nat.{ℕ, suc, _%_, _<_}
 use native.Mathlib.Omega.{arith}
@@ -22,12 +22,14 @@ use Rattle.rules.specs.Lawful.{Lawful}
 use Rattle.rules.specs.Reach.{Reach, Call, State, ql, qr, Bed, under, h0, hl, hr}
 use Rattle.rules.specs.Stage.{faceAt}
 use Rattle.rules.specs.Step.{rubbed, stageOne, carry, next}
-use Rattle.rules.specs.Refusals.{outside, past, offCell, off, fastCell, fastFriction, tooLong, badCall}
-use Rattle.rules.specs.Refusals.{badBed, chk, stageChecks, early, checks, verdict, refusal}
+use Rattle.rules.specs.Refusals.{outside, past, callTests, badCall, badBed, cellTests, offCell, off, fastCell, fastFriction, tooLong}
+use Rattle.rules.specs.Refusals.{Check, chk, stageChecks, early, checks, verdict, refusal}
 use Rattle.rules.specs.AtRest.{AtRest}
 use Rattle.rules.specs.Laws.Agree.{Same}
 use Rattle.rules.specs.Laws.Inside.{above-least}
-use Rattle.rules.specs.Laws.Accept.{Clear, any-none, One, any-one, passed}
+use Rattle.rules.specs.Laws.Accept.{Clear, none-at, One, any-one, passed}
+use Rattle.rules.specs.Laws.Verdicts.{cleared, clear-at}
+use Rattle.rules.specs.Laws.Places as place
 use Rattle.rules.specs.Laws.Positive.{Fine, Nonneg, Wet, mean≥0, Brief, stageOne-wet, next-wet}
 use Rattle.rules.specs.Laws.Balance.{sum-same, water, balanced}
 use Rattle.rules.specs.Laws.EvenBed.{even-of, EvenBed}
@@ -37,12 +39,11 @@ use Rattle.rules.specs.Laws.Rest.{rest-same, next-rest, carry-none}
 fine : (r : Reach) (c : Call) → badCall r c ≡ false → Fine r c
 unfolding badCall
 fine r c e =
-    let f = any-none (outside (pos 1) longestCell (r .dx) ∷ outside (pos 1) longestStep (c .dt) ∷ outside (pos 0) largestJump (c .jump)
-    ∷ ltb 1 (c .left) ∷ ltb 1 (c .right) ∷ []) e in
+    let fails = none-at (callTests r c) e in
     record {
-      dx = lt! (lit 0) (at (r .dx)) (omega (arith, of-le (above-least (pos 1) longestCell (r .dx) (f .0))));
-      dt = le! (lit 0) (at (c .dt)) (omega (arith, of-le (above-least (pos 1) longestStep (c .dt) (f .1 .0))));
-      jump = above-least (pos 0) largestJump (c .jump) (f .1 .1 .0);
+      dx = lt! (lit 0) (at (r .dx)) (omega (arith, of-le (above-least (pos 1) longestCell (r .dx) (fails 0))));
+      dt = le! (lit 0) (at (c .dt)) (omega (arith, of-le (above-least (pos 1) longestStep (c .dt) (fails 1))));
+      jump = above-least (pos 0) largestJump (c .jump) (fails 2);
     }
 
 even-bed : (r : Reach) → some (λ i. badBed (r .bed i)) (suc (r .n)) ≡ false → EvenBed r
@@ -56,13 +57,17 @@ in-range : (r : Reach) (s : State) → some (off r s) (r .n) ≡ false → Wet r
 unfolding off offCell
 in-range r s e i l =
     let b = under r i in let x = s i in
-    let f = any-none (outside (pos 0) deepest (hl b x) ∷ outside (pos 0) deepest (hr b x) ∷ past fullest (ql x) ∷ past fullest (qr x) ∷ [])
-    (some-none (off r s) (r .n) e i l) in
-    record { left = above-least (pos 0) deepest (hl b x) (f .0); right = above-least (pos 0) deepest (hr b x) (f .1 .0) }
+    let fails = none-at (cellTests b x) (some-none (off r s) (r .n) e i l) in
+    record { left = above-least (pos 0) deepest (hl b x) (fails 0); right = above-least (pos 0) deepest (hr b x) (fails 1) }
 
 brief : (r : Reach) (c : Call) (s : State) → some (tooLong r c s) (suc (r .n)) ≡ false → Brief r c s
 unfolding tooLong
 brief r c s e i l = lt-no (pos 4096 *ℤ r .dx) (pos 2 *ℤ c .dt *ℤ faceAt r c s i .S) (some-none (tooLong r c s) (suc (r .n)) e i l)
+
+-- the checks after `early`
+abbrev late : Reach → Call → State → List Check
+late r c s =
+    chk 8 (some (off r (stageOne r c s)) (r .n)) ∷ stageChecks r c (stageOne r c s) ++ chk 8 (some (off r (next r c s)) (r .n)) ∷ []
 
 -- a call that passed the checks up to stage one's faces
 pub record Early (r : Reach) (c : Call) (s : State) : Type 0 where
@@ -73,12 +78,14 @@ pub record Early (r : Reach) (c : Call) (s : State) : Type 0 where
 
 early-of : (r : Reach) (c : Call) (s : State) → Clear (early r c s) → Early r c s
 unfolding early stageChecks
-early-of r c s k = record {
-  fine = fine r c (k .0);
-  even = even-bed r (k .1 .0);
-  wet = in-range r s (k .1 .1 .1 .0);
-  brief = brief r c (rubbed r c s) (k .1 .1 .1 .1 .1 .1 .1 .0);
-}
+early-of r c s k =
+    let clear = clear-at (early r c s) k in
+    record {
+      fine = fine r c (clear place.call);
+      even = even-bed r (clear place.beds);
+      wet = in-range r s (clear place.state);
+      brief = brief r c (rubbed r c s) (clear place.faces-one);
+    }
 
 -- ---- an 8 is due to a value too large, never to a depth below nought
 abbrev pub TooLarge : Bed → Cell → Type 0
@@ -98,15 +105,13 @@ large-of r s w e = let f = some-yes (off r s) (r .n) e in let i = f .0 in let b 
       wet = w;
       place = i;
       below = f .1;
-      large = go b x (w i (f .1)) (any-one (outside (pos 0) deepest (hl b x) ∷ outside (pos 0) deepest (hr b x) ∷ past fullest (ql x)
-          ∷ past fullest (qr x) ∷ []) (f .2));
+      large = go b x (w i (f .1)) (any-one (cellTests b x) (f .2));
     }
   where
     too-deep : (d : ℤ) → pos 0 ≤ℤ d → outside (pos 0) deepest d ≡ true → deepest <ℤ d
     too-deep d h e = lt-yes deepest d (rw (no-lt d (pos 0) h) at e)
 
-    go : (b : Bed) (x : Cell) → Nonneg b x → One (outside (pos 0) deepest (hl b x) ∷ outside (pos 0) deepest (hr b x) ∷ past fullest (ql x)
-        ∷ past fullest (qr x) ∷ []) → TooLarge b x
+    go : (b : Bed) (x : Cell) → Nonneg b x → One (cellTests b x) → TooLarge b x
     go b x n (inl a) = inl (too-deep (hl b x) (n .left) a)
     go b x n (inr (inl a)) = inr (inl (too-deep (hr b x) (n .right) a))
     go b x n (inr (inr (inl a))) = inr (inr (inl (lt-yes fullest (sizeZ (ql x)) a)))
@@ -125,13 +130,14 @@ module _ (r : Reach) (law : Lawful (r .face)) (c : Call) (s : State) where
   unfolding refusal checks early stageChecks verdict
   eight e =
       let a = some (off r (stageOne r c s)) (r .n) in let b = some (off r (next r c s)) (r .n) in
-      let p = passed 8 (early r c s) (chk 8 a ∷ stageChecks r c (stageOne r c s) ++ chk 8 b ∷ []) tt e in
+      let p = passed 8 (early r c s) (late r c s) tt e in
       let k : Early r c s = early-of r c s (p .0) in
       by a
       (λ d. inl (large-of r (stageOne r c s) (wet-stageOne k) d))
       (λ d.
       let q = passed 8 (stageChecks r c (stageOne r c s)) (chk 8 b ∷ []) tt (rw d at (p .1)) in
-      inr (large-of r (next r c s) (wet-next k (brief r c (stageOne r c s) (q .0 .1 .1 .0)))
+      let clear = clear-at (stageChecks r c (stageOne r c s)) (q .0) in
+      inr (large-of r (next r c s) (wet-next k (brief r c (stageOne r c s) (clear place.faces)))
       (by b (λ x. x) (λ x. let z : _≡_ {A = ℕ} 0 8 = rw x at (q .1) in let y : ⊥ = omega arith in absurd y))))
 
 -- ---- an accepted call
@@ -144,14 +150,13 @@ pub record Accepted (r : Reach) (c : Call) (s : State) : Type 0 where
 pub accepted : (r : Reach) (c : Call) (s : State) → refusal r c s ≡ 0 → Accepted r c s
 unfolding refusal checks early stageChecks
 accepted r c s e =
-    let a = some (off r (stageOne r c s)) (r .n) in let b = some (off r (next r c s)) (r .n) in
-    let p = passed 0 (early r c s) (chk 8 a ∷ stageChecks r c (stageOne r c s) ++ chk 8 b ∷ []) tt e in
-    let q = passed 0 (chk 8 a ∷ stageChecks r c (stageOne r c s) ++ chk 8 b ∷ []) [] tt (p .1) in
+    let p = passed 0 (early r c s) (late r c s) tt e in
+    let clear = clear-at (late r c s) (cleared (late r c s) tt (sym (p .1))) in
     record {
       early = early-of r c s (p .0);
-      brief = brief r c (stageOne r c s) (q .0 .1 .1 .1 .0);
-      one = q .0 .0;
-      end = q .0 .1 .1 .1 .1 .0;
+      brief = brief r c (stageOne r c s) (clear place.faces-two);
+      one = clear place.stage-one;
+      end = clear place.end;
     }
 
 -- and no cell of the state it starts from is faster than 131,072, with friction or without
@@ -159,9 +164,8 @@ pub accepted-slow : (r : Reach) (c : Call) (s : State) → refusal r c s ≡ 0 �
     → past fastest (speed (c .dry) (s i .q0) (h0 (under r i) (s i))) ≡ false
 unfolding refusal checks early stageChecks fastFriction fastCell
 accepted-slow r c s e i l =
-    let a = some (off r (stageOne r c s)) (r .n) in let b = some (off r (next r c s)) (r .n) in
-    let p = passed 0 (early r c s) (chk 8 a ∷ stageChecks r c (stageOne r c s) ++ chk 8 b ∷ []) tt e in
-    some-none (fastFriction r c s) (r .n) (p .0 .1 .1 .1 .1 .0) i l
+    let clear = clear-at (early r c s) (passed 0 (early r c s) (late r c s) tt e .0) in
+    some-none (fastFriction r c s) (r .n) (clear place.friction) i l
 
 -- no depth, mean or face, is below nought: in the state it starts from, in the finished stage one, in the end state
 pub record Depths (r : Reach) (s : State) : Type 0 where

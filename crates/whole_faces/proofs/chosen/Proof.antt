@@ -20,7 +20,7 @@ cast-result c = search needs
 abbrev env : tie.After-part → List Entry
 env c =
     let s = c .before in
-    entry (fit (small c) tt) (small c) ∷ entry (s .fits .unit) (s .pre .1 .1 .0) ∷ entry (s .fits .low) (s .pre .1 .1 .1) ∷ []
+    entry (fit (small c) tt) (small c) ∷ entry (s .fits .unit) (s .pre .2) ∷ entry (s .fits .low) (s .pre .3) ∷ []
 
 mul-result : tie.Need-mul-result
 mul-result c = need (env c) (v 0 ⊗ v 1) tt
