@@ -28,7 +28,8 @@ use Rattle.rules.specs.Laws.Runs.{Run, stop, step, Depths, depths, TooLarge, La
 use Rattle.step.specs.Gives.{lend, code, atLeft, atRight, Gives, answer, leaves}
 use Rattle.step.specs.declared.Answer.{Answer}
 use Rattle.step.specs.declared.Answer.the-variants.{Refused, Accepted}
-use Rattle.promises.specs.Seen.{at, meanBed, bedSlope, meanDepth, leftDepth, rightDepth, NoneBelow, Excess, water, Lake, Called, Calls, none, more}
+use Rattle.promises.specs.Seen.{at, meanBed, bedSlope, meanDepth, leftDepth, rightDepth}
+use Rattle.promises.specs.Seen.{NoneBelow, Excess, water, Lake, Called, Calls, none, more}
 
 -- ---- an outcome by its number
 -- all the checks of a call, in their order
@@ -126,9 +127,11 @@ module _ (bed t : List ℤ) (dx : ℕ) where
 
   pub at-rest : (n : ℕ) → Lake bed t n → AtRest (reachAt bed n dx) (cellAt t)
   unfolding meanBed bedSlope z0 z1
-  at-rest n k = record { calm = λ i l. record { q0 = k .mean i l; q1 = k .slope i l }; cell = λ i l. kind i (k .cell i l); level = k .level }
+  at-rest n k =
+      record { calm = λ i l. record { q0 = k .mean i l; q1 = k .slope i l }; cell = λ i l. kind i (k .cell i l); level = k .level }
     where
-      kind : (i : ℕ) → ((at t (4 * i) ≡ meanBed bed i) × (at t (4 * i + 1) ≡ bedSlope bed i)) ⊎ ((at t (4 * i + 1) ≡ pos 0) × (at bed i ≤ℤ at t (4 * i)) × (at bed (suc i) ≤ℤ at t (4 * i)))
+      kind : (i : ℕ) → ((at t (4 * i) ≡ meanBed bed i) × (at t (4 * i + 1) ≡ bedSlope bed i))
+          ⊎ ((at t (4 * i + 1) ≡ pos 0) × (at bed i ≤ℤ at t (4 * i)) × (at bed (suc i) ≤ℤ at t (4 * i)))
           → Dry (under (reachAt bed n dx) i) (cellAt t i) ⊎ Flat (under (reachAt bed n dx) i) (cellAt t i)
       kind i (inl d) = inl (record { mean = d .0; slope = d .1 })
       kind i (inr f) = inr (record { slope = f .0; left = f .1; right = f .2 })
@@ -146,7 +149,11 @@ module _ (bed : List ℤ) (n dx : ℕ) (s : State) where
 
   pub excess-table : (k : Large (reachAt bed n dx) s) → Excess bed table n
   unfolding leftDepth rightDepth meanDepth meanBed bedSlope h0 h1 hl hr z0 z1
-  excess-table k = record { cell = k .place; below = k .below; large = subst (TooLarge (under (reachAt bed n dx) (k .place))) (sym (cellAt-flat n s (k .place) (k .below))) (k .large) }
+  excess-table k = record {
+    cell = k .place;
+    below = k .below;
+    large = subst (TooLarge (under (reachAt bed n dx) (k .place))) (sym (cellAt-flat n s (k .place) (k .below))) (k .large);
+  }
 
 -- ---- an accepted call as a step of the rules
 pub record One (bed : List ℤ) (n dx : ℕ) (c : Call) (s m : List ℤ) (w v : ℤ) : Type 0 where
@@ -166,7 +173,8 @@ module _ {bed : List ℤ} {n dx : ℕ} {s : List ℤ} {a : Answer} {old m : List
   abbrev pub call : Call
   call = callOf lent
 
-pub one : (bed : List ℤ) (n dx : ℕ) (s : List ℤ) (w v : ℤ) (old m : List ℤ) (c : Called bed n dx s (Accepted w v) old m) → One bed n dx (call c) s m w v
+pub one : (bed : List ℤ) (n dx : ℕ) (s : List ℤ) (w v : ℤ) (old m : List ℤ) (c : Called bed n dx s (Accepted w v) old m)
+    → One bed n dx (call c) s m w v
 unfolding filled crossed
 one bed n dx s w v old m c = subst (λ (k : ℕ). One bed k dx (call c) s m w v) (c .cells) whole
   where

@@ -51,7 +51,9 @@ use Rattle.step.specs.declared.Answer.{Answer}
 use Rattle.step.specs.declared.Answer.the-variants.{Refused, Accepted}
 use Rattle.promises.specs.Seen.{NoneBelow, Excess, stageTable, water, Lake, Called, Calls, none, more}
 use Rattle.promises.specs.First.{FirstMet, first-verdict, verdict-first, first-listed}
-use Rattle.promises.specs.Outcomes.{allChecks, number-is, refuses-with, refused-number, refused-some, refused-table, refused-later, taken, reachAt, lent, call, one, none-below, none-below-table, excess-table, wet, water-is, at-rest, run}
+use Rattle.promises.specs.Outcomes.{allChecks, number-is, refuses-with, refused-number, refused-some}
+use Rattle.promises.specs.Outcomes.{refused-table, refused-later, taken, reachAt, lent, call, one, none-below}
+use Rattle.promises.specs.Outcomes.{none-below-table, excess-table, wet, water-is, at-rest, run}
 
 -- ---- demand 1: one answer, one content of the table
 pub step-answer : (l : Lent) {a b : Answer} {old new new′ : List ℤ} → Gives (stepOf l) a old new → Gives (stepOf l) b old new′ → a ≡ b
@@ -61,7 +63,8 @@ pub step-table : (l : Lent) {a b : Answer} {old new new′ : List ℤ} → Gives
 step-table l p q = one-table p q
 
 -- and so of every other public function
-pub work-one : (l : Lent) (old new new′ : List (List ℤ)) (a b : Worked) → WorkedSays l a old new → WorkedSays l b old new′ → (a ≡ b) × (new ≡ new′)
+pub work-one : (l : Lent) (old new new′ : List (List ℤ)) (a b : Worked) → WorkedSays l a old new → WorkedSays l b old new′
+    → (a ≡ b) × (new ≡ new′)
 work-one l old new new′ a b p q = one-said (reachOf l) (callOf l) (stateOf l) (number l) old new new′ a b p q
 
 pub finish-one : (n : ℕ) (bed : List ℤ) (jump : ℤ) (u : List (List ℤ)) (a b : Bool) (old new new′ : List (List ℤ))
@@ -90,7 +93,8 @@ double-one hl ul hr ur a b x y = doubles.face-unique hl ul hr ur a b x y
 pub refused-first : (l : Lent) (k : ℕ) (old new : List ℤ) → Gives (stepOf l) (Refused k) old new → FirstMet k (allChecks l)
 refused-first l k old new g = verdict-first k (allChecks l) (refused-some l k old new g) (sym (number-is l) ∙ refused-number l k old new g)
 
-pub first-refused : (l : Lent) (k : ℕ) (a : Answer) (old new : List ℤ) → FirstMet k (allChecks l) → Gives (stepOf l) a old new → a ≡ Refused k
+pub first-refused : (l : Lent) (k : ℕ) (a : Answer) (old new : List ℤ) → FirstMet k (allChecks l) → Gives (stepOf l) a old new
+    → a ≡ Refused k
 unfolding allChecks checks early stageChecks
 first-refused l k a old new f g = refuses-with l k a old new (number-is l ∙ first-verdict k f) (first-listed k f tt .0) g
 
@@ -108,7 +112,8 @@ unfolding allChecks checks early stageChecks
 accepted-clear l w v old new g = cleared (allChecks l) tt (sym (taken l w v old new g .number) ∙ number-is l)
 
 -- ---- demand 2: an accepted call's table and volumes are those of the rules' two stages, number for number
-pub accepted-rules : (l : Lent) (w v : ℤ) (old new : List ℤ) → Gives (stepOf l) (Accepted w v) old new → (new ≡ filled l) × (w ≡ crossed l 0) × (v ≡ crossed l (cellsOf l))
+pub accepted-rules : (l : Lent) (w v : ℤ) (old new : List ℤ) → Gives (stepOf l) (Accepted w v) old new
+    → (new ≡ filled l) × (w ≡ crossed l 0) × (v ≡ crossed l (cellsOf l))
 accepted-rules l w v old new g = let t = taken l w v old new g in (t .table, t .left, t .right)
 
 -- ---- demand 3, over any number of accepted calls on one bed with n cells of length dx
@@ -118,31 +123,41 @@ module _ (bed : List ℤ) (n dx : ℕ) where
   water-balances {s} {t} {a} {b} k =
       water-is bed t dx n ∙ run-balanced (reachAt bed n dx) (run bed n dx k) ∙ ap (λ (x : ℤ). x +ℤ a -ℤ b) (sym (water-is bed s dx n))
 
-  -- no depth is below nought: in the state that an accepted call is lent, in its finished first stage, and in the state that it or a later one writes,
+  -- no depth is below nought: in the state that an accepted call is lent, in its finished first stage,
+  -- and in the state that it or a later one writes,
   pub none-below-now : (s : List ℤ) (w v : ℤ) (old m : List ℤ) → Called bed n dx s (Accepted w v) old m → NoneBelow bed s n
-  none-below-now s w v old m c = let o = one bed n dx s w v old m c in none-below bed s dx n (accepted-depths (reachAt bed n dx) lawful (call c) (cellAt s) (o .unstopped) .0)
+  none-below-now s w v old m c =
+      let o = one bed n dx s w v old m c in
+      none-below bed s dx n (accepted-depths (reachAt bed n dx) lawful (call c) (cellAt s) (o .unstopped) .0)
 
-  pub none-below-stage : (s : List ℤ) (w v : ℤ) (old m : List ℤ) (c : Called bed n dx s (Accepted w v) old m) → NoneBelow bed (stageTable (lent c)) n
+  pub none-below-stage : (s : List ℤ) (w v : ℤ) (old m : List ℤ) (c : Called bed n dx s (Accepted w v) old m)
+      → NoneBelow bed (stageTable (lent c)) n
   unfolding stageTable
   none-below-stage s w v old m c = let l = lent c in
       subst (λ (k : ℕ). NoneBelow bed (stageTable l) k) (c .cells)
-      (none-below-table bed (length (c .friction)) dx (stageOne (reachOf l) (call c) (cellAt s)) (accepted-depths (reachOf l) lawful (call c) (cellAt s) (unrefused l (taken l w v old m (c .gave) .number)) .1 .faces))
+      (none-below-table bed (length (c .friction)) dx (stageOne (reachOf l) (call c) (cellAt s))
+      (accepted-depths (reachOf l) lawful (call c) (cellAt s) (unrefused l (taken l w v old m (c .gave) .number)) .1 .faces))
 
   pub none-below-next : {s t : List ℤ} {a b : ℤ} → Calls bed n dx s t a b → NoneBelow bed s n → NoneBelow bed t n
-  none-below-next {s} {t} k d = none-below bed t dx n (depths (reachAt bed n dx) (cellAt t) (run-wet (reachAt bed n dx) lawful (run bed n dx k) (wet bed s dx n d)))
+  none-below-next {s} {t} k d =
+      none-below bed t dx n (depths (reachAt bed n dx) (cellAt t) (run-wet (reachAt bed n dx) lawful (run bed n dx k) (wet bed s dx n d)))
 
   pub none-below-written : (s : List ℤ) (w v : ℤ) (old m : List ℤ) → Called bed n dx s (Accepted w v) old m → NoneBelow bed m n
   none-below-written s w v old m c = none-below-next (more s m m old w v (pos 0) (pos 0) c (none m)) (none-below-now s w v old m c)
 
   -- and no call is refused because one would have been: after an 8 some value is too large, and every depth at or above nought
   pub eight-too-large : (s : List ℤ) (old new : List ℤ) (c : Called bed n dx s (Refused 8) old new)
-      → (NoneBelow bed (stageTable (lent c)) n × Excess bed (stageTable (lent c)) n) ⊎ (NoneBelow bed (filled (lent c)) n × Excess bed (filled (lent c)) n)
+      → (NoneBelow bed (stageTable (lent c)) n × Excess bed (stageTable (lent c)) n)
+      ⊎ (NoneBelow bed (filled (lent c)) n × Excess bed (filled (lent c)) n)
   unfolding stageTable filled
   eight-too-large s old new c = let l = lent c in
-      subst (λ (k : ℕ). (NoneBelow bed (stageTable l) k × Excess bed (stageTable l) k) ⊎ (NoneBelow bed (filled l) k × Excess bed (filled l) k)) (c .cells)
-      (⊎-elim (λ h. inl (both (stageOne (reachOf l) (call c) (cellAt s)) h)) (λ h. inr (both (next (reachOf l) (call c) (cellAt s)) h)) (eight (reachOf l) lawful (call c) (cellAt s) (refused-later l 8 old new (c .gave) refl)))
+      subst (λ (k : ℕ). (NoneBelow bed (stageTable l) k × Excess bed (stageTable l) k)
+      ⊎ (NoneBelow bed (filled l) k × Excess bed (filled l) k)) (c .cells)
+      (⊎-elim (λ h. inl (both (stageOne (reachOf l) (call c) (cellAt s)) h)) (λ h. inr (both (next (reachOf l) (call c) (cellAt s)) h))
+      (eight (reachOf l) lawful (call c) (cellAt s) (refused-later l 8 old new (c .gave) refl)))
     where
-      both : (t : State) → Large (reachOf (lent c)) t → NoneBelow bed (flat (row (length (c .friction)) t)) (length (c .friction)) × Excess bed (flat (row (length (c .friction)) t)) (length (c .friction))
+      both : (t : State) → Large (reachOf (lent c)) t → NoneBelow bed (flat (row (length (c .friction)) t)) (length (c .friction))
+          × Excess bed (flat (row (length (c .friction)) t)) (length (c .friction))
       both t h = (none-below-table bed (length (c .friction)) dx t (h .wet), excess-table bed (length (c .friction)) dx t h)
 
   -- a lake at rest keeps every number of its table, and nothing crosses its ends
@@ -150,7 +165,8 @@ module _ (bed : List ℤ) (n dx : ℕ) where
   lake-rests (none s) k = (refl, refl, refl)
   lake-rests (more s m t old w v a b c q) k =
       let o = one bed n dx s w v old m c in let r = reachAt bed n dx in
-      let z = run-rest r lawful (o .some) (step (call c) (cellAt s) (cellAt m) (cellAt m) (pos 0) (pos 0) (o .unstopped) (o .same) (stop (cellAt m))) (at-rest bed s dx n k) in
+      let z = run-rest r lawful (o .some)
+      (step (call c) (cellAt s) (cellAt m) (cellAt m) (pos 0) (pos 0) (o .unstopped) (o .same) (stop (cellAt m))) (at-rest bed s dx n k) in
       let e : m ≡ s = flat-is n m (cellAt s) (o .size) (z .0) ∙ flat-cells n s (o .now) in
       let d = lake-rests q (subst (λ (x : List ℤ). Lake bed x n) (sym e) k) in
       (d .0 ∙ e, ap₂ _+ℤ_ (o .left) (d .1) ∙ z .1, ap₂ _+ℤ_ (o .right) (d .2) ∙ z .2)

@@ -46,7 +46,8 @@ pub record NoneBelow (bed t : List ℤ) (n : ℕ) : Type 0 where
 pub record Excess (bed t : List ℤ) (n : ℕ) : Type 0 where
   pub cell : ℕ
   pub below : cell < n
-  pub large : (deepest <ℤ leftDepth bed t cell) ⊎ ((deepest <ℤ rightDepth bed t cell) ⊎ ((fullest <ℤ sizeZ (at t (4 * cell + 2) -ℤ at t (4 * cell + 3))) ⊎ (fullest <ℤ sizeZ (at t (4 * cell + 2) +ℤ at t (4 * cell + 3)))))
+  pub large : (deepest <ℤ leftDepth bed t cell) ⊎ ((deepest <ℤ rightDepth bed t cell)
+      ⊎ ((fullest <ℤ sizeZ (at t (4 * cell + 2) -ℤ at t (4 * cell + 3))) ⊎ (fullest <ℤ sizeZ (at t (4 * cell + 2) +ℤ at t (4 * cell + 3)))))
 
 -- the finished stage one of a call, written as a table
 unfoldable pub stageTable : Lent → List ℤ
@@ -61,7 +62,8 @@ water bed t (suc n) = water bed t n +ℤ meanDepth bed t n
 pub record Lake (bed t : List ℤ) (n : ℕ) : Type 0 where
   pub mean : (i : ℕ) → i < n → at t (4 * i + 2) ≡ pos 0
   pub slope : (i : ℕ) → i < n → at t (4 * i + 3) ≡ pos 0
-  pub cell : (i : ℕ) → i < n → ((at t (4 * i) ≡ meanBed bed i) × (at t (4 * i + 1) ≡ bedSlope bed i)) ⊎ ((at t (4 * i + 1) ≡ pos 0) × (at bed i ≤ℤ at t (4 * i)) × (at bed (suc i) ≤ℤ at t (4 * i)))
+  pub cell : (i : ℕ) → i < n → ((at t (4 * i) ≡ meanBed bed i) × (at t (4 * i + 1) ≡ bedSlope bed i))
+      ⊎ ((at t (4 * i + 1) ≡ pos 0) × (at bed i ≤ℤ at t (4 * i)) × (at bed (suc i) ≤ℤ at t (4 * i)))
   pub level : (i : ℕ) → suc i < n → (at t (4 * i) +ℤ at t (4 * i + 1)) ≡ (at t (4 * suc i) -ℤ at t (4 * suc i + 1))
 
 -- ---- calls
@@ -78,4 +80,5 @@ pub record Called (bed : List ℤ) (n dx : ℕ) (now : List ℤ) (a : Answer) (o
 -- any number of accepted calls, each lent what the one before wrote; a and b: the sums of W at face 0 and at face n
 pub data Calls (bed : List ℤ) (n dx : ℕ) : List ℤ → List ℤ → ℤ → ℤ → Type 0 where
   none : (t : List ℤ) → Calls bed n dx t t (pos 0) (pos 0)
-  more : (s m t old : List ℤ) (w v a b : ℤ) → Called bed n dx s (Accepted w v) old m → Calls bed n dx m t a b → Calls bed n dx s t (w +ℤ a) (v +ℤ b)
+  more : (s m t old : List ℤ) (w v a b : ℤ) → Called bed n dx s (Accepted w v) old m → Calls bed n dx m t a b
+      → Calls bed n dx s t (w +ℤ a) (v +ℤ b)

@@ -37,7 +37,12 @@ Holds a i f = Written [] a i (λ k. asList (f k))
 -- ---- a lent table of numbers, four to a cell
 
 abbrev pub cellAt : List ℤ → ℕ → Cell
-cellAt s k = record { e0 = getD s (4 * k) (pos 0); e1 = getD s (4 * k + 1) (pos 0); q0 = getD s (4 * k + 2) (pos 0); q1 = getD s (4 * k + 3) (pos 0) }
+cellAt s k = record {
+  e0 = getD s (4 * k) (pos 0);
+  e1 = getD s (4 * k + 1) (pos 0);
+  q0 = getD s (4 * k + 2) (pos 0);
+  q1 = getD s (4 * k + 3) (pos 0);
+}
 
 -- the table of a row of cells
 unfoldable pub flat : List Cell → List ℤ
@@ -64,7 +69,8 @@ flat-cells (suc n) (a ∷ b ∷ []) e = absurd (let z : 2 ≡ 4 * suc n = e in o
 flat-cells (suc n) (a ∷ b ∷ c ∷ []) e = absurd (let z : 3 ≡ 4 * suc n = e in omega arith)
 flat-cells (suc n) (a ∷ b ∷ c ∷ d ∷ s) e =
     let l : length s ≡ 4 * n = (let z : suc (suc (suc (suc (length s)))) ≡ 4 * suc n = e in omega arith) in
-    ap (λ (r : List ℤ). a ∷ b ∷ c ∷ d ∷ r) (ap flat (row-same n (λ k. cellAt (a ∷ b ∷ c ∷ d ∷ s) (suc k)) (cellAt s) (λ k h. shift a b c d s k)) ∙ flat-cells n s l)
+    ap (λ (r : List ℤ). a ∷ b ∷ c ∷ d ∷ r)
+    (ap flat (row-same n (λ k. cellAt (a ∷ b ∷ c ∷ d ∷ s) (suc k)) (cellAt s) (λ k h. shift a b c d s k)) ∙ flat-cells n s l)
 
 -- so a table whose cells are f's is their table
 pub flat-is : (n : ℕ) (s : List ℤ) (f : ℕ → Cell) → length s ≡ 4 * n → ((k : ℕ) → k < n → cellAt s k ≡ f k) → s ≡ flat (row n f)
@@ -95,7 +101,8 @@ other s i j v h = getD-set-other s i j v (pos 0) h
 
 module _ (s : List ℤ) (i : ℕ) (c : Cell) where
   -- a number that the four stores pass by
-  beside : (j : ℕ) → (j ≡ 4 * i → ⊥) → (j ≡ 4 * i + 1 → ⊥) → (j ≡ 4 * i + 2 → ⊥) → (j ≡ 4 * i + 3 → ⊥) → getD (putCell s i c) j (pos 0) ≡ getD s j (pos 0)
+  beside : (j : ℕ) → (j ≡ 4 * i → ⊥) → (j ≡ 4 * i + 1 → ⊥) → (j ≡ 4 * i + 2 → ⊥) → (j ≡ 4 * i + 3 → ⊥)
+      → getD (putCell s i c) j (pos 0) ≡ getD s j (pos 0)
   beside j h0 h1 h2 h3 =
       other (set (set (set s (4 * i) (c .e0)) (4 * i + 1) (c .e1)) (4 * i + 2) (c .q0)) (4 * i + 3) j (c .q1) h3
       ∙ other (set (set s (4 * i) (c .e0)) (4 * i + 1) (c .e1)) (4 * i + 2) j (c .q0) h2
@@ -138,7 +145,8 @@ module _ (s : List ℤ) (i : ℕ) (c : Cell) where
 abbrev pub Stores : List ℤ → ℕ → (ℕ → Cell) → Type 0
 Stores s i f = (k : ℕ) → k < i → cellAt s k ≡ f k
 
-pub stores-more : (s : List ℤ) (i : ℕ) (f : ℕ → Cell) (c : Cell) → 4 * i + 3 < length s → Stores s i f → c ≡ f i → Stores (putCell s i c) (i + 1) f
+pub stores-more : (s : List ℤ) (i : ℕ) (f : ℕ → Cell) (c : Cell) → 4 * i + 3 < length s → Stores s i f → c ≡ f i
+    → Stores (putCell s i c) (i + 1) f
 stores-more s i f c room old new =
     below-more (λ k. cellAt (putCell s i c) k ≡ f k) i (λ k l. put-other s i c k l ∙ old k l) (put-same s i c room ∙ new)
 

@@ -1,4 +1,5 @@
--- A loop that fills a table and stops at the first place with a property: what it has done so far, and what it says where it stops and where it ends.
+-- A loop that fills a table and stops at the first place with a property:
+-- what it has done so far, and what it says where it stops and where it ends.
 -- Assumes nothing.
 use mathlib.Core.Path.{_≡_, sym, _∙_}
 use mathlib.Core.Bool.{Bool, true, false}

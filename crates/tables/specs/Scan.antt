@@ -1,4 +1,5 @@
--- A loop that looks through n places and stops at the first that has p: what it knows at its start, after a turn, where it stops, and at its end.
+-- A loop that looks through n places and stops at the first that has p:
+-- what it knows at its start, after a turn, where it stops, and at its end.
 -- Assumes nothing.
 use mathlib.Core.Path.{_≡_, sym, _∙_}
 use mathlib.Core.Bool.{Bool, true, false}

@@ -36,7 +36,8 @@ unfolding some
 some-yes p zero e = clash e
 some-yes p (suc n) e = go (some p n) (p n) refl refl e (some-yes p n)
   where
-    go : (a b : Bool) → some p n ≡ a → p n ≡ b → (a || b) ≡ true → (some p n ≡ true → (i : ℕ) × (i < n) × (p i ≡ true)) → (i : ℕ) × (i < suc n) × (p i ≡ true)
+    go : (a b : Bool) → some p n ≡ a → p n ≡ b → (a || b) ≡ true → (some p n ≡ true → (i : ℕ) × (i < n) × (p i ≡ true))
+        → (i : ℕ) × (i < suc n) × (p i ≡ true)
     go true b d f e h = let k = h d in (k .0, omega (arith, k .1), k .2)
     go false true d f e h = (n, omega arith, f)
     go false false d f e h = clash e

@@ -8,7 +8,8 @@ use native.Mathlib.Omega.{arith}
 use lib.IntN.{ℤ, pos, negsuc, negℤ, natAbs}
 use lib.Signed.{leZ, ltZ, _≤ℤ_, _<ℤ_}
 use Rattle.whole.specs.Flags.{cond-ind, cond-same}
-use Rattle.whole.specs.Parts.{Within, abs-parts, abs-neg, one-part, le-of, of-le, eq-of, lt-le, le-refl, le-trans, lt-le-trans, b-range}
+use Rattle.whole.specs.Parts.{Within, abs-parts, abs-neg, one-part, le-of, of-le, eq-of}
+use Rattle.whole.specs.Parts.{lt-le, le-refl, le-trans, lt-le-trans, b-range}
 use Rattle.whole.specs.Difference.{at, lit, nlit, ⊖, le!, lt!, eq!, le?, lt?}
 use Rattle.whole.specs.Tests.{le-yes, le-no, lt-no, yes-lt, no-lt}
 
@@ -75,7 +76,8 @@ size-nonneg a = le-of (pos 0) (pos (natAbs a)) (omega arith)
 
 pub size-of : (a : ℤ) → pos 0 ≤ℤ a → sizeZ a ≡ a
 unfolding sizeZ
-size-of a h = eq-of (pos (natAbs a)) a (⊎-elim (λ e. omega (arith, abs-parts a, of-le h)) (λ e. omega (arith, abs-parts a, of-le h)) (one-part a))
+size-of a h =
+    eq-of (pos (natAbs a)) a (⊎-elim (λ e. omega (arith, abs-parts a, of-le h)) (λ e. omega (arith, abs-parts a, of-le h)) (one-part a))
 
 -- ---- with the signs changed
 neg-le : (a b : ℤ) → negℤ a ≤ℤ b → negℤ b ≤ℤ a
@@ -98,13 +100,15 @@ max-neg a b = let m = maxZ (negℤ a) (negℤ b) in antisym m (negℤ (minZ a b)
     (neg-le m (minZ a b) (min-most a b (negℤ m) (neg-le a m (max-l (negℤ a) (negℤ b))) (neg-le b m (max-r (negℤ a) (negℤ b)))))
 
 pub max-comm : (a b : ℤ) → maxZ a b ≡ maxZ b a
-max-comm a b = antisym (maxZ a b) (maxZ b a) (max-least a b (maxZ b a) (max-r b a) (max-l b a)) (max-least b a (maxZ a b) (max-r a b) (max-l a b))
+max-comm a b =
+    antisym (maxZ a b) (maxZ b a) (max-least a b (maxZ b a) (max-r b a) (max-l b a)) (max-least b a (maxZ a b) (max-r a b) (max-l a b))
 
 pub max-swap : (x a b : ℤ) → maxZ (maxZ x a) b ≡ maxZ (maxZ x b) a
 max-swap x a b = antisym (maxZ (maxZ x a) b) (maxZ (maxZ x b) a) (half x a b) (half x b a)
   where
     half : (x a b : ℤ) → maxZ (maxZ x a) b ≤ℤ maxZ (maxZ x b) a
-    half x a b = max-least (maxZ x a) b (maxZ (maxZ x b) a) (max-least x a (maxZ (maxZ x b) a) (le-trans (max-l x b) (max-l (maxZ x b) a)) (max-r (maxZ x b) a)) (le-trans (max-r x b) (max-l (maxZ x b) a))
+    half x a b = max-least (maxZ x a) b (maxZ (maxZ x b) a) (max-least x a (maxZ (maxZ x b) a) (le-trans (max-l x b) (max-l (maxZ x b) a))
+        (max-r (maxZ x b) a)) (le-trans (max-r x b) (max-l (maxZ x b) a))
 
 pub size-neg : (a : ℤ) → sizeZ (negℤ a) ≡ sizeZ a
 unfolding sizeZ
@@ -125,7 +129,8 @@ b-size a p = record { abs = p .abs }
 
 -- ---- a size beyond m, by two tests
 pub beyond-low : (m : ℕ) (x : ℤ) → x <ℤ negℤ (pos m) → true ≡ ltZ (pos m) (sizeZ x)
-beyond-low m x h = sym (yes-lt (pos m) (sizeZ x) (lt-le-trans (lt! (lit m) (⊖ (at x)) (omega (arith, lt? (at x) (⊖ (lit m)) h))) (size-ge-neg x)))
+beyond-low m x h =
+    sym (yes-lt (pos m) (sizeZ x) (lt-le-trans (lt! (lit m) (⊖ (at x)) (omega (arith, lt? (at x) (⊖ (lit m)) h))) (size-ge-neg x)))
 
 pub beyond-high : (m : ℕ) (x : ℤ) → negℤ (pos m) ≤ℤ x → ltZ (pos m) x ≡ ltZ (pos m) (sizeZ x)
 unfolding sizeZ

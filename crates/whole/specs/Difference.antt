@@ -10,7 +10,8 @@ use Prim.Native.Nat.{ℕ, suc, _+_, _*_, _≤_, _<_}
 use native.Mathlib.Omega.{arith}
 use lib.IntN.{ℤ, pos, negsuc, negℤ, _+ℤ_, _-ℤ_, _*ℤ_}
 use lib.Signed.{_≤ℤ_, _<ℤ_}
-use Rattle.whole.specs.Parts.{Within, b-range, range-b, up, dn, cross, add-parts, up-mul, dn-mul, up-neg, dn-neg, le-of, of-le, lt-of, of-lt, eq-of, of-eq}
+use Rattle.whole.specs.Parts.{Within, b-range, range-b, up, dn, cross, add-parts, up-mul, dn-mul}
+use Rattle.whole.specs.Parts.{up-neg, dn-neg, le-of, of-le, lt-of, of-lt, eq-of, of-eq}
 
 -- z is p - n. The field is private, so that `omega` does not read it of each Rep in reach
 pub record Is (z : ℤ) (p n : ℕ) : Type 0 where
@@ -45,11 +46,14 @@ add-is {a} {b} h k = record { eqn = omega (arith, h .eqn, k .eqn, add-parts a b)
 pub neg-is : {a : ℤ} {pa na : ℕ} → Is a pa na → Is (negℤ a) na pa
 neg-is {a} h = record { eqn = omega (arith, h .eqn, up-neg a, dn-neg a) }
 
-mul-is′ : (ua da ub db pa na pb nb : ℕ) → ua + na ≡ pa + da → ub + nb ≡ pb + db → (ua * ub + da * db) + (pa * nb + na * pb) ≡ (pa * pb + na * nb) + (ua * db + da * ub)
-mul-is′ ua da ub db pa na pb nb h k = omega (arith, ap (λ (t : ℕ). t * ub) h, ap (λ (t : ℕ). t * db) h, ap (λ (t : ℕ). t * pa) k, ap (λ (t : ℕ). t * na) k)
+mul-is′ : (ua da ub db pa na pb nb : ℕ) → ua + na ≡ pa + da → ub + nb ≡ pb + db
+    → (ua * ub + da * db) + (pa * nb + na * pb) ≡ (pa * pb + na * nb) + (ua * db + da * ub)
+mul-is′ ua da ub db pa na pb nb h k =
+    omega (arith, ap (λ (t : ℕ). t * ub) h, ap (λ (t : ℕ). t * db) h, ap (λ (t : ℕ). t * pa) k, ap (λ (t : ℕ). t * na) k)
 
 pub mul-is : {a b : ℤ} {pa na pb nb : ℕ} → Is a pa na → Is b pb nb → Is (a *ℤ b) (pa * pb + na * nb) (pa * nb + na * pb)
-mul-is {a} {b} {pa} {na} {pb} {nb} h k = record { eqn = omega (arith, up-mul a b, dn-mul a b, mul-is′ (up a) (dn a) (up b) (dn b) pa na pb nb (h .eqn) (k .eqn)) }
+mul-is {a} {b} {pa} {na} {pb} {nb} h k =
+    record { eqn = omega (arith, up-mul a b, dn-mul a b, mul-is′ (up a) (dn a) (up b) (dn b) pa na pb nb (h .eqn) (k .eqn)) }
 
 infixl 6 _⊞_ _⊟_
 infixl 7 _⊠_
@@ -115,4 +119,5 @@ none-times a = eq! (lit 0 ⊠ at a) (lit 0) (omega arith)
 -- ---- the difference of two that are not below nought is no larger than the larger
 pub b-less : {A : ℕ} (a b : ℤ) → pos 0 ≤ℤ a → pos 0 ≤ℤ b → Within A a → Within A b → Within A (a -ℤ b)
 b-less {A} a b p q h k =
-    b-range (le! (⊖ (lit A)) (at a ⊟ at b) (omega (arith, of-le p, of-le (range-b k .1)))) (le! (at a ⊟ at b) (lit A) (omega (arith, of-le q, of-le (range-b h .1))))
+    b-range (le! (⊖ (lit A)) (at a ⊟ at b) (omega (arith, of-le p, of-le (range-b k .1))))
+    (le! (at a ⊟ at b) (lit A) (omega (arith, of-le q, of-le (range-b h .1))))

@@ -39,7 +39,8 @@ unfolding bits
 bits-ge p zero a = omega arith
 bits-ge p (suc n) a = go (p (a + 2 ^ n)) (bits-ge p n (a + 2 ^ n)) (bits-ge p n a)
   where
-    go : (b : Bool) → a + 2 ^ n ≤ bits p n (a + 2 ^ n) → a ≤ bits p n a → a ≤ elim b as (λ y. ℕ) [ true ↦ bits p n (a + 2 ^ n) | false ↦ bits p n a ]
+    go : (b : Bool) → a + 2 ^ n ≤ bits p n (a + 2 ^ n) → a ≤ bits p n a
+        → a ≤ elim b as (λ y. ℕ) [ true ↦ bits p n (a + 2 ^ n) | false ↦ bits p n a ]
     go true u d = omega arith
     go false u d = d
 
@@ -49,7 +50,8 @@ unfolding bits
 bits-some p zero a e = rw (bits, e) (omega arith)
 bits-some p (suc n) a e = go (p (a + 2 ^ suc n)) (bits-ge p (suc n) (a + 2 ^ suc n)) (bits-some p n a e)
   where
-    go : (b : Bool) → a + 2 ^ suc n ≤ bits p (suc n) (a + 2 ^ suc n) → a < bits p (suc n) a → a < elim b as (λ y. ℕ) [ true ↦ bits p (suc n) (a + 2 ^ suc n) | false ↦ bits p (suc n) a ]
+    go : (b : Bool) → a + 2 ^ suc n ≤ bits p (suc n) (a + 2 ^ suc n) → a < bits p (suc n) a
+        → a < elim b as (λ y. ℕ) [ true ↦ bits p (suc n) (a + 2 ^ suc n) | false ↦ bits p (suc n) a ]
     go true u d = omega (arith, NatL.one-le-pow (suc n) 2 (omega arith))
     go false u d = d
 
@@ -66,7 +68,8 @@ pub one-largest : {P : ℕ → Type 0} (a b : ℕ) → IsLargest P a → IsLarge
 one-largest a b p q = let h : a ≤ b = q .most a (p .has) in let k : b ≤ a = p .most b (q .has) in omega arith
 
 -- of a test that fails from some number on
-pub largest-most : (p : ℕ → Bool) (n : ℕ) → T (p 0) → (T (p (2 ^ n)) → ⊥) → ((a b : ℕ) → a ≤ b → T (p b) → T (p a)) → IsLargest (λ a. T (p a)) (largest p n)
+pub largest-most : (p : ℕ → Bool) (n : ℕ) → T (p 0) → (T (p (2 ^ n)) → ⊥) → ((a b : ℕ) → a ≤ b → T (p b) → T (p a))
+    → IsLargest (λ a. T (p a)) (largest p n)
 largest-most p n h f down = let k = largest-is p n h f in
     record { has = k .0; most = λ b t. go b t (decLe b (largest p n)) }
   where

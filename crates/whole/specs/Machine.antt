@@ -1,6 +1,8 @@
--- What the machine computes with i64. A signed local holds bits, so a need speaks of  toZ w64 (ofZ w64 x)  for each local x: what is read back from the bits.
--- An expression of the code stands here as data: what it is over ℤ (`ideal`), what the machine has (`raw`, `loc`: each result is put into a local's bits and
--- read back), and how large it can be (`lim`). Where no step can leave i64, which computes (`safe`), the machine has the ideal value.
+-- What the machine computes with i64. A signed local holds bits, so a need speaks of  toZ w64 (ofZ w64 x)  for each local x:
+-- what is read back from the bits.
+-- An expression of the code stands here as data: what it is over ℤ (`ideal`), what the machine has (`raw`, `loc`:
+-- each result is put into a local's bits and read back), and how large it can be (`lim`).
+-- Where no step can leave i64, which computes (`safe`), the machine has the ideal value.
 --     need ρ e tt : SFits w64 (raw ρ e)             what an operation asks
 --     value ρ e tt : loc ρ e ≡ ideal ρ e            what a local holds
 --     result ρ e tt : raw ρ e ≡ ideal ρ e           what an operation gives, whose bits a loop carries on
@@ -163,7 +165,8 @@ safe ρ (a ⊘ b) = ltb (limQ (lim ρ a) b) (2 ^ 63) && (safe ρ a && safe ρ b)
 split : (n : ℕ) (y z : Bool) → T (ltb n (2 ^ 63) && (y && z)) → T (ltb n (2 ^ 63)) × (T y × T z)
 split n y z t = let u : T (y && z) = snd (ltb n (2 ^ 63)) (y && z) t in (fst (ltb n (2 ^ 63)) (y && z) t, (fst y z u, snd y z u))
 
-quot-got : (ρ : List Entry) (b : X) {A B : ℕ} {t z s : ℤ} → Got A t z → Got B s (ideal ρ b) → Got (limQ A b) (quotZ t s) (quotZ z (ideal ρ b))
+quot-got : (ρ : List Entry) (b : X) {A B : ℕ} {t z s : ℤ} → Got A t z → Got B s (ideal ρ b)
+    → Got (limQ A b) (quotZ t s) (quotZ z (ideal ρ b))
 quot-got ρ (v i) x y = g-quot x y
 quot-got ρ (k c) x y = g-in (g-quot x y) (b-quot-by c (x .bound))
 quot-got ρ (a ⊕ b) x y = g-quot x y
@@ -177,7 +180,9 @@ got ρ (k z) t = g-lit z
 got ρ (a ⊕ b) t = let p = split (lim ρ a + lim ρ b) (safe ρ a) (safe ρ b) t in g-back (g-add (got ρ a (p .1 .0)) (got ρ b (p .1 .1))) (p .0)
 got ρ (a ⊝ b) t = let p = split (lim ρ a + lim ρ b) (safe ρ a) (safe ρ b) t in g-back (g-sub (got ρ a (p .1 .0)) (got ρ b (p .1 .1))) (p .0)
 got ρ (a ⊗ b) t = let p = split (lim ρ a * lim ρ b) (safe ρ a) (safe ρ b) t in g-back (g-mul (got ρ a (p .1 .0)) (got ρ b (p .1 .1))) (p .0)
-got ρ (a ⊘ b) t = let p = split (limQ (lim ρ a) b) (safe ρ a) (safe ρ b) t in g-back (quot-got ρ b (got ρ a (p .1 .0)) (got ρ b (p .1 .1))) (p .0)
+got ρ (a ⊘ b) t =
+    let p = split (limQ (lim ρ a) b) (safe ρ a) (safe ρ b) t in
+    g-back (quot-got ρ b (got ρ a (p .1 .0)) (got ρ b (p .1 .1))) (p .0)
 
 pub value : (ρ : List Entry) (e : X) → T (safe ρ e) → loc ρ e ≡ ideal ρ e
 value ρ e t = got ρ e t .same

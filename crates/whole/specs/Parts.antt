@@ -121,7 +121,8 @@ one-part (pos n) = inr refl
 one-part (negsuc n) = inl refl
 
 pub abs-add : (a b : ℤ) → natAbs (a +ℤ b) ≤ natAbs a + natAbs b
-abs-add a b = ⊎-elim (λ h. omega (arith, abs-parts (a +ℤ b), abs-parts a, abs-parts b, add-parts a b)) (λ h. omega (arith, abs-parts (a +ℤ b), abs-parts a, abs-parts b, add-parts a b)) (one-part (a +ℤ b))
+abs-add a b = ⊎-elim (λ h. omega (arith, abs-parts (a +ℤ b), abs-parts a, abs-parts b, add-parts a b))
+    (λ h. omega (arith, abs-parts (a +ℤ b), abs-parts a, abs-parts b, add-parts a b)) (one-part (a +ℤ b))
 
 -- ---- bounds: |z| at most a number, through the operations. A record, so that the number and z are inferred
 pub record Within (A : ℕ) (z : ℤ) : Type 0 where
@@ -154,10 +155,16 @@ pub fit : {z : ℤ} {A : ℕ} → Within A z → T (ltb A (2 ^ 63)) → SFits w6
 fit {z} {A} h t = record { sfits = omega (arith, mag-abs z, h .abs, ltb→lt A (2 ^ 63) t) }
 
 pub b-range : {z : ℤ} {A : ℕ} → negℤ (pos A) ≤ℤ z → z ≤ℤ pos A → Within A z
-b-range {z} {A} h k = record { abs = ⊎-elim (λ e. omega (arith, of-le h, of-le k, abs-parts z, up-neg (pos A), dn-neg (pos A))) (λ e. omega (arith, of-le h, of-le k, abs-parts z, up-neg (pos A), dn-neg (pos A))) (one-part z) }
+b-range {z} {A} h k = record {
+  abs = ⊎-elim (λ e. omega (arith, of-le h, of-le k, abs-parts z, up-neg (pos A), dn-neg (pos A)))
+      (λ e. omega (arith, of-le h, of-le k, abs-parts z, up-neg (pos A), dn-neg (pos A))) (one-part z);
+}
 
 pub range-b : {z : ℤ} {A : ℕ} → Within A z → (negℤ (pos A) ≤ℤ z) × (z ≤ℤ pos A)
-range-b {z} {A} h = (le-of (negℤ (pos A)) z (omega (arith, h .abs, abs-parts z, up-neg (pos A), dn-neg (pos A))), le-of z (pos A) (omega (arith, h .abs, abs-parts z)))
+range-b {z} {A} h = (
+  le-of (negℤ (pos A)) z (omega (arith, h .abs, abs-parts z, up-neg (pos A), dn-neg (pos A))),
+  le-of z (pos A) (omega (arith, h .abs, abs-parts z)),
+)
 
 pub le-refl : (a : ℤ) → a ≤ℤ a
 le-refl a = le-of a a (omega arith)

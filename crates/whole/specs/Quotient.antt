@@ -52,7 +52,10 @@ b-quot-by {a} {A} b h = record { abs = rw abs-quot (div-mono (natAbs a) A (natAb
 
 -- over a divisor that is at least d
 pub b-quot-ge : {a b : ℤ} {A : ℕ} (d : ℕ) → Within A a → pos (suc d) ≤ℤ b → Within (A / suc d) (quotZ a b)
-b-quot-ge {a} {b} {A} d h m = record { abs = rw abs-quot (NatL.le-div-iff-mul-le (NatL.zero-lt-suc d) .1 (NatL.le-trans (NatL.mul-le-mul-left (natAbs a / natAbs b) low) (NatL.le-trans (NatL.div-mul-le-self (natAbs a) (natAbs b)) (h .abs)))) }
+b-quot-ge {a} {b} {A} d h m = record {
+  abs = rw abs-quot (NatL.le-div-iff-mul-le (NatL.zero-lt-suc d) .1 (NatL.le-trans (NatL.mul-le-mul-left (natAbs a / natAbs b) low)
+      (NatL.le-trans (NatL.div-mul-le-self (natAbs a) (natAbs b)) (h .abs))));
+}
   where
     low : suc d ≤ natAbs b
     low = omega (arith, of-le m, abs-parts b)
@@ -80,19 +83,23 @@ quot-le N (negsuc d) B h k m = absurd (h .lt)
 
 pub quot-ge : (N D B : ℤ) → pos 0 <ℤ D → pos 0 ≤ℤ B → negℤ B ≤ℤ N → negℤ B ≤ℤ (quotZ N D *ℤ D)
 quot-ge N (pos d) B h k m = le! (⊖ (at B)) (at (quotZ N (pos d)) ⊠ lit d)
-    (⊎-elim (λ e. omega (arith, of-le k, le? (⊖ (at B)) (at N) m, dn-part N d)) (λ e. omega (arith, of-le k, le? (⊖ (at B)) (at N) m, dn-part N d)) (one-part N))
+    (⊎-elim (λ e. omega (arith, of-le k, le? (⊖ (at B)) (at N) m, dn-part N d))
+    (λ e. omega (arith, of-le k, le? (⊖ (at B)) (at N) m, dn-part N d)) (one-part N))
 quot-ge N (negsuc d) B h k m = absurd (h .lt)
 
 pub quot-cancel : (k b : ℤ) → b ≢ pos 0 → quotZ (k *ℤ b) b ≡ k
 quot-cancel k (pos zero) h = absurd (h refl)
 quot-cancel (pos k) (pos (suc b)) h = ap pos (NatL.mul-div-cancel k (NatL.zero-lt-suc b))
-quot-cancel (negsuc k) (pos (suc b)) h = quot-neg (pos (suc k * suc b)) (pos (suc b)) ∙ ap (λ (n : ℕ). negℤ (pos n)) (NatL.mul-div-cancel (suc k) (NatL.zero-lt-suc b))
-quot-cancel (pos k) (negsuc b) h = quot-neg (pos (k * suc b)) (negsuc b) ∙ negℤ-negℤ (pos (k * suc b / suc b)) ∙ ap pos (NatL.mul-div-cancel k (NatL.zero-lt-suc b))
+quot-cancel (negsuc k) (pos (suc b)) h =
+    quot-neg (pos (suc k * suc b)) (pos (suc b)) ∙ ap (λ (n : ℕ). negℤ (pos n)) (NatL.mul-div-cancel (suc k) (NatL.zero-lt-suc b))
+quot-cancel (pos k) (negsuc b) h =
+    quot-neg (pos (k * suc b)) (negsuc b) ∙ negℤ-negℤ (pos (k * suc b / suc b)) ∙ ap pos (NatL.mul-div-cancel k (NatL.zero-lt-suc b))
 quot-cancel (negsuc k) (negsuc b) h = ap (λ (n : ℕ). negℤ (pos n)) (NatL.mul-div-cancel (suc k) (NatL.zero-lt-suc b))
 
 -- cancel a positive factor
 pub mul-cancel-le : (a b c : ℤ) → pos 0 <ℤ c → (a *ℤ c) ≤ℤ (b *ℤ c) → a ≤ℤ b
-mul-cancel-le a b (pos c) h k = le-of a b (NatL.le-of-mul-le-mul-right {k = c} (omega (arith, le? (at a ⊠ lit c) (at b ⊠ lit c) k)) (omega (arith, of-lt h)))
+mul-cancel-le a b (pos c) h k =
+    le-of a b (NatL.le-of-mul-le-mul-right {k = c} (omega (arith, le? (at a ⊠ lit c) (at b ⊠ lit c) k)) (omega (arith, of-lt h)))
 mul-cancel-le a b (negsuc c) h k = absurd (h .lt)
 
 -- ---- quotients of nought
@@ -121,7 +128,8 @@ half-le N D h D>0 h≥0 m = by (leZ (pos 0) N) up′ down
         let q = quotZ N D in
         let n<0 : N <ℤ pos 0 = le-no (pos 0) N e in
         let b : (q *ℤ D) ≤ℤ (pos 0) = quot-le N D (pos 0) D>0 (le-refl (pos 0)) (lt-le n<0) in
-        let c : q ≤ℤ pos 0 = mul-cancel-le q (pos 0) D D>0 (le! (at q ⊠ at D) (lit 0 ⊠ at D) (omega (arith, le? (at q ⊠ at D) (lit 0) b))) in
+        let c : q ≤ℤ pos 0 =
+        mul-cancel-le q (pos 0) D D>0 (le! (at q ⊠ at D) (lit 0 ⊠ at D) (omega (arith, le? (at q ⊠ at D) (lit 0) b))) in
         le! (lit 2 ⊠ at q) (at h) (omega (arith, of-le c, of-le h≥0))
 
 pub half-ge : (N D h : ℤ) → pos 0 <ℤ D → pos 0 ≤ℤ h → negℤ (h *ℤ D) ≤ℤ (pos 2 *ℤ N) → negℤ h ≤ℤ (pos 2 *ℤ quotZ N D)
@@ -134,10 +142,11 @@ half-ge N D h D>0 h≥0 m =
 -- halves, truncated: what is lost of two sums can not take a whole number below nought
 pub halves : (h a b : ℤ) → pos 0 ≤ℤ h → pos 0 ≤ℤ (h +ℤ h +ℤ a -ℤ b) → pos 0 ≤ℤ (h +ℤ quotZ a (pos 2) -ℤ quotZ b (pos 2))
 halves h a b h≥0 s = le! (lit 0) (at h ⊞ at (quotZ a (pos 2)) ⊟ at (quotZ b (pos 2)))
-    (lost (up h) (dn h) (up a) (dn a) (up b) (dn b) _ _ _ _ (up-quot a 2) (dn-quot a 2) (up-quot b 2) (dn-quot b 2) (of-le h≥0) (le? (lit 0) (at h ⊞ at h ⊞ at a ⊟ at b) s) (one-part a) (one-part b))
+    (lost (up h) (dn h) (up a) (dn a) (up b) (dn b) _ _ _ _ (up-quot a 2) (dn-quot a 2) (up-quot b 2) (dn-quot b 2) (of-le h≥0)
+    (le? (lit 0) (at h ⊞ at h ⊞ at a ⊟ at b) s) (one-part a) (one-part b))
   where
-    lost : (hu hd au ad bu bd x y z w : ℕ) → x ≡ au / 2 → y ≡ ad / 2 → z ≡ bu / 2 → w ≡ bd / 2 → 0 + hd ≤ hu + 0 → 0 + (hd + hd + ad + bu) ≤ hu + hu + au + bd + 0
-        → (au ≡ 0) ⊎ (ad ≡ 0) → (bu ≡ 0) ⊎ (bd ≡ 0) → 0 + (hd + y + z) ≤ hu + x + w + 0
+    lost : (hu hd au ad bu bd x y z w : ℕ) → x ≡ au / 2 → y ≡ ad / 2 → z ≡ bu / 2 → w ≡ bd / 2 → 0 + hd ≤ hu + 0
+        → 0 + (hd + hd + ad + bu) ≤ hu + hu + au + bd + 0 → (au ≡ 0) ⊎ (ad ≡ 0) → (bu ≡ 0) ⊎ (bd ≡ 0) → 0 + (hd + y + z) ≤ hu + x + w + 0
     lost hu hd au ad bu bd x y z w e f g i h≥0 s (inl p) (inl q) = omega arith
     lost hu hd au ad bu bd x y z w e f g i h≥0 s (inl p) (inr q) = omega arith
     lost hu hd au ad bu bd x y z w e f g i h≥0 s (inr p) (inl q) = omega arith
@@ -152,4 +161,5 @@ quot-nonneg (negsuc a) d h k = absurd (h .le)
 -- a share, a over b of at most 1, of m
 pub share-le : (m a b : ℕ) → a ≤ b → m * a / b ≤ m
 share-le m a zero h = rw (NatL.div-zero (m * a)) (omega arith)
-share-le m a (suc b) h = NatL.le-trans (div-mono (m * a) (m * suc b) (suc b) (NatL.mul-le-mul-left m h)) (NatL.le-of-eq (NatL.mul-div-cancel m (NatL.zero-lt-suc b)))
+share-le m a (suc b) h = NatL.le-trans (div-mono (m * a) (m * suc b) (suc b) (NatL.mul-le-mul-left m h))
+    (NatL.le-of-eq (NatL.mul-div-cancel m (NatL.zero-lt-suc b)))

@@ -1,4 +1,5 @@
--- Identities of commutative rings over ℤ, by computation: two expressions over atoms are equal where the normal form of their difference has only zeros.
+-- Identities of commutative rings over ℤ, by computation: two expressions over atoms are equal where the normal form of
+-- their difference has only zeros.
 --     solve (x ∷ y ∷ []) (v 0 ⊗ v 1) (v 1 ⊗ v 0) tt : x *ℤ y ≡ y *ℤ x
 -- Assumes nothing.
 use mathlib.Core.Path.{_≡_, refl, sym, _∙_, ap, ap₂}
@@ -145,20 +146,23 @@ total-pick false x y ρ z p q = q
 
 total-put : (ρ : List ℤ) (c : ℤ) (m : List ℕ) (s : Poly) → total ρ (put c m s) ≡ c *ℤ mono ρ m +ℤ total ρ s
 total-put ρ c m none = refl
-total-put ρ c m (more d n s) = total-pick (eqL m n) (more (c +ℤ d) n s) (more d n (put c m s)) ρ (c *ℤ mono ρ m +ℤ (d *ℤ mono ρ n +ℤ total ρ s))
+total-put ρ c m (more d n s) =
+    total-pick (eqL m n) (more (c +ℤ d) n s) (more d n (put c m s)) ρ (c *ℤ mono ρ m +ℤ (d *ℤ mono ρ n +ℤ total ρ s))
     (λ t. gather c d (mono ρ n) (total ρ s) ∙ ap (λ (l : List ℕ). c *ℤ mono ρ l +ℤ (d *ℤ mono ρ n +ℤ total ρ s)) (sym (eqL-eq m n t)))
     (ap (λ (t : ℤ). d *ℤ mono ρ n +ℤ t) (total-put ρ c m s) ∙ swap (d *ℤ mono ρ n) (c *ℤ mono ρ m) (total ρ s))
 
 total-both : (ρ : List ℤ) (s t : Poly) → total ρ (both s t) ≡ total ρ s +ℤ total ρ t
 total-both ρ none t = sym (+ℤ-idl (total ρ t))
-total-both ρ (more c m s) t = total-put ρ c m (both s t) ∙ ap (λ (x : ℤ). c *ℤ mono ρ m +ℤ x) (total-both ρ s t) ∙ assoc (c *ℤ mono ρ m) (total ρ s) (total ρ t)
+total-both ρ (more c m s) t =
+    total-put ρ c m (both s t) ∙ ap (λ (x : ℤ). c *ℤ mono ρ m +ℤ x) (total-both ρ s t) ∙ assoc (c *ℤ mono ρ m) (total ρ s) (total ρ t)
   where
     assoc : (x y z : ℤ) → x +ℤ (y +ℤ z) ≡ x +ℤ y +ℤ z
     assoc x y z = eq! (at x ⊞ (at y ⊞ at z)) (at x ⊞ at y ⊞ at z) (omega arith)
 
 total-scale : (ρ : List ℤ) (c : ℤ) (m : List ℕ) (s : Poly) → total ρ (scale c m s) ≡ c *ℤ mono ρ m *ℤ total ρ s
 total-scale ρ c m none = eq! (lit 0) (at c ⊠ at (mono ρ m) ⊠ lit 0) (omega arith)
-total-scale ρ c m (more d n s) = total-put ρ (c *ℤ d) (join m n) (scale c m s) ∙ ap₂ (λ (x y : ℤ). c *ℤ d *ℤ x +ℤ y) (mono-join ρ m n) (total-scale ρ c m s) ∙ step c d (mono ρ m) (mono ρ n) (total ρ s)
+total-scale ρ c m (more d n s) = total-put ρ (c *ℤ d) (join m n) (scale c m s)
+    ∙ ap₂ (λ (x y : ℤ). c *ℤ d *ℤ x +ℤ y) (mono-join ρ m n) (total-scale ρ c m s) ∙ step c d (mono ρ m) (mono ρ n) (total ρ s)
   where
     step : (c d m n s : ℤ) → c *ℤ d *ℤ (m *ℤ n) +ℤ c *ℤ m *ℤ s ≡ c *ℤ m *ℤ (d *ℤ n +ℤ s)
     step c d m n s = ap₂ _+ℤ_ (mid c d m n) refl ∙ dist (c *ℤ m) (d *ℤ n) s
@@ -171,7 +175,8 @@ total-scale ρ c m (more d n s) = total-put ρ (c *ℤ d) (join m n) (scale c m 
 
 total-times : (ρ : List ℤ) (s t : Poly) → total ρ (times s t) ≡ total ρ s *ℤ total ρ t
 total-times ρ none t = eq! (lit 0) (lit 0 ⊠ at (total ρ t)) (omega arith)
-total-times ρ (more c m s) t = total-both ρ (scale c m t) (times s t) ∙ ap₂ _+ℤ_ (total-scale ρ c m t) (total-times ρ s t) ∙ dist (c *ℤ mono ρ m) (total ρ s) (total ρ t)
+total-times ρ (more c m s) t = total-both ρ (scale c m t) (times s t) ∙ ap₂ _+ℤ_ (total-scale ρ c m t) (total-times ρ s t)
+    ∙ dist (c *ℤ mono ρ m) (total ρ s) (total ρ t)
   where
     dist : (a b c : ℤ) → a *ℤ c +ℤ b *ℤ c ≡ (a +ℤ b) *ℤ c
     dist a b c = eq! (at a ⊠ at c ⊞ at b ⊠ at c) ((at a ⊞ at b) ⊠ at c) (omega arith)
@@ -196,8 +201,10 @@ zero-of ρ (more (pos (suc n)) m s) z = absurd z
 zero-of ρ (more (negsuc n) m s) z = absurd z
 
 pub solve : (ρ : List ℤ) (a b : E) → Zero (flat (a ⊝ b)) → den ρ a ≡ den ρ b
-solve ρ a b z = eq! (at (den ρ a)) (at (den ρ b)) (omega (arith, eq? (at (den ρ a) ⊟ at (den ρ b)) (lit 0) (sym (flat-sound ρ (a ⊝ b)) ∙ zero-of ρ (flat (a ⊝ b)) z)))
+solve ρ a b z = eq! (at (den ρ a)) (at (den ρ b))
+    (omega (arith, eq? (at (den ρ a) ⊟ at (den ρ b)) (lit 0) (sym (flat-sound ρ (a ⊝ b)) ∙ zero-of ρ (flat (a ⊝ b)) z)))
 
 -- an order by a certificate: b is a and something that is not negative
 pub by-diff : (ρ : List ℤ) (a b c : E) → pos 0 ≤ℤ den ρ c → Zero (flat (a ⊕ c ⊝ b)) → den ρ a ≤ℤ den ρ b
-by-diff ρ a b c h z = le! (at (den ρ a)) (at (den ρ b)) (omega (arith, of-le h, eq? (at (den ρ a) ⊞ at (den ρ c)) (at (den ρ b)) (solve ρ (a ⊕ c) b z)))
+by-diff ρ a b c h z =
+    le! (at (den ρ a)) (at (den ρ b)) (omega (arith, of-le h, eq? (at (den ρ a) ⊞ at (den ρ c)) (at (den ρ b)) (solve ρ (a ⊕ c) b z)))

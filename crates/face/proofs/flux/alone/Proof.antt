@@ -19,7 +19,9 @@ discharge-requires c κs = search needs
 
 -- the depth, the speed and the discharge of the side
 abbrev env : tie.Start → List Entry
-env s = let m = mass-size (s .pre) in entry (s .fits .h) (depth-size (s .pre)) ∷ entry (s .fits .u) (s .pre .speed) ∷ entry (fit m tt) m ∷ []
+env s =
+    let m = mass-size (s .pre) in
+    entry (s .fits .h) (depth-size (s .pre)) ∷ entry (s .fits .u) (s .pre .speed) ∷ entry (fit m tt) m ∷ []
 
 abbrev carried : X
 carried = v 2 ⊗ v 1 ⊘ k (pos 4096)
@@ -40,7 +42,8 @@ returns : tie.Need-returns
 unfolding alone
 returns c =
     let s = c .before in
-    carries _ _ _ _ (alone (side (s .args .h) (s .args .u)) (s .args .s)) (back64 (c .discharge .ok) (m-is c)) (value (env s) (v 0 ⊗ v 0) tt) (rw (m-is c) (value (env s) carried tt)) (toZ-ofZ (s .fits .s))
+    carries _ _ _ _ (alone (side (s .args .h) (s .args .u)) (s .args .s)) (back64 (c .discharge .ok) (m-is c))
+    (value (env s) (v 0 ⊗ v 0) tt) (rw (m-is c) (value (env s) carried tt)) (toZ-ofZ (s .fits .s))
 
 pub alone-spec : {M : Type 1} → statement M
 alone-spec = tie.close (tie.spec discharge-requires mul-t5 mul-t6 div-t7 returns)

@@ -49,10 +49,19 @@ returns c =
     let s = f .before in
     let p = s .args in
     carries _ _ _ _ (between (side (p .hl) (p .ul)) (side (p .hr) (p .ur)) (p .sl) (p .sr) (p .s))
-    (back64 (f .mixed .ok) (simp (toZ-ofZ, s .fits .sl, s .fits .sr, s .fits .hl, s .fits .hr, s .fits .ul, s .fits .ur) at (f .mixed .ensures)))
+    (back64 (f .mixed .ok)
+    (simp (toZ-ofZ, s .fits .sl, s .fits .sr, s .fits .hl, s .fits .hr, s .fits .ul, s .fits .ur) at (f .mixed .ensures)))
     (back64 (q .pressure .ok) (simp (toZ-ofZ, s .fits .sl, s .fits .sr, s .fits .hl, s .fits .hr) at (q .pressure .ensures)))
     (back64 (c .mixed2 .ok)
-    (simp (toZ-ofZ, s .fits .sl, s .fits .sr, back64 (d .before .discharge .ok) (ml d), back64 (d .discharge2 .ok) (mr d), s .fits .ul, s .fits .ur) at (c .mixed2 .ensures)))
+    (simp (
+      toZ-ofZ,
+      s .fits .sl,
+      s .fits .sr,
+      back64 (d .before .discharge .ok) (ml d),
+      back64 (d .discharge2 .ok) (mr d),
+      s .fits .ul,
+      s .fits .ur,
+    ) at (c .mixed2 .ensures)))
     (toZ-ofZ (s .fits .s))
 
 pub between-spec : {M : Type 1} → statement M

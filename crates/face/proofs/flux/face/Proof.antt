@@ -23,7 +23,8 @@ returns : tie.Need-returns
 unfolding flux
 returns c =
     let s = c .before .before in
-    let e : speedFits (s .args .ul) ≡ false = sym (simp (toZ-ofZ, s .fits .ul) at (c .before .speed-fits .ensures)) ∙ not-true _ (c .if1 .taken) in
+    let e : speedFits (s .args .ul) ≡ false = sym (simp (toZ-ofZ, s .fits .ul) at (c .before .speed-fits .ensures))
+    ∙ not-true _ (c .if1 .taken) in
     left-refused _ _ (too-fast (side _ _) e)
 
 -- ---- a left speed within the limits
@@ -37,12 +38,15 @@ returns-2 : tie.Need-returns-2
 unfolding flux
 returns-2 c =
     let s = c .before .before .before .before in
-    let e : speedFits (s .args .ur) ≡ false = sym (simp (toZ-ofZ, s .fits .ur) at (c .before .speed-fits2 .ensures)) ∙ not-true _ (c .if2 .taken) in
+    let e : speedFits (s .args .ur) ≡ false = sym (simp (toZ-ofZ, s .fits .ur) at (c .before .speed-fits2 .ensures))
+    ∙ not-true _ (c .if2 .taken) in
     right-refused _ _ (too-fast (side _ _) e)
 
 -- ---- and a right one
 ur-fits : (c : tie.Else2) → speedFits (c .before .before .before .before .args .ur) ≡ true
-ur-fits c = let s = c .before .before .before .before in sym (simp (toZ-ofZ, s .fits .ur) at (c .before .speed-fits2 .ensures)) ∙ not-false _ (c .if2 .left)
+ur-fits c =
+    let s = c .before .before .before .before in
+    sym (simp (toZ-ofZ, s .fits .ur) at (c .before .speed-fits2 .ensures)) ∙ not-false _ (c .if2 .left)
 
 wave-requires : tie.Need-wave-requires
 wave-requires c κs = search needs
@@ -95,8 +99,10 @@ module _ (c : tie.After-known-told2) where
 carried-requires : tie.Need-carried-requires
 carried-requires c κs =
     let s = start c in
-    rw (toZ-ofZ (s .fits .hl), toZ-ofZ (s .fits .ul), toZ-ofZ (s .fits .hr), toZ-ofZ (s .fits .ur))
-    ((l-sound c, r-sound c), (back64 (second c .before .known-told .given .0 .1) (al-told c .1), back64 (c .known-told2 .given .0 .1) (ar-told c .1)))
+    rw (toZ-ofZ (s .fits .hl), toZ-ofZ (s .fits .ul), toZ-ofZ (s .fits .hr), toZ-ofZ (s .fits .ur)) (
+      (l-sound c, r-sound c),
+      (back64 (second c .before .known-told .given .0 .1) (al-told c .1), back64 (c .known-told2 .given .0 .1) (ar-told c .1)),
+    )
 
 enum-told : tie.Need-enum-told
 enum-told c = search needs
@@ -107,7 +113,8 @@ enum-told-2 c = search needs
 returns-3 : tie.Need-returns-3
 returns-3 c =
     let t = c .before in let s = start t in
-    (simp (toZ-ofZ, s .fits .hl, s .fits .ul, s .fits .hr, s .fits .ur) at (c .carried .ensures)) ∙ sym (face-given _ _ (l-sound t) (r-sound t))
+    (simp (toZ-ofZ, s .fits .hl, s .fits .ul, s .fits .hr, s .fits .ur) at (c .carried .ensures))
+    ∙ sym (face-given _ _ (l-sound t) (r-sound t))
 
 returns-4 : tie.Need-returns-4
 unfolding flux

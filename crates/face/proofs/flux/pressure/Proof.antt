@@ -6,7 +6,8 @@ use Rattle.face.proofs.flux.pressure.Statement.{statement}
 use Rattle.face.proofs.flux.pressure.Tie as tie
 
 abbrev env : tie.Start → List Entry
-env s = entry (s .fits .sl) (s .pre .0 .sL-in) ∷ entry (s .fits .sr) (s .pre .0 .sR-in) ∷ entry (s .fits .hl) (s .pre .1 .0) ∷ entry (s .fits .hr) (s .pre .1 .1) ∷ []
+env s = entry (s .fits .sl) (s .pre .0 .sL-in) ∷ entry (s .fits .sr) (s .pre .0 .sR-in) ∷ entry (s .fits .hl) (s .pre .1 .0)
+    ∷ entry (s .fits .hr) (s .pre .1 .1) ∷ []
 
 abbrev sl : X
 sl = v 0

@@ -15,7 +15,8 @@ use Rattle.face.proofs.flux.right_wave.Statement.{statement}
 use Rattle.face.proofs.flux.right_wave.Tie as tie
 
 abbrev env : tie.Start → List Entry
-env s = entry (s .fits .ul) (s .pre .uL-in) ∷ entry (s .fits .al) (s .pre .aL-in) ∷ entry (s .fits .ur) (s .pre .uR-in) ∷ entry (s .fits .ar) (s .pre .aR-in) ∷ []
+env s = entry (s .fits .ul) (s .pre .uL-in) ∷ entry (s .fits .al) (s .pre .aL-in) ∷ entry (s .fits .ur) (s .pre .uR-in)
+    ∷ entry (s .fits .ar) (s .pre .aR-in) ∷ []
 
 -- ---- over a dry side
 abbrev front : X
@@ -52,13 +53,16 @@ stars s = let p = u-star-size (s .pre) in let q = a-star-size (s .pre) in entry 
 
 module _ (c : tie.After-star-wave) where
   u-is : let p = c .before .before .before .args in c .before .star-speed .result ≡ uStarOf (p .ul) (p .al) (p .ur) (p .ar)
-  u-is = let s = c .before .before .before in simp (toZ-ofZ, s .fits .ul, s .fits .al, s .fits .ur, s .fits .ar) at (c .before .star-speed .ensures)
+  u-is =
+      let s = c .before .before .before in
+      simp (toZ-ofZ, s .fits .ul, s .fits .al, s .fits .ur, s .fits .ar) at (c .before .star-speed .ensures)
 
   a-is : let p = c .before .before .before .args in c .star-wave .result ≡ aStarOf (p .ul) (p .al) (p .ur) (p .ar)
   a-is = let s = c .before .before .before in simp (toZ-ofZ, s .fits .ul, s .fits .al, s .fits .ur, s .fits .ar) at (c .star-wave .ensures)
 
   between : let p = c .before .before .before .args in
-      toZ w64 (ofZ w64 (toZ w64 (ofZ w64 (c .before .star-speed .result)) +ℤ toZ w64 (ofZ w64 (c .star-wave .result)))) ≡ uStarOf (p .ul) (p .al) (p .ur) (p .ar) +ℤ aStarOf (p .ul) (p .al) (p .ur) (p .ar)
+      toZ w64 (ofZ w64 (toZ w64 (ofZ w64 (c .before .star-speed .result)) +ℤ toZ w64 (ofZ w64 (c .star-wave .result))))
+      ≡ uStarOf (p .ul) (p .al) (p .ur) (p .ar) +ℤ aStarOf (p .ul) (p .al) (p .ur) (p .ar)
   between = rw (u-is, a-is) (value (stars (c .before .before .before)) (v 0 ⊕ v 1) tt)
 
 add-greatest-2 : tie.Need-add-greatest-2

@@ -18,10 +18,12 @@ use Rattle.face.proofs.flux.sided.Tie as tie
 top-speed-requires : tie.Need-top-speed-requires
 top-speed-requires c κs = search needs
 
-top-at : (c : tie.After-top-speed) → let p = c .before .args in toZ w64 (ofZ w64 (c .top-speed .result)) ≡ top (side (p .hl) (p .ul)) (side (p .hr) (p .ur)) (p .sl) (p .sr)
+top-at : (c : tie.After-top-speed) → let p = c .before .args in
+    toZ w64 (ofZ w64 (c .top-speed .result)) ≡ top (side (p .hl) (p .ul)) (side (p .hr) (p .ur)) (p .sl) (p .sr)
 top-at c =
     let s = c .before in let p = s .args in
-    back64 (c .top-speed .ok) ((simp (toZ-ofZ, s .fits .sl, s .fits .sr, s .fits .ul, s .fits .ur) at (c .top-speed .ensures)) ∙ top-is (side (p .hl) (p .ul)) (side (p .hr) (p .ur)) (p .sl) (p .sr))
+    back64 (c .top-speed .ok) ((simp (toZ-ofZ, s .fits .sl, s .fits .sr, s .fits .ul, s .fits .ur) at (c .top-speed .ensures))
+    ∙ top-is (side (p .hl) (p .ul)) (side (p .hr) (p .ur)) (p .sl) (p .sr))
 
 alone-requires : tie.Need-alone-requires
 alone-requires c κs = search needs
@@ -30,7 +32,8 @@ returns : tie.Need-returns
 unfolding wet sided
 returns c =
     let t = c .before .before in let s = t .before in
-    rw (simp (toZ-ofZ, s .fits .sl) at (c .before .if1 .taken)) (rw (toZ-ofZ (s .fits .hl), toZ-ofZ (s .fits .ul), top-at t) at (c .alone .ensures))
+    rw (simp (toZ-ofZ, s .fits .sl) at (c .before .if1 .taken))
+    (rw (toZ-ofZ (s .fits .hl), toZ-ofZ (s .fits .ul), top-at t) at (c .alone .ensures))
 
 alone-requires-2 : tie.Need-alone-requires-2
 alone-requires-2 c κs = search needs
@@ -52,15 +55,30 @@ module _ (c : tie.Else2) where
 between-requires : tie.Need-between-requires
 between-requires c κs =
     let s = c .before .before .before in
-    simp (toZ-ofZ, s .fits .hl, s .fits .ul, s .fits .hr, s .fits .ur, s .fits .sl, s .fits .sr)
-    (s .pre .0, record { left = le-no (pos 0) (s .args .sl) (leftward c); right = le-no (s .args .sr) (pos 0) (rightward c); sL-in = s .pre .1 .sL-in; sR-in = s .pre .1 .sR-in })
+    simp (toZ-ofZ, s .fits .hl, s .fits .ul, s .fits .hr, s .fits .ur, s .fits .sl, s .fits .sr) (
+      s .pre .0,
+      record {
+        left = le-no (pos 0) (s .args .sl) (leftward c);
+        right = le-no (s .args .sr) (pos 0) (rightward c);
+        sL-in = s .pre .1 .sL-in;
+        sR-in = s .pre .1 .sR-in;
+      },
+    )
 
 returns-3 : tie.Need-returns-3
 unfolding wet sided
 returns-3 c =
     let e = c .before in let t = e .before .before in let s = t .before in
     rw (leftward e, rightward e)
-    (rw (toZ-ofZ (s .fits .hl), toZ-ofZ (s .fits .ul), toZ-ofZ (s .fits .hr), toZ-ofZ (s .fits .ur), toZ-ofZ (s .fits .sl), toZ-ofZ (s .fits .sr), top-at t) at (c .between .ensures))
+    (rw (
+      toZ-ofZ (s .fits .hl),
+      toZ-ofZ (s .fits .ul),
+      toZ-ofZ (s .fits .hr),
+      toZ-ofZ (s .fits .ur),
+      toZ-ofZ (s .fits .sl),
+      toZ-ofZ (s .fits .sr),
+      top-at t,
+    ) at (c .between .ensures))
 
 pub sided-spec : {M : Type 1} → statement M
 sided-spec =

@@ -7,7 +7,8 @@ use Rattle.face.proofs.flux.star_speed.Statement.{statement}
 use Rattle.face.proofs.flux.star_speed.Tie as tie
 
 abbrev env : tie.Start → List Entry
-env s = entry (s .fits .ul) (s .pre .uL-in) ∷ entry (s .fits .al) (s .pre .aL-in) ∷ entry (s .fits .ur) (s .pre .uR-in) ∷ entry (s .fits .ar) (s .pre .aR-in) ∷ []
+env s = entry (s .fits .ul) (s .pre .uL-in) ∷ entry (s .fits .al) (s .pre .aL-in) ∷ entry (s .fits .ur) (s .pre .uR-in)
+    ∷ entry (s .fits .ar) (s .pre .aR-in) ∷ []
 
 abbrev mean : X
 mean = (v 0 ⊕ v 2) ⊘ k (pos 2)

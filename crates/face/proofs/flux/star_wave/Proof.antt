@@ -9,7 +9,8 @@ use Rattle.face.proofs.flux.star_wave.Statement.{statement}
 use Rattle.face.proofs.flux.star_wave.Tie as tie
 
 abbrev env : tie.Start → List Entry
-env s = entry (s .fits .ul) (s .pre .uL-in) ∷ entry (s .fits .al) (s .pre .aL-in) ∷ entry (s .fits .ur) (s .pre .uR-in) ∷ entry (s .fits .ar) (s .pre .aR-in) ∷ []
+env s = entry (s .fits .ul) (s .pre .uL-in) ∷ entry (s .fits .al) (s .pre .aL-in) ∷ entry (s .fits .ur) (s .pre .uR-in)
+    ∷ entry (s .fits .ar) (s .pre .aR-in) ∷ []
 
 abbrev twice : X
 twice = k (pos 2) ⊗ (v 1 ⊕ v 3)

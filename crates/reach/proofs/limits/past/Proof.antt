@@ -11,7 +11,9 @@ use Rattle.reach.proofs.limits.past.Statement.{statement}
 use Rattle.reach.proofs.limits.past.Tie as tie
 
 sub-result : tie.Need-sub-result
-sub-result c = let s = c .before in rw (toZ-ofZ (s .fits .x)) (flip-fits (s .args .x) (simp (toZ-ofZ, s .fits .x) at (c .if1 .taken)) (s .fits .x .sfits))
+sub-result c =
+    let s = c .before in
+    rw (toZ-ofZ (s .fits .x)) (flip-fits (s .args .x) (simp (toZ-ofZ, s .fits .x) at (c .if1 .taken)) (s .fits .x .sfits))
 
 returns : tie.Need-returns
 returns c =

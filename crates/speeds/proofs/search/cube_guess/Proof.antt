@@ -1,4 +1,5 @@
--- The guess is neither nought nor too large for a turn: a number above nought has a bit set, and the twelve bits from there are below 4,096.
+-- The guess is neither nought nor too large for a turn: a number above nought has a bit set,
+-- and the twelve bits from there are below 4,096.
 use mathlib.Core.Path.{_≡_}
 use Prim.Native.Nat.{ℕ, zero, suc, _+_, _-_, _*_, _/_, _%_, _^_, _≤_, _<_}
 use native.Mathlib.Nat.{mul-le-mul}

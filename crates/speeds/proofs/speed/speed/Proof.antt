@@ -25,7 +25,8 @@ returns : tie.Need-returns
 unfolding speedGiven valueOf
 returns c =
     let t = c .before in let s = t .before in
-    let e : dischargeFits (s .args .q) ≡ false = sym (simp (toZ-ofZ, s .fits .q) at (t .discharge-fits .ensures)) ∙ not-true _ (c .if1 .taken) in
+    let e : dischargeFits (s .args .q) ≡ false = sym (simp (toZ-ofZ, s .fits .q) at (t .discharge-fits .ensures))
+    ∙ not-true _ (c .if1 .taken) in
     rw e
 
 -- ---- a discharge within the limits
@@ -50,7 +51,8 @@ returns-3 : tie.Need-returns-3
 unfolding speedGiven valueOf
 returns-3 c =
     let e = c .before in let s = e .before .before .before .before in
-    rw (q-fits (e .before .before), h-fits e) (ap given (sym (speed-dry dryDepth (s .args .q) (s .args .h) (simp (toZ-ofZ, s .fits .h) at (c .if3 .taken)))))
+    rw (q-fits (e .before .before), h-fits e)
+    (ap given (sym (speed-dry dryDepth (s .args .q) (s .args .h) (simp (toZ-ofZ, s .fits .h) at (c .if3 .taken)))))
 
 -- ---- and water that moves
 abbrev env : tie.Else2 → List Entry
@@ -69,14 +71,17 @@ mul-t5 c = need (env (c .before)) (v 0 ⊗ k (pos 4096)) tt
 
 div-t6 : tie.Need-div-t6
 div-t6 c =
-    let h = c .before .before .before .before .before .args .h in
-    (divisor (env (c .before)) (v 1) tt (le-lt-trans (le-lit (pos 0) dryDepth tt) (le-no h dryDepth (moves c))), need (env (c .before)) rate tt)
+    let h = c .before .before .before .before .before .args .h in (
+      divisor (env (c .before)) (v 1) tt (le-lt-trans (le-lit (pos 0) dryDepth tt) (le-no h dryDepth (moves c))),
+      need (env (c .before)) rate tt,
+    )
 
 returns-4 : tie.Need-returns-4
 unfolding speedGiven valueOf
 returns-4 c =
     let e = c .before in let s = e .before .before .before .before in
-    rw (q-fits (e .before .before), h-fits e) (ap given (value (env e) rate tt ∙ sym (speed-wet dryDepth (s .args .q) (s .args .h) (moves c))))
+    rw (q-fits (e .before .before), h-fits e)
+    (ap given (value (env e) rate tt ∙ sym (speed-wet dryDepth (s .args .q) (s .args .h) (moves c))))
 
 pub speed-spec : {M : Type 1} → statement M
 speed-spec =
