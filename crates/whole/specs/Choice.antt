@@ -7,7 +7,7 @@ use Prim.Native.Nat.{ℕ, suc}
 use native.Mathlib.Omega.{arith}
 use lib.IntN.{ℤ, pos, negsuc, negℤ, natAbs}
 use lib.Signed.{leZ, ltZ, _≤ℤ_, _<ℤ_}
-use Rattle.whole.specs.Flags.{cond-ind, cond-same}
+use Rattle.whole.specs.Flags.{cond-ind}
 use Rattle.whole.specs.Parts.{Within, abs-parts, abs-neg, one-part, le-of, of-le, eq-of}
 use Rattle.whole.specs.Parts.{lt-le, le-refl, le-trans, lt-le-trans, b-range}
 use Rattle.whole.specs.Difference.{at, lit, nlit, ⊖, le!, lt!, eq!, le?, lt?}
@@ -48,14 +48,6 @@ min-most a b c h j = cond-ind (leZ a b) a b (λ x. c ≤ℤ x) (λ e. h) (λ e. 
 
 pub antisym : (a b : ℤ) → a ≤ℤ b → b ≤ℤ a → a ≡ b
 antisym a b h j = eq-of a b (omega (arith, of-le h, of-le j))
-
-pub min-same : (a : ℤ) → minZ a a ≡ a
-unfolding minZ
-min-same a = cond-same (leZ a a) a a a refl refl
-
-pub max-same : (a : ℤ) → maxZ a a ≡ a
-unfolding maxZ
-max-same a = cond-same (leZ a a) a a a refl refl
 
 pub max-none : (a : ℤ) → pos 0 ≤ℤ a → maxZ (pos 0) (negℤ a) ≡ pos 0
 unfolding maxZ

@@ -5,24 +5,23 @@
 -- Where no step can leave i64, which computes (`safe`), the machine has the ideal value.
 --     need ρ e tt : SFits w64 (raw ρ e)             what an operation asks
 --     value ρ e tt : loc ρ e ≡ ideal ρ e            what a local holds
---     result ρ e tt : raw ρ e ≡ ideal ρ e           what an operation gives, whose bits a loop carries on
 --     divisor ρ e tt h : 0 < ofZ w64 (raw ρ e)      where h : pos 0 <ℤ ideal ρ e
---     le-is, lt-is                                  a test of two
+--     lt-is ρ a b tt tt                             a test of two
 -- Assumes nothing.
-use mathlib.Core.Path.{_≡_, refl, sym, _∙_, ap, ap₂, subst}
+use mathlib.Core.Path.{_≡_, refl, sym, _∙_, ap₂, subst}
 use mathlib.Core.List.{List, [], _∷_}
 use mathlib.Core.Bool.{Bool, true, _&&_}
 use Prim.Native.Nat.{ℕ, zero, suc, _+_, _*_, _/_, _^_, _<_}
 use native.Mathlib.Omega.{arith}
 use lib.Dec.{T, ltb, lit≤}
-use lib.IntN.{ℤ, pos, negsuc, negℤ, natAbs, _+ℤ_, _-ℤ_, _*ℤ_}
-use lib.Signed.{mag, natAbs-le, quotZ, leZ, ltZ, _<ℤ_}
+use lib.IntN.{ℤ, pos, negsuc, natAbs, _+ℤ_, _-ℤ_, _*ℤ_}
+use lib.Signed.{mag, natAbs-le, quotZ, ltZ, _<ℤ_}
 use mir.Syntax.{w32, w64}
 use mir.Val.{SFits, toZ, ofZ}
 use mir.ValLaws.{toZ-ofZ}
 use mir.Facts.{sfits-widen}
 use Rattle.whole.specs.Flags.{fst, snd}
-use Rattle.whole.specs.Parts.{Within, b-add, b-sub, b-mul, b-neg, b-lit, fit, of-lt}
+use Rattle.whole.specs.Parts.{Within, b-add, b-sub, b-mul, b-lit, fit, of-lt}
 use Rattle.whole.specs.Quotient.{b-quot, b-quot-by}
 
 -- ---- the machine's number t is z, and z is within A of nought
@@ -48,9 +47,6 @@ g-mul a b = record { same = ap₂ _*ℤ_ (a .same) (b .same); bound = b-mul (a .
 pub g-quot : {A B : ℕ} {t z s y : ℤ} → Got A t z → Got B s y → Got A (quotZ t s) (quotZ z y)
 g-quot {y} a b = record { same = ap₂ quotZ (a .same) (b .same); bound = b-quot y (a .bound) }
 
-pub g-neg : {A : ℕ} {t z : ℤ} → Got A t z → Got A (negℤ t) (negℤ z)
-g-neg a = record { same = ap negℤ (a .same); bound = b-neg (a .bound) }
-
 -- another bound
 pub g-in : {A B : ℕ} {t z : ℤ} → Got A t z → Within B z → Got B t z
 g-in a h = record { same = a .same; bound = h }
@@ -66,21 +62,8 @@ pub bits-pos : {x : ℤ} → pos 0 <ℤ x → 0 < ofZ w64 x
 bits-pos {x = pos n} h = omega (arith, of-lt h)
 bits-pos {x = negsuc n} h = absurd (h .lt)
 
-pub g-divisor : {A : ℕ} {t z : ℤ} → Got A t z → pos 0 <ℤ z → 0 < ofZ w64 t
-g-divisor {t} a h = bits-pos (subst (λ (x : ℤ). pos 0 <ℤ x) (sym (a .same)) h)
-
--- ---- tests
-pub g-le : {A B : ℕ} {t z s y : ℤ} {b : Bool} → Got A t z → Got B s y → leZ t s ≡ b → leZ z y ≡ b
-g-le a b e = sym (ap₂ leZ (a .same) (b .same)) ∙ e
-
 pub g-lt : {A B : ℕ} {t z s y : ℤ} {b : Bool} → Got A t z → Got B s y → ltZ t s ≡ b → ltZ z y ≡ b
 g-lt a b e = sym (ap₂ ltZ (a .same) (b .same)) ∙ e
-
--- a divisor of either sign
-pub bits-ne : {x : ℤ} → SFits w64 x → (x ≡ pos 0 → ⊥) → 0 < ofZ w64 x
-bits-ne {x = pos zero} f h = absurd (h refl)
-bits-ne {x = pos (suc n)} f h = omega arith
-bits-ne {x = negsuc n} f h = omega (arith, f .sfits)
 
 -- ---- expressions of the code, as data
 pub data X : Type 0 where
@@ -203,16 +186,9 @@ pub divisor : (ρ : List Entry) (e : X) → T (safe ρ e) → pos 0 <ℤ ideal �
 divisor ρ e t h = bits-pos (subst (λ (x : ℤ). pos 0 <ℤ x) (sym (raw-got ρ e t .same)) h)
 
 -- a test of two, by its outcome
-module _ (ρ : List Entry) (a b : X) (s : T (safe ρ a)) (t : T (safe ρ b)) where
-  pub le-is : {o : Bool} → leZ (loc ρ a) (loc ρ b) ≡ o → leZ (ideal ρ a) (ideal ρ b) ≡ o
-  le-is e = g-le (got ρ a s) (got ρ b t) e
-
-  pub lt-is : {o : Bool} → ltZ (loc ρ a) (loc ρ b) ≡ o → ltZ (ideal ρ a) (ideal ρ b) ≡ o
-  lt-is e = g-lt (got ρ a s) (got ρ b t) e
-
--- what an operation gives, before it is put into a local
-pub result : (ρ : List Entry) (e : X) → T (safe ρ e) → raw ρ e ≡ ideal ρ e
-result ρ e t = raw-got ρ e t .same
+pub lt-is : (ρ : List Entry) (a b : X) {o : Bool} → T (safe ρ a) → T (safe ρ b)
+    → ltZ (loc ρ a) (loc ρ b) ≡ o → ltZ (ideal ρ a) (ideal ρ b) ≡ o
+lt-is ρ a b s t e = g-lt (got ρ a s) (got ρ b t) e
 
 -- ---- numbers of lent tables, which are i32 and u16: `h` is what the read's `.given` says
 -- a number that the machine wrote and read back

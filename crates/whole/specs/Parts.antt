@@ -6,7 +6,6 @@ use mathlib.Core.Logic.{_⊎_, inl, inr, ⊎-elim}
 use Prim.Native.Nat.{ℕ, zero, suc, _+_, _*_, _-_, _^_, _≤_, _<_}
 use native.Mathlib.Nat as NatL
 use native.Mathlib.Omega.{arith}
-use native.Mathlib.Decide.{decLe}
 use lib.Dec.{T, ltb, leb, ltb→lt, lt→ltb, leb→le, le→leb, nltb→le}
 use lib.IntN.{ℤ, pos, negsuc, subℕ, negℤ, natAbs, _+ℤ_, _-ℤ_, _*ℤ_}
 use mir.Syntax.{w32, w64}
@@ -96,13 +95,6 @@ cross {x} {y} {z} {w} h k =
     let d : ℕ = y - x in
     let e : d + x ≡ y = omega arith in
     subst (λ (t : ℕ). t * z + x * w ≤ t * w + x * z) e (omega (arith, NatL.mul-le-mul-left d k))
-
-le-or′ : (a b : ℤ) → Dec (up a + dn b ≤ up b + dn a) → (a ≤ℤ b) ⊎ (b ≤ℤ a)
-le-or′ a b (yes h) = inl (le-of a b h)
-le-or′ a b (no h) = inr (le-of b a (omega arith))
-
-pub le-or : (a b : ℤ) → (a ≤ℤ b) ⊎ (b ≤ℤ a)
-le-or a b = le-or′ a b (decLe _ _)
 
 -- ---- magnitudes
 pub abs-parts : (a : ℤ) → natAbs a ≡ up a + dn a
@@ -194,10 +186,6 @@ b-nonneg {z} {A} h k = record { abs = omega (arith, of-le h, of-le k, abs-parts 
 
 pub fit32 : {z : ℤ} {A : ℕ} → Within A z → T (ltb A (2 ^ 31)) → SFits w32 z
 fit32 {z} {A} h t = record { sfits = omega (arith, mag-abs z, h .abs, ltb→lt A (2 ^ 31) t) }
-
--- an i32 is an i64
-pub widen : {z : ℤ} → SFits w32 z → SFits w64 z
-widen {z} f = record { sfits = omega (arith, f .sfits) }
 
 pub nat-nonneg : (n : ℕ) → pos 0 ≤ℤ pos n
 nat-nonneg n = le-of (pos 0) (pos n) (omega arith)

@@ -27,14 +27,6 @@ quot-neg (pos (suc n)) (negsuc b) = sym (negℤ-negℤ (pos (suc n / suc b)))
 quot-neg (negsuc n) (pos b) = sym (negℤ-negℤ (pos (suc n / b)))
 quot-neg (negsuc n) (negsuc b) = refl
 
-pub quot-neg-r : (a b : ℤ) → quotZ a (negℤ b) ≡ negℤ (quotZ a b)
-quot-neg-r (pos a) (pos zero) = rw NatL.div-zero
-quot-neg-r (negsuc a) (pos zero) = rw NatL.div-zero
-quot-neg-r (pos a) (pos (suc n)) = refl
-quot-neg-r (negsuc a) (pos (suc n)) = sym (negℤ-negℤ (pos (suc a / suc n)))
-quot-neg-r (pos a) (negsuc n) = sym (negℤ-negℤ (pos (a / suc n)))
-quot-neg-r (negsuc a) (negsuc n) = refl
-
 pub abs-quot-le : (a b : ℤ) → natAbs (quotZ a b) * natAbs b ≤ natAbs a
 abs-quot-le a b = rw abs-quot (NatL.div-mul-le-self (natAbs a) (natAbs b))
 
@@ -131,13 +123,6 @@ half-le N D h D>0 h≥0 m = by (leZ (pos 0) N) up′ down
         let c : q ≤ℤ pos 0 =
         mul-cancel-le q (pos 0) D D>0 (le! (at q ⊠ at D) (lit 0 ⊠ at D) (omega (arith, le? (at q ⊠ at D) (lit 0) b))) in
         le! (lit 2 ⊠ at q) (at h) (omega (arith, of-le c, of-le h≥0))
-
-pub half-ge : (N D h : ℤ) → pos 0 <ℤ D → pos 0 ≤ℤ h → negℤ (h *ℤ D) ≤ℤ (pos 2 *ℤ N) → negℤ h ≤ℤ (pos 2 *ℤ quotZ N D)
-half-ge N D h D>0 h≥0 m =
-    let a : (pos 2 *ℤ quotZ (negℤ N) D) ≤ℤ h =
-    half-le (negℤ N) D h D>0 h≥0 (le! (lit 2 ⊠ ⊖ (at N)) (at h ⊠ at D) (omega (arith, le? (⊖ (at h ⊠ at D)) (lit 2 ⊠ at N) m))) in
-    let b : (pos 2 *ℤ negℤ (quotZ N D)) ≤ℤ h = rw quot-neg at a in
-    le! (⊖ (at h)) (lit 2 ⊠ at (quotZ N D)) (omega (arith, le? (lit 2 ⊠ ⊖ (at (quotZ N D))) (at h) b))
 
 -- halves, truncated: what is lost of two sums can not take a whole number below nought
 pub halves : (h a b : ℤ) → pos 0 ≤ℤ h → pos 0 ≤ℤ (h +ℤ h +ℤ a -ℤ b) → pos 0 ≤ℤ (h +ℤ quotZ a (pos 2) -ℤ quotZ b (pos 2))

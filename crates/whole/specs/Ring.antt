@@ -9,10 +9,8 @@ use Prim.Native.Nat.{ℕ, zero, suc}
 use native.Mathlib.Omega.{arith}
 use lib.Dec.{T, leb, eqb, eqb→eq}
 use lib.IntN.{ℤ, pos, negsuc, negℤ, _+ℤ_, _*ℤ_, +ℤ-idl}
-use lib.Signed.{_≤ℤ_}
 use Rattle.whole.specs.Flags.{fst, snd}
-use Rattle.whole.specs.Parts.{of-le}
-use Rattle.whole.specs.Difference.{at, lit, nlit, _⊞_, _⊟_, ⊖, _⊠_, le!, eq!, eq?}
+use Rattle.whole.specs.Difference.{at, lit, nlit, _⊞_, _⊟_, ⊖, _⊠_, eq!, eq?}
 
 pub data E : Type 0 where
   v : ℕ → E
@@ -203,8 +201,3 @@ zero-of ρ (more (negsuc n) m s) z = absurd z
 pub solve : (ρ : List ℤ) (a b : E) → Zero (flat (a ⊝ b)) → den ρ a ≡ den ρ b
 solve ρ a b z = eq! (at (den ρ a)) (at (den ρ b))
     (omega (arith, eq? (at (den ρ a) ⊟ at (den ρ b)) (lit 0) (sym (flat-sound ρ (a ⊝ b)) ∙ zero-of ρ (flat (a ⊝ b)) z)))
-
--- an order by a certificate: b is a and something that is not negative
-pub by-diff : (ρ : List ℤ) (a b c : E) → pos 0 ≤ℤ den ρ c → Zero (flat (a ⊕ c ⊝ b)) → den ρ a ≤ℤ den ρ b
-by-diff ρ a b c h z =
-    le! (at (den ρ a)) (at (den ρ b)) (omega (arith, of-le h, eq? (at (den ρ a) ⊞ at (den ρ c)) (at (den ρ b)) (solve ρ (a ⊕ c) b z)))

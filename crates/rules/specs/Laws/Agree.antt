@@ -2,7 +2,7 @@
 -- Assumes nothing.
 use mathlib.Core.Path.{_≡_, refl, sym, _∙_, ap, ap₂, subst}
 use mathlib.Core.Bool.{false, cond, _||_}
-use mathlib.Core.List.{[], _∷_, _++_}
+use mathlib.Core.List.{[], _∷_}
 use Prim.Native.Nat.{ℕ, zero, suc, _<_}
 use native.Mathlib.Omega.{arith}
 use lib.Dec.{T, eqb, eqb-refl}
@@ -14,11 +14,9 @@ use Rattle.tables.specs.Some.{some, some-same}
 use Rattle.tables.specs.Cells.{Cell}
 use Rattle.rules.specs.Face.{Side, Flux}
 use Rattle.rules.specs.Reach.{Reach, Call, State, el, er, under, sideL, sideR}
-use Rattle.rules.specs.Stage.{leftEnd, rightEnd, atLeft, atRight, faceRight, faceAt, volume, update, stage}
+use Rattle.rules.specs.Stage.{leftEnd, rightEnd, atLeft, atRight, faceRight, faceAt, update, stage}
 use Rattle.rules.specs.Finishing.{parted, marked, minmod, withRight, withLeft, limited, limit, cut, dried, finish}
-use Rattle.rules.specs.Step.{rubbedCell, rubbed, stageOne, carry, half, joinedCell, joined, next}
-use Rattle.rules.specs.Refusals.{offCell, off, fastCell, fastFriction, fastSide, fastFace, fastPoints, fastGauss, tooLong}
-use Rattle.rules.specs.Refusals.{badCall, badBed, badRough, chk, stageChecks, early, checks, verdict, refusal}
+use Rattle.rules.specs.Refusals.{offCell, off, fastSide, fastFace, fastPoints, fastGauss, tooLong, chk, stageChecks}
 
 abbrev pub Same : Reach → State → State → Type 0
 Same r s t = (i : ℕ) → i < r .n → s i ≡ t i
@@ -98,49 +96,15 @@ module _ (r : Reach) (c : Call) (s t : State) (e : Same r s t) where
         q1 = cond (marked-same i l k) (b k) (e i l k .q1);
       }
 
--- ---- the step
-module _ (r : Reach) (c : Call) (s t : State) (e : Same r s t) where
-  pub finish-same : Same r (finish r c s) (finish r c t)
-  unfolding finish
-  finish-same i l = ap (λ (x : Cell). dried (c .dry) (under r i) (cut (under r i) x)) (limit-same r c s t e i l)
-
-  pub rubbed-same : Same r (rubbed r c s) (rubbed r c t)
-  unfolding rubbed
-  rubbed-same i l = ap (rubbedCell (c .dt) (c .dry) (c .rough i) (under r i)) (e i l)
-
-module _ (r : Reach) (c : Call) (s t : State) (e : Same r s t) where
-  pub stageOne-same : Same r (stageOne r c s) (stageOne r c t)
-  unfolding stageOne
-  stageOne-same = finish-same r c (stage r c (rubbed r c s)) (stage r c (rubbed r c t))
-      (stage-same r c (rubbed r c s) (rubbed r c t) (rubbed-same r c s t e))
-
-  pub carry-same : 0 < r .n → (i : ℕ) → i < suc (r .n) → carry r c s i ≡ carry r c t i
-  unfolding carry
-  carry-same o i l = ap₂ (λ (f g : Flux). half (volume (r .dx) (c .dt) f) (volume (r .dx) (c .dt) g))
-      (faceAt-same r c (rubbed r c s) (rubbed r c t) (rubbed-same r c s t e) o i l)
-      (faceAt-same r c (stageOne r c s) (stageOne r c t) stageOne-same o i l)
-
-  joined-same : Same r (joined r c s) (joined r c t)
-  unfolding joined
-  joined-same i l =
-      ap₂ (λ (x y : Cell). joinedCell x y (carry r c s i) (carry r c s (suc i))) (rubbed-same r c s t e i l)
-      (stage-same r c (stageOne r c s) (stageOne r c t) stageOne-same i l)
-      ∙ ap₂ (joinedCell (rubbed r c t i) (stage r c (stageOne r c t) i)) (carry-same (omega arith) i (omega arith))
-      (carry-same (omega arith) (suc i) (omega arith))
-
-  pub next-same : Same r (next r c s) (next r c t)
-  unfolding next
-  next-same = finish-same r c (joined r c s) (joined r c t) joined-same
+pub finish-same : (r : Reach) (c : Call) (s t : State) → Same r s t → Same r (finish r c s) (finish r c t)
+unfolding finish
+finish-same r c s t e i l = ap (λ (x : Cell). dried (c .dry) (under r i) (cut (under r i) x)) (limit-same r c s t e i l)
 
 -- ---- refusals
 module _ (r : Reach) (c : Call) (o : 0 < r .n) (s t : State) (e : Same r s t) where
   pub off-same : some (off r s) (r .n) ≡ some (off r t) (r .n)
   unfolding off
   off-same = some-same (off r s) (off r t) (r .n) (λ i l. ap (offCell (under r i)) (e i l))
-
-  pub fastFriction-same : some (fastFriction r c s) (r .n) ≡ some (fastFriction r c t) (r .n)
-  unfolding fastFriction
-  fastFriction-same = some-same (fastFriction r c s) (fastFriction r c t) (r .n) (λ i l. ap (fastCell (c .dry) (under r i)) (e i l))
 
   fastFace-at : (i : ℕ) → i < suc (r .n) → fastFace r c s i ≡ fastFace r c t i
   unfolding fastFace
@@ -165,16 +129,3 @@ module _ (r : Reach) (c : Call) (o : 0 < r .n) (s t : State) (e : Same r s t) wh
   pub stageChecks-same : stageChecks r c s ≡ stageChecks r c t
   unfolding stageChecks
   stageChecks-same = λ k. chk 6 (fastFace-same k) ∷ chk 6 (fastGauss-same k) ∷ chk 7 (tooLong-same k) ∷ []
-
-module _ (r : Reach) (c : Call) (o : 0 < r .n) (s t : State) (e : Same r s t) where
-  pub refusal-same : refusal r c s ≡ refusal r c t
-  unfolding refusal checks early
-  refusal-same =
-      let a = off-same r c o s t e in
-      let b = fastFriction-same r c o s t e in
-      let d = stageChecks-same r c o (rubbed r c s) (rubbed r c t) (rubbed-same r c s t e) in
-      let f = off-same r c o (stageOne r c s) (stageOne r c t) (stageOne-same r c s t e) in
-      let g = stageChecks-same r c o (stageOne r c s) (stageOne r c t) (stageOne-same r c s t e) in
-      let h = off-same r c o (next r c s) (next r c t) (next-same r c s t e) in
-      λ k. verdict (chk 2 (badCall r c) ∷ chk 3 (some (λ i. badBed (r .bed i)) (suc (r .n)))
-      ∷ chk 4 (some (λ i. badRough (c .rough i)) (r .n)) ∷ chk 5 (a k) ∷ chk 6 (b k) ∷ d k ++ chk 8 (f k) ∷ g k ++ chk 8 (h k) ∷ [])
