@@ -1,14 +1,14 @@
-use mathlib.Core.List.{List, [], _∷_}
+use mathlib.Core.List.{List}
 use lib.Dec.{lit<}
 use lib.IntN.{pos}
-use Rattle.whole.specs.Machine.{X, v, k, _⊕_, _⊝_, _⊘_, Entry, entry, need, value}
+use Rattle.whole.specs.Machine.{X, v, k, _⊕_, _⊝_, _⊘_, Entry, need, value}
 use Rattle.face.specs.Sides.{uStarOf}
+use Rattle.face.proofs.flux.Waves.{waves}
 use Rattle.face.proofs.flux.star_speed.Statement.{statement}
 use Rattle.face.proofs.flux.star_speed.Tie as tie
 
 abbrev env : tie.Start → List Entry
-env s = entry (s .fits .ul) (s .pre .uL-in) ∷ entry (s .fits .al) (s .pre .aL-in) ∷ entry (s .fits .ur) (s .pre .uR-in)
-    ∷ entry (s .fits .ar) (s .pre .aR-in) ∷ []
+env s = waves (s .pre)
 
 abbrev mean : X
 mean = (v 0 ⊕ v 2) ⊘ k (pos 2)

@@ -1,16 +1,16 @@
-use mathlib.Core.List.{List, [], _∷_}
+use mathlib.Core.List.{List}
 use borrow.Author.Needs.{needs}
 use lib.Dec.{lit<}
 use lib.IntN.{pos}
-use Rattle.whole.specs.Machine.{X, v, k, _⊕_, _⊝_, _⊗_, _⊘_, Entry, entry, need, got, back64}
+use Rattle.whole.specs.Machine.{X, v, k, _⊕_, _⊝_, _⊗_, _⊘_, Entry, need, got, back64}
 use Rattle.reach.specs.Size.{sized}
 use Rattle.face.specs.Sides.{aStarOf}
+use Rattle.face.proofs.flux.Waves.{waves}
 use Rattle.face.proofs.flux.star_wave.Statement.{statement}
 use Rattle.face.proofs.flux.star_wave.Tie as tie
 
 abbrev env : tie.Start → List Entry
-env s = entry (s .fits .ul) (s .pre .uL-in) ∷ entry (s .fits .al) (s .pre .aL-in) ∷ entry (s .fits .ur) (s .pre .uR-in)
-    ∷ entry (s .fits .ar) (s .pre .aR-in) ∷ []
+env s = waves (s .pre)
 
 abbrev twice : X
 twice = k (pos 2) ⊗ (v 1 ⊕ v 3)
