@@ -8,11 +8,12 @@
 --     divisor ρ e tt h : 0 < ofZ w64 (raw ρ e)      where h : pos 0 <ℤ ideal ρ e
 --     lt-is ρ a b tt tt                             a test of two
 -- Assumes nothing.
-use mathlib.Core.Path.{_≡_, refl, sym, _∙_, ap₂, subst}
+use mathlib.Core.Path.{_≡_, refl, sym, _∙_, ap, ap₂, subst}
 use mathlib.Core.List.{List, [], _∷_}
-use mathlib.Core.Bool.{Bool, true, _&&_}
+use mathlib.Core.Bool.{Bool, true, false, not, _&&_}
 use Prim.Native.Nat.{ℕ, zero, suc, _+_, _*_, _/_, _^_, _<_}
 use native.Mathlib.Omega.{arith}
+use borrow.Author.Tests.{not-true, not-false}
 use lib.Dec.{T, ltb, lit≤}
 use lib.IntN.{ℤ, pos, negsuc, natAbs, _+ℤ_, _-ℤ_, _*ℤ_}
 use lib.Signed.{mag, natAbs-le, quotZ, ltZ, _<ℤ_}
@@ -189,6 +190,14 @@ divisor ρ e t h = bits-pos (subst (λ (x : ℤ). pos 0 <ℤ x) (sym (raw-got ρ
 pub lt-is : (ρ : List Entry) (a b : X) {o : Bool} → T (safe ρ a) → T (safe ρ b)
     → ltZ (loc ρ a) (loc ρ b) ≡ o → ltZ (ideal ρ a) (ideal ρ b) ≡ o
 lt-is ρ a b s t e = g-lt (got ρ a s) (got ρ b t) e
+
+-- what a function said of a local, where the code goes on by its negation
+module _ (f : ℤ → Bool) {x : ℤ} {b : Bool} (h : SFits w64 x) (e : b ≡ f (toZ w64 (ofZ w64 x))) where
+  pub said-no : not b ≡ true → f x ≡ false
+  said-no t = sym (e ∙ ap f (toZ-ofZ w64 x h)) ∙ not-true b t
+
+  pub said-yes : not b ≡ false → f x ≡ true
+  said-yes t = sym (e ∙ ap f (toZ-ofZ w64 x h)) ∙ not-false b t
 
 -- ---- numbers of lent tables, which are i32 and u16: `h` is what the read's `.given` says
 -- a number that the machine wrote and read back

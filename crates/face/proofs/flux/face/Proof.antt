@@ -1,10 +1,9 @@
 -- Each refusal is due to a side beyond the limits: a speed, or a depth that has no wave speed. Past all of them the answer is the rule's.
 use mathlib.Core.Path.{_≡_, sym, _∙_}
-use mathlib.Core.Bool.{true, false}
+use mathlib.Core.Bool.{true}
 use mir.Facts.{toZ-ofZ}
 use borrow.Author.Needs.{needs}
-use borrow.Author.Tests.{not-true, not-false}
-use Rattle.whole.specs.Machine.{back64}
+use Rattle.whole.specs.Machine.{said-no, said-yes, back64}
 use Rattle.rules.specs.Face.{wave}
 use Rattle.rules.specs.Laws.Sizes.{Sound}
 use Rattle.speeds.specs.Given.{depthFits, waveGiven}
@@ -22,14 +21,12 @@ speed-fits-requires c κs = search needs
 returns : tie.Need-returns
 unfolding flux
 returns c =
-    let s = c .before .before in
-    let e : speedFits (s .args .ul) ≡ false = sym (simp (toZ-ofZ, s .fits .ul) at (c .before .speed-fits .ensures))
-    ∙ not-true _ (c .if1 .taken) in
-    left-refused _ _ (too-fast (side _ _) e)
+    let t = c .before in
+    left-refused _ _ (too-fast (side _ _) (said-no speedFits (t .before .fits .ul) (t .speed-fits .ensures) (c .if1 .taken)))
 
 -- ---- a left speed within the limits
 ul-fits : (c : tie.Else1) → speedFits (c .before .before .args .ul) ≡ true
-ul-fits c = let s = c .before .before in sym (simp (toZ-ofZ, s .fits .ul) at (c .before .speed-fits .ensures)) ∙ not-false _ (c .if1 .left)
+ul-fits c = said-yes speedFits (c .before .before .fits .ul) (c .before .speed-fits .ensures) (c .if1 .left)
 
 speed-fits-requires-2 : tie.Need-speed-fits-requires-2
 speed-fits-requires-2 c κs = search needs
@@ -37,16 +34,12 @@ speed-fits-requires-2 c κs = search needs
 returns-2 : tie.Need-returns-2
 unfolding flux
 returns-2 c =
-    let s = c .before .before .before .before in
-    let e : speedFits (s .args .ur) ≡ false = sym (simp (toZ-ofZ, s .fits .ur) at (c .before .speed-fits2 .ensures))
-    ∙ not-true _ (c .if2 .taken) in
-    right-refused _ _ (too-fast (side _ _) e)
+    let t = c .before in let s = t .before .before .before in
+    right-refused _ _ (too-fast (side _ _) (said-no speedFits (s .fits .ur) (t .speed-fits2 .ensures) (c .if2 .taken)))
 
 -- ---- and a right one
 ur-fits : (c : tie.Else2) → speedFits (c .before .before .before .before .args .ur) ≡ true
-ur-fits c =
-    let s = c .before .before .before .before in
-    sym (simp (toZ-ofZ, s .fits .ur) at (c .before .speed-fits2 .ensures)) ∙ not-false _ (c .if2 .left)
+ur-fits c = said-yes speedFits (c .before .before .before .before .fits .ur) (c .before .speed-fits2 .ensures) (c .if2 .left)
 
 wave-requires : tie.Need-wave-requires
 wave-requires c κs = search needs

@@ -36,14 +36,14 @@ module _ (c : tie.After-right-wave) where
   sl : let s = c .before .before in toZ w64 (ofZ w64 (c .before .left-wave .result)) ≡ leftWave (l s) (r s)
   sl =
       let s = c .before .before in
-      back64 (c .before .left-wave .ok) ((rw (toZ-ofZ (s .fits .hl), toZ-ofZ (s .fits .ul), al s, toZ-ofZ (s .fits .ur), ar s) at
-      (c .before .left-wave .ensures)) ∙ left-is (l s) (r s))
+      let e = rw (toZ-ofZ (s .fits .hl), toZ-ofZ (s .fits .ul), al s, toZ-ofZ (s .fits .ur), ar s) at (c .before .left-wave .ensures) in
+      back64 (c .before .left-wave .ok) (e ∙ left-is (l s) (r s))
 
   sr : let s = c .before .before in toZ w64 (ofZ w64 (c .right-wave .result)) ≡ rightWave (l s) (r s)
   sr =
       let s = c .before .before in
-      back64 (c .right-wave .ok) ((rw (toZ-ofZ (s .fits .hr), toZ-ofZ (s .fits .ul), al s, toZ-ofZ (s .fits .ur), ar s) at
-      (c .right-wave .ensures)) ∙ right-is (l s) (r s))
+      let e = rw (toZ-ofZ (s .fits .hr), toZ-ofZ (s .fits .ul), al s, toZ-ofZ (s .fits .ur), ar s) at (c .right-wave .ensures) in
+      back64 (c .right-wave .ok) (e ∙ right-is (l s) (r s))
 
 sided-requires : tie.Need-sided-requires
 sided-requires c κs =

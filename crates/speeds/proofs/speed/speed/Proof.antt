@@ -6,10 +6,9 @@ use lib.IntN.{pos}
 use lib.Signed.{leZ}
 use mir.Facts.{toZ-ofZ}
 use borrow.Author.Needs.{needs}
-use borrow.Author.Tests.{not-true, not-false}
 use Rattle.whole.specs.Parts.{b-nonneg, le-lit, le-lt-trans}
 use Rattle.whole.specs.Tests.{le-no}
-use Rattle.whole.specs.Machine.{X, v, k, _⊗_, _⊘_, Entry, entry, need, value, divisor}
+use Rattle.whole.specs.Machine.{X, v, k, _⊗_, _⊘_, Entry, entry, need, value, divisor, said-no, said-yes}
 use Rattle.rules.specs.Limits.{dryDepth}
 use Rattle.rules.specs.Laws.Speeds.{speed-dry, speed-wet}
 use Rattle.speeds.specs.Given.{given, dischargeFits, depthFits, speedGiven}
@@ -23,15 +22,11 @@ discharge-fits-requires c κs = search needs
 
 returns : tie.Need-returns
 unfolding speedGiven valueOf
-returns c =
-    let t = c .before in let s = t .before in
-    let e : dischargeFits (s .args .q) ≡ false = sym (simp (toZ-ofZ, s .fits .q) at (t .discharge-fits .ensures))
-    ∙ not-true _ (c .if1 .taken) in
-    rw e
+returns c = let t = c .before in rw (said-no dischargeFits (t .before .fits .q) (t .discharge-fits .ensures) (c .if1 .taken))
 
 -- ---- a discharge within the limits
 q-fits : (c : tie.Else1) → dischargeFits (c .before .before .args .q) ≡ true
-q-fits c = sym (simp (toZ-ofZ, c .before .before .fits .q) at (c .before .discharge-fits .ensures)) ∙ not-false _ (c .if1 .left)
+q-fits c = said-yes dischargeFits (c .before .before .fits .q) (c .before .discharge-fits .ensures) (c .if1 .left)
 
 depth-fits-requires : tie.Need-depth-fits-requires
 depth-fits-requires c κs = search needs
@@ -39,13 +34,12 @@ depth-fits-requires c κs = search needs
 returns-2 : tie.Need-returns-2
 unfolding speedGiven valueOf
 returns-2 c =
-    let t = c .before in let s = t .before .before .before in
-    let e : depthFits (s .args .h) ≡ false = sym (simp (toZ-ofZ, s .fits .h) at (t .depth-fits .ensures)) ∙ not-true _ (c .if2 .taken) in
-    rw (q-fits (t .before), e)
+    let t = c .before in
+    rw (q-fits (t .before), said-no depthFits (t .before .before .before .fits .h) (t .depth-fits .ensures) (c .if2 .taken))
 
 -- ---- and a depth
 h-fits : (c : tie.Else2) → depthFits (c .before .before .before .before .args .h) ≡ true
-h-fits c = sym (simp (toZ-ofZ, c .before .before .before .before .fits .h) at (c .before .depth-fits .ensures)) ∙ not-false _ (c .if2 .left)
+h-fits c = said-yes depthFits (c .before .before .before .before .fits .h) (c .before .depth-fits .ensures) (c .if2 .left)
 
 returns-3 : tie.Need-returns-3
 unfolding speedGiven valueOf

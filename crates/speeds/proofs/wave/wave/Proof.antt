@@ -1,10 +1,9 @@
 -- The refusal is due to a depth beyond the limits; past it the answer is the rule's.
-use mathlib.Core.Path.{_≡_, sym, _∙_, ap}
-use mathlib.Core.Bool.{true, false}
+use mathlib.Core.Path.{_≡_, ap}
+use mathlib.Core.Bool.{true}
 use mir.Facts.{toZ-ofZ}
 use borrow.Author.Needs.{needs}
-use borrow.Author.Tests.{not-true, not-false}
-use Rattle.whole.specs.Machine.{back64}
+use Rattle.whole.specs.Machine.{said-no, said-yes, back64}
 use Rattle.speeds.specs.Given.{given, depthFits, waveGiven}
 use Rattle.speeds.specs.Answers.{valueOf}
 use Rattle.speeds.proofs.Fits.{depth-in}
@@ -16,13 +15,10 @@ depth-fits-requires c κs = search needs
 
 returns : tie.Need-returns
 unfolding waveGiven valueOf
-returns c =
-    let t = c .before in let s = t .before in
-    let e : depthFits (s .args .h) ≡ false = sym (simp (toZ-ofZ, s .fits .h) at (t .depth-fits .ensures)) ∙ not-true _ (c .if1 .taken) in
-    rw e
+returns c = let t = c .before in rw (said-no depthFits (t .before .fits .h) (t .depth-fits .ensures) (c .if1 .taken))
 
 h-fits : (c : tie.Else1) → depthFits (c .before .before .args .h) ≡ true
-h-fits c = sym (simp (toZ-ofZ, c .before .before .fits .h) at (c .before .depth-fits .ensures)) ∙ not-false _ (c .if1 .left)
+h-fits c = said-yes depthFits (c .before .before .fits .h) (c .before .depth-fits .ensures) (c .if1 .left)
 
 wave-of-requires : tie.Need-wave-of-requires
 wave-of-requires c κs = let s = c .before .before in simp (toZ-ofZ, s .fits .h) (depth-in (s .args .h) (h-fits c))
