@@ -7,7 +7,7 @@ use native.Mathlib.Nat as NatL
 use native.Mathlib.Numerals.{add-one}
 use native.Mathlib.Omega.{arith}
 use native.Mathlib.Decide.{decLe}
-use lib.Dec.{T}
+use lib.Dec.{T, leb, le→leb, leb→le}
 
 -- the largest number below 2 ^ k that passes, added to a
 unfoldable pub bits : (ℕ → Bool) → ℕ → ℕ → ℕ
@@ -67,12 +67,26 @@ pub record IsLargest (P : ℕ → Type 0) (a : ℕ) : Type 0 where
 pub one-largest : {P : ℕ → Type 0} (a b : ℕ) → IsLargest P a → IsLargest P b → a ≡ b
 one-largest a b p q = let h : a ≤ b = q .most a (p .has) in let k : b ≤ a = p .most b (q .has) in omega arith
 
--- of a test that fails from some number on
-pub largest-most : (p : ℕ → Bool) (n : ℕ) → T (p 0) → (T (p (2 ^ n)) → ⊥) → ((a b : ℕ) → a ≤ b → T (p b) → T (p a))
-    → IsLargest (λ a. T (p a)) (largest p n)
-largest-most p n h f down = let k = largest-is p n h f in
-    record { has = k .0; most = λ b t. go b t (decLe b (largest p n)) }
-  where
-    go : (b : ℕ) → T (p b) → Dec (b ≤ largest p n) → b ≤ largest p n
-    go b t (yes l) = l
-    go b t (no l) = absurd (largest-is p n h f .1 (down (suc (largest p n)) b (omega arith) t))
+-- ---- of a function that grows: the largest number at which it is at most m
+module _ (f : ℕ → ℕ) (grows : (a b : ℕ) → a ≤ b → f a ≤ f b) (m : ℕ) where
+  -- no number is larger than a, where it passes m at the next
+  pub at-most : (a b : ℕ) → m < f (suc a) → f b ≤ m → b ≤ a
+  at-most a b high low = go (decLe b a)
+    where
+      go : Dec (b ≤ a) → b ≤ a
+      go (yes l) = l
+      go (no l) = let z : ⊥ = omega (arith, grows (suc a) b (omega arith)) in absurd z
+
+  pub largest-most : (n : ℕ) → f 0 ≤ m → m < f (2 ^ n) → IsLargest (λ a. f a ≤ m) (largest (λ a. leb (f a) m) n)
+  largest-most n low high =
+      let p : ℕ → Bool = (λ a. leb (f a) m) in
+      let k = largest-is p n (le→leb (f 0) m low) (λ t. let z : ⊥ = omega (arith, leb→le (f (2 ^ n)) m t) in z) in
+      let a = largest p n in
+      record {
+        has = leb→le (f a) m (k .0);
+        most = λ b. at-most a b (NatL.lt-of-not-le (λ l. k .1 (le→leb (f (suc a)) m l)));
+      }
+
+  -- so a search that ends at such a number has found it
+  pub found : (a b : ℕ) → IsLargest (λ c. f c ≤ m) b → f a ≤ m → m < f (suc a) → a ≡ b
+  found a b k low high = one-largest a b (record { has = low; most = λ c. at-most a c high }) k
