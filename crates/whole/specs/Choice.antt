@@ -86,11 +86,6 @@ min-neg a b = let m = minZ (negℤ a) (negℤ b) in antisym m (negℤ (maxZ a b)
     (le-neg′ (maxZ a b) m (max-least a b (negℤ m) (le-neg′ m a (min-l (negℤ a) (negℤ b))) (le-neg′ m b (min-r (negℤ a) (negℤ b)))))
     (min-most (negℤ a) (negℤ b) (negℤ (maxZ a b)) (neg-mono a (maxZ a b) (max-l a b)) (neg-mono b (maxZ a b) (max-r a b)))
 
-pub max-neg : (a b : ℤ) → maxZ (negℤ a) (negℤ b) ≡ negℤ (minZ a b)
-max-neg a b = let m = maxZ (negℤ a) (negℤ b) in antisym m (negℤ (minZ a b))
-    (max-least (negℤ a) (negℤ b) (negℤ (minZ a b)) (neg-mono (minZ a b) a (min-l a b)) (neg-mono (minZ a b) b (min-r a b)))
-    (neg-le m (minZ a b) (min-most a b (negℤ m) (neg-le a m (max-l (negℤ a) (negℤ b))) (neg-le b m (max-r (negℤ a) (negℤ b)))))
-
 pub max-comm : (a b : ℤ) → maxZ a b ≡ maxZ b a
 max-comm a b =
     antisym (maxZ a b) (maxZ b a) (max-least a b (maxZ b a) (max-r b a) (max-l b a)) (max-least b a (maxZ a b) (max-r a b) (max-l a b))
