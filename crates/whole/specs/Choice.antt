@@ -72,9 +72,6 @@ size-of a h =
     eq-of (pos (natAbs a)) a (⊎-elim (λ e. omega (arith, abs-parts a, of-le h)) (λ e. omega (arith, abs-parts a, of-le h)) (one-part a))
 
 -- ---- with the signs changed
-neg-le : (a b : ℤ) → negℤ a ≤ℤ b → negℤ b ≤ℤ a
-neg-le a b h = le! (⊖ (at b)) (at a) (omega (arith, le? (⊖ (at a)) (at b) h))
-
 le-neg′ : (a b : ℤ) → a ≤ℤ negℤ b → b ≤ℤ negℤ a
 le-neg′ a b h = le! (at b) (⊖ (at a)) (omega (arith, le? (at a) (⊖ (at b)) h))
 
