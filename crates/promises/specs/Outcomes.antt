@@ -130,7 +130,8 @@ module _ (bed t : List ℤ) (dx : ℕ) where
   at-rest n k =
       record { calm = λ i l. record { q0 = k .mean i l; q1 = k .slope i l }; cell = λ i l. kind i (k .cell i l); level = k .level }
     where
-      kind : (i : ℕ) → ((at t (4 * i) ≡ meanBed bed i) × (at t (4 * i + 1) ≡ bedSlope bed i))
+      kind : (i : ℕ)
+          → ((at t (4 * i) ≡ meanBed bed i) × (at t (4 * i + 1) ≡ bedSlope bed i))
           ⊎ ((at t (4 * i + 1) ≡ pos 0) × (at bed i ≤ℤ at t (4 * i)) × (at bed (suc i) ≤ℤ at t (4 * i)))
           → Dry (under (reachAt bed n dx) i) (cellAt t i) ⊎ Flat (under (reachAt bed n dx) i) (cellAt t i)
       kind i (inl d) = inl (record { mean = d .0; slope = d .1 })

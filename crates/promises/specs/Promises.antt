@@ -145,19 +145,21 @@ module _ (bed : List ℤ) (n dx : ℕ) where
   pub none-below-written : (s : List ℤ) (w v : ℤ) (old m : List ℤ) → Called bed n dx s (Accepted w v) old m → NoneBelow bed m n
   none-below-written s w v old m c = none-below-next (more s m m old w v (pos 0) (pos 0) c (none m)) (none-below-now s w v old m c)
 
+  abbrev Over : List ℤ → ℕ → Type 0
+  Over t k = NoneBelow bed t k × Excess bed t k
+
   -- and no call is refused because one would have been: after an 8 some value is too large, and every depth at or above nought
   pub eight-too-large : (s : List ℤ) (old new : List ℤ) (c : Called bed n dx s (Refused 8) old new)
       → (NoneBelow bed (stageTable (lent c)) n × Excess bed (stageTable (lent c)) n)
       ⊎ (NoneBelow bed (filled (lent c)) n × Excess bed (filled (lent c)) n)
   unfolding stageTable filled
   eight-too-large s old new c = let l = lent c in
-      subst (λ (k : ℕ). (NoneBelow bed (stageTable l) k × Excess bed (stageTable l) k)
-      ⊎ (NoneBelow bed (filled l) k × Excess bed (filled l) k)) (c .cells)
-      (⊎-elim (λ h. inl (both (stageOne (reachOf l) (call c) (cellAt s)) h)) (λ h. inr (both (next (reachOf l) (call c) (cellAt s)) h))
+      subst (λ (k : ℕ). Over (stageTable l) k ⊎ Over (filled l) k) (c .cells) (⊎-elim
+      (λ h. inl (both (stageOne (reachOf l) (call c) (cellAt s)) h))
+      (λ h. inr (both (next (reachOf l) (call c) (cellAt s)) h))
       (eight (reachOf l) lawful (call c) (cellAt s) (refused-later l 8 old new (c .gave) refl)))
     where
-      both : (t : State) → Large (reachOf (lent c)) t → NoneBelow bed (flat (row (length (c .friction)) t)) (length (c .friction))
-          × Excess bed (flat (row (length (c .friction)) t)) (length (c .friction))
+      both : (t : State) → Large (reachOf (lent c)) t → let k = length (c .friction) in Over (flat (row k t)) k
       both t h = (none-below-table bed (length (c .friction)) dx t (h .wet), excess-table bed (length (c .friction)) dx t h)
 
   -- a lake at rest keeps every number of its table, and nothing crosses its ends

@@ -46,8 +46,10 @@ pub record NoneBelow (bed t : List ℤ) (n : ℕ) : Type 0 where
 pub record Excess (bed t : List ℤ) (n : ℕ) : Type 0 where
   pub cell : ℕ
   pub below : cell < n
-  pub large : (deepest <ℤ leftDepth bed t cell) ⊎ ((deepest <ℤ rightDepth bed t cell)
-      ⊎ ((fullest <ℤ sizeZ (at t (4 * cell + 2) -ℤ at t (4 * cell + 3))) ⊎ (fullest <ℤ sizeZ (at t (4 * cell + 2) +ℤ at t (4 * cell + 3)))))
+  pub large : (deepest <ℤ leftDepth bed t cell)
+      ⊎ ((deepest <ℤ rightDepth bed t cell)
+      ⊎ ((fullest <ℤ sizeZ (at t (4 * cell + 2) -ℤ at t (4 * cell + 3)))
+      ⊎ (fullest <ℤ sizeZ (at t (4 * cell + 2) +ℤ at t (4 * cell + 3)))))
 
 -- the finished stage one of a call, written as a table
 unfoldable pub stageTable : Lent → List ℤ
@@ -62,7 +64,8 @@ water bed t (suc n) = water bed t n +ℤ meanDepth bed t n
 pub record Lake (bed t : List ℤ) (n : ℕ) : Type 0 where
   pub mean : (i : ℕ) → i < n → at t (4 * i + 2) ≡ pos 0
   pub slope : (i : ℕ) → i < n → at t (4 * i + 3) ≡ pos 0
-  pub cell : (i : ℕ) → i < n → ((at t (4 * i) ≡ meanBed bed i) × (at t (4 * i + 1) ≡ bedSlope bed i))
+  pub cell : (i : ℕ) → i < n
+      → ((at t (4 * i) ≡ meanBed bed i) × (at t (4 * i + 1) ≡ bedSlope bed i))
       ⊎ ((at t (4 * i + 1) ≡ pos 0) × (at bed i ≤ℤ at t (4 * i)) × (at bed (suc i) ≤ℤ at t (4 * i)))
   pub level : (i : ℕ) → suc i < n → (at t (4 * i) +ℤ at t (4 * i + 1)) ≡ (at t (4 * suc i) -ℤ at t (4 * suc i + 1))
 
