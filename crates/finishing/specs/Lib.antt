@@ -1,7 +1,6 @@
--- Beds and cells as the code holds them, finishing given only what it reads, and its sizes. Then what the public function says.
-pub mod Held
-pub mod Narrow
-pub mod Past
-pub mod Finished
-pub mod Says
-pub mod Fit
+-- When a table cannot be finished, and what the public function says. Then what the functions below it speak by, and what follows.
+pub mod Unfit
+pub mod FinishSays
+pub mod InTable
+pub mod Depths
+pub mod Laws

@@ -7,17 +7,21 @@ mod table;
 
 use crate::range::is_unfit;
 use crate::table::fill;
-ghost use Rattle.finishing.specs.Says.{FinishSays};
+use reach::Call;
+use reach::Cell;
+use reach::Reach;
+ghost use Rattle.finishing.specs.FinishSays.{FinishSays};
 
-// The finished state of the n cells in u over their bed, into the first n places of t. False, and t
-// as it was, where it cannot be worked: n over 1,024 or past the end of t, a bed of another length than n + 1,
-// a jump that is not from 0 to 262,144, a bed value past 1,048,576 or a number past 2^46, either way.
-pub fn finish(u: &[[i64; 4]; 1024], bed: &[i32], jump: i64, n: usize, t: &mut [[i64; 4]]) -> bool
-    ensures { λ r. ⌜ FinishSays n (now (bed .entry)) jump (now (u .entry)) r (now (t .entry)) (now (t .exit)) ⌝ }
+// The finished state of the n cells in u over their bed, into the first n places of t. False, and t as
+// it was, where it cannot be worked: u or t has fewer than n cells, n is over 1,024, the bed is of
+// another length than n + 1, the jump is not from 0 to 262,144, or a bed value is past 1,048,576 or a
+// number past 2^46, either way.
+pub fn finish(u: &[Cell], bed: &[i32], reach: Reach, call: Call, t: &mut [Cell]) -> bool
+    ensures { λ r. ⌜ FinishSays reach call (now (bed .entry)) (now (u .entry)) r (now (t .entry)) (now (t .exit)) ⌝ }
 {
-    if is_unfit(u, bed, jump, n, t.len()) {
+    if is_unfit(u, bed, reach, call, t.len()) {
         return false;
     }
-    fill(u, bed, jump, n, t);
+    fill(u, bed, reach, call, t);
     true
 }

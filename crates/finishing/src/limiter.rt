@@ -1,21 +1,25 @@
-// Marks and the limiter. Every mark and slope is read from the unfinished table.
+// Marks and the limiter. Every mark and slope is read from the unfinished table. None depends on the
+// bed or the friction, so what is said of them holds for any.
+use reach::Call;
+use reach::Cell;
+use reach::Reach;
+use reach::limits::past;
 ghost use mathlib.Core.Path.{_≡_};
-ghost use mathlib.Core.List.{[]};
-ghost use Prim.Native.Nat.{_+_, _≤_, _<_};
-ghost use lib.ListN.{getD};
-ghost use lib.IntN.{pos, _-ℤ_};
-ghost use lib.Signed.{ltZ, _≤ℤ_};
-ghost use Rattle.whole.specs.Parts.{Within};
-ghost use Rattle.whole.specs.Choice.{sizeZ};
+ghost use mathlib.Core.List.{List};
+ghost use Prim.Native.Nat.{ℕ, suc, _<_};
+ghost use lib.ListN.{length};
+ghost use lib.IntN.{ℤ, _-ℤ_};
 ghost use Rattle.tables.specs.Cells.{asCell, asList, seen};
 ghost use Rattle.rules.specs.Reach.{el, er};
-ghost use Rattle.rules.specs.Finishing.{minmod, withRight, withLeft};
-ghost use Rattle.finishing.specs.Held.{Wide, Wides};
-ghost use Rattle.finishing.specs.Narrow.{cellsBy, partedIn, markedIn, limitedIn, limitIn};
+ghost use Rattle.rules.specs.Finishing as rules;
+ghost use Rattle.rules.specs.Refusals as refusals;
+ghost use Rattle.reach.specs.Told.{reachIn, callOn};
+ghost use Rattle.reach.specs.Ranges.{Wide};
+ghost use Rattle.finishing.specs.InTable.{column, InTable};
 
 // The one nearest nought if both are above or both below nought, else 0.
 fn nearest(a: i64, b: i64) -> i64
-    ensures { λ r. ⌜ r ≡ minmod a b ⌝ }
+    ensures { λ r. ⌜ r ≡ rules.minmod a b ⌝ }
 {
     if 0 < a {
         if 0 < b {
@@ -39,98 +43,88 @@ fn nearest(a: i64, b: i64) -> i64
 }
 
 // Do the levels that two neighbours show at their face differ by more than the jump?
-fn jumps(x: [i64; 4], y: [i64; 4], jump: i64) -> bool
+fn jumps(x: Cell, y: Cell, call: Call) -> bool
     requires { ⌜ Wide (asCell x) × Wide (asCell y) ⌝ }
-    requires { ⌜ (pos 0 ≤ℤ jump) × Within 262144 jump ⌝ }
-    ensures { λ r. ⌜ r ≡ ltZ jump (sizeZ (el (asCell y) -ℤ er (asCell x))) ⌝ }
+    ensures { λ r. ⌜ r ≡ refusals.past (call .jump) (el (asCell y) -ℤ er (asCell x)) ⌝ }
 {
-    let d = y[0] - y[1] - (x[0] + x[1]);
-    d < -jump || jump < d
+    past(call.jump, y[0] - y[1] - (x[0] + x[1]))
 }
 
 // Is the inner face right of cell i parted? The last cell has none.
-fn parted(u: &[[i64; 4]; 1024], n: usize, jump: i64, i: usize) -> bool
-    requires { ⌜ (i < n) × (n ≤ 1024) ⌝ }
-    requires { ⌜ Wides n (seen (now u)) ⌝ }
-    requires { ⌜ (pos 0 ≤ℤ jump) × Within 262144 jump ⌝ }
-    ensures { λ r. ⌜ r ≡ partedIn n jump (seen (now (u .entry))) i ⌝ }
+fn parted(u: &[Cell], reach: Reach, call: Call, i: usize) -> bool
+    requires { ⌜ InTable (reach .n) (now u) i ⌝ }
+    ensures { λ r. ⌜ ((bed : List ℤ) (ρ : ℕ → ℤ) → r ≡ rules.parted (reachIn reach bed) (callOn call ρ) (seen (now (u .entry))) i) ⌝ }
 {
-    if i + 1 == n {
+    if i + 1 == reach.n {
         return false;
     }
-    jumps(u[i], u[i + 1], jump)
+    jumps(u[i], u[i + 1], call)
 }
 
 // Is cell i marked: is one of its inner faces parted?
-fn marked(u: &[[i64; 4]; 1024], n: usize, jump: i64, i: usize) -> bool
-    requires { ⌜ (i < n) × (n ≤ 1024) ⌝ }
-    requires { ⌜ Wides n (seen (now u)) ⌝ }
-    requires { ⌜ (pos 0 ≤ℤ jump) × Within 262144 jump ⌝ }
-    ensures { λ r. ⌜ r ≡ markedIn n jump (seen (now (u .entry))) i ⌝ }
+fn marked(u: &[Cell], reach: Reach, call: Call, i: usize) -> bool
+    requires { ⌜ InTable (reach .n) (now u) i ⌝ }
+    ensures { λ r. ⌜ ((bed : List ℤ) (ρ : ℕ → ℤ) → r ≡ rules.marked (reachIn reach bed) (callOn call ρ) (seen (now (u .entry))) i) ⌝ }
 {
     if i == 0 {
-        return parted(u, n, jump, i);
+        return parted(u, reach, call, i);
     }
-    if parted(u, n, jump, i - 1) {
+    if parted(u, reach, call, i - 1) {
         return true;
     }
-    parted(u, n, jump, i)
+    parted(u, reach, call, i)
 }
 
-// A slope against the step from one mean to the next.
-fn against(slope: i64, low: i64, high: i64) -> i64
-    requires { ⌜ Within 70368744177664 low × Within 70368744177664 high ⌝ }
-    ensures { λ r. ⌜ r ≡ minmod slope (high -ℤ low) ⌝ }
-{
-    nearest(slope, high - low)
-}
-
-// The same of cell i and its right neighbour, which the last cell lacks: m is 0 for levels, 2 for
+// A slope against the step from the mean of cell i to that of the next: m is 0 for levels, 2 for
 // discharges.
-fn with_right(u: &[[i64; 4]; 1024], n: usize, m: usize, i: usize, slope: i64) -> i64
-    requires { ⌜ (i < n) × (n ≤ 1024) × (m < 4) ⌝ }
-    requires { ⌜ Wides n (seen (now u)) ⌝ }
-    ensures { λ r. ⌜ r ≡ withRight (cellsBy n) (λ k. getD (getD (now (u .entry)) k []) m (pos 0)) i slope ⌝ }
+fn against(u: &[Cell], m: usize, i: usize, slope: i64) -> i64
+    requires { ⌜ (m < 4) × (suc i < length (now u)) ⌝ }
+    requires { ⌜ Wide (seen (now u) i) × Wide (seen (now u) (suc i)) ⌝ }
+    ensures { λ r. ⌜ r ≡ rules.minmod slope (column (now (u .entry)) m (suc i) -ℤ column (now (u .entry)) m i) ⌝ }
 {
-    if i + 1 == n {
+    nearest(slope, u[i + 1][m] - u[i][m])
+}
+
+// A slope of cell i against its right neighbour, which the last cell lacks.
+fn with_right(u: &[Cell], reach: Reach, m: usize, i: usize, slope: i64) -> i64
+    requires { ⌜ InTable (reach .n) (now u) i × (m < 4) ⌝ }
+    ensures { λ r. ⌜ ((bed : List ℤ) → r ≡ rules.withRight (reachIn reach bed) (column (now (u .entry)) m) i slope) ⌝ }
+{
+    if i + 1 == reach.n {
         return slope;
     }
-    against(slope, u[i][m], u[i + 1][m])
+    against(u, m, i, slope)
 }
 
 // And its left neighbour, which the first cell lacks.
-fn with_left(u: &[[i64; 4]; 1024], n: usize, m: usize, i: usize, slope: i64) -> i64
-    requires { ⌜ (i < n) × (n ≤ 1024) × (m < 4) ⌝ }
-    requires { ⌜ Wides n (seen (now u)) ⌝ }
-    ensures { λ r. ⌜ r ≡ withLeft (λ k. getD (getD (now (u .entry)) k []) m (pos 0)) i slope ⌝ }
+fn with_left(u: &[Cell], reach: Reach, m: usize, i: usize, slope: i64) -> i64
+    requires { ⌜ InTable (reach .n) (now u) i × (m < 4) ⌝ }
+    ensures { λ r. ⌜ r ≡ rules.withLeft (column (now (u .entry)) m) i slope ⌝ }
 {
     if i == 0 {
         return slope;
     }
-    against(slope, u[i - 1][m], u[i][m])
+    against(u, m, i - 1, slope)
 }
 
 // A slope of cell i against the means of the neighbours it has.
-fn limited(u: &[[i64; 4]; 1024], n: usize, m: usize, i: usize, slope: i64) -> i64
-    requires { ⌜ (i < n) × (n ≤ 1024) × (m < 4) ⌝ }
-    requires { ⌜ Wides n (seen (now u)) ⌝ }
-    ensures { λ r. ⌜ r ≡ limitedIn n (λ k. getD (getD (now (u .entry)) k []) m (pos 0)) i slope ⌝ }
+fn limited(u: &[Cell], reach: Reach, m: usize, i: usize, slope: i64) -> i64
+    requires { ⌜ InTable (reach .n) (now u) i × (m < 4) ⌝ }
+    ensures { λ r. ⌜ ((bed : List ℤ) → r ≡ rules.limited (reachIn reach bed) (column (now (u .entry)) m) i slope) ⌝ }
 {
-    with_left(u, n, m, i, with_right(u, n, m, i, slope))
+    with_left(u, reach, m, i, with_right(u, reach, m, i, slope))
 }
 
 // Cell i after the limiter.
-pub fn limit(u: &[[i64; 4]; 1024], n: usize, jump: i64, i: usize) -> [i64; 4]
-    requires { ⌜ (i < n) × (n ≤ 1024) ⌝ }
-    requires { ⌜ Wides n (seen (now u)) ⌝ }
-    requires { ⌜ (pos 0 ≤ℤ jump) × Within 262144 jump ⌝ }
-    ensures { λ r. ⌜ r ≡ asList (limitIn n jump (seen (now (u .entry))) i) ⌝ }
+pub fn limit(u: &[Cell], reach: Reach, call: Call, i: usize) -> Cell
+    requires { ⌜ InTable (reach .n) (now u) i ⌝ }
+    ensures { λ r. ⌜ ((bed : List ℤ) (ρ : ℕ → ℤ) → r ≡ asList (rules.limit (reachIn reach bed) (callOn call ρ) (seen (now (u .entry))) i)) ⌝ }
 {
     let x = u[i];
-    if !marked(u, n, jump, i) {
-        return [x[0], x[1], x[2], x[3]];
+    if !marked(u, reach, call, i) {
+        return x;
     }
-    let e1 = limited(u, n, 0, i, x[1]);
-    let q1 = limited(u, n, 2, i, x[3]);
+    let e1 = limited(u, reach, 0, i, x[1]);
+    let q1 = limited(u, reach, 2, i, x[3]);
     [x[0], e1, x[2], q1]
 }

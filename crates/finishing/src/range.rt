@@ -1,74 +1,54 @@
 // Is what is to be finished too large to be worked on? No stage leaves a table so.
-use crate::table::bed_at;
+use reach::Call;
+use reach::Cell;
+use reach::Reach;
+use reach::bed::Bed;
+use reach::bed::under;
+use reach::limits::CELLS;
+use reach::limits::HIGHEST_BED;
+use reach::limits::LARGEST_JUMP;
+use reach::limits::outside;
+use reach::limits::past;
 ghost use mathlib.Core.Path.{_≡_};
-ghost use Prim.Native.Nat.{_+_, _≤_};
+ghost use Prim.Native.Nat.{_≤_};
 ghost use lib.ListN.{length};
-ghost use Rattle.whole.specs.Parts.{Within};
 ghost use Rattle.tables.specs.Some.{some};
 ghost use Rattle.tables.specs.Cells.{asCell, seen};
-ghost use Rattle.rules.specs.Refusals.{past};
-ghost use Rattle.finishing.specs.Held.{bedOf, bedAt};
-ghost use Rattle.finishing.specs.Says.{largeBed, largeCell, tooLarge, unfit};
+ghost use Rattle.reach.specs.Told.{bedIn, bedAt};
+ghost use Rattle.finishing.specs.Unfit.{largeBed, largeCell, tooLarge, unfit};
 
-const HIGHEST: i64 = 1048576;
 // 2^46: sums of two fit in 64 bits with much to spare.
 const WIDEST: i64 = 70368744177664;
 
-// Is a number past a limit, either way?
-fn is_past(most: i64, x: i64) -> bool
-    requires { ⌜ Within 70368744177664 most ⌝ }
-    ensures { λ r. ⌜ r ≡ past most x ⌝ }
-{
-    if x < -most {
-        return true;
-    }
-    most < x
-}
-
 // Is one of the two values of a bed?
-fn large_bed(zl: i64, zr: i64) -> bool
-    ensures { λ r. ⌜ r ≡ largeBed (bedOf zl zr) ⌝ }
+fn large_bed(b: Bed) -> bool
+    ensures { λ r. ⌜ r ≡ largeBed (bedIn b) ⌝ }
 {
-    if is_past(HIGHEST, zl) {
-        return true;
-    }
-    is_past(HIGHEST, zr)
+    past(HIGHEST_BED, b.zl as i64) || past(HIGHEST_BED, b.zr as i64)
 }
 
 // Is one of the four numbers of a cell?
-fn large_cell(x: [i64; 4]) -> bool
+fn large_cell(x: Cell) -> bool
     ensures { λ r. ⌜ r ≡ largeCell (asCell x) ⌝ }
 {
-    if is_past(WIDEST, x[0]) {
-        return true;
-    }
-    if is_past(WIDEST, x[1]) {
-        return true;
-    }
-    if is_past(WIDEST, x[2]) {
-        return true;
-    }
-    is_past(WIDEST, x[3])
+    past(WIDEST, x[0]) || past(WIDEST, x[1]) || past(WIDEST, x[2]) || past(WIDEST, x[3])
 }
 
 // Is a cell too large, or its bed?
-fn too_large(zl: i64, zr: i64, x: [i64; 4]) -> bool
-    ensures { λ r. ⌜ r ≡ tooLarge (bedOf zl zr) (asCell x) ⌝ }
+fn too_large(b: Bed, x: Cell) -> bool
+    ensures { λ r. ⌜ r ≡ tooLarge (bedIn b) (asCell x) ⌝ }
 {
-    if large_bed(zl, zr) {
-        return true;
-    }
-    large_cell(x)
+    large_bed(b) || large_cell(x)
 }
 
 // Is some cell of the table too large, or its bed?
-fn large_table(u: &[[i64; 4]; 1024], bed: &[i32], n: usize) -> bool
-    requires { ⌜ (n ≤ 1024) × (length (now bed) ≡ n + 1) ⌝ }
+fn large_table(u: &[Cell], bed: &[i32], n: usize) -> bool
+    requires { ⌜ n ≤ length (now u) ⌝ }
     ensures { λ r. ⌜ r ≡ some (λ i. tooLarge (bedAt (now (bed .entry)) i) (seen (now (u .entry)) i)) n ⌝ }
 {
     let mut i: usize = 0;
     while i < n {
-        if too_large(bed_at(bed, i), bed_at(bed, i + 1), u[i]) {
+        if too_large(under(bed, i), u[i]) {
             return true;
         }
         i += 1;
@@ -77,22 +57,23 @@ fn large_table(u: &[[i64; 4]; 1024], bed: &[i32], n: usize) -> bool
 }
 
 // Can the table not be finished: the lengths, the jump, or a number in it?
-pub fn is_unfit(u: &[[i64; 4]; 1024], bed: &[i32], jump: i64, n: usize, room: usize) -> bool
-    ensures { λ r. ⌜ r ≡ unfit n room (now (bed .entry)) jump (seen (now (u .entry))) ⌝ }
+pub fn is_unfit(u: &[Cell], bed: &[i32], reach: Reach, call: Call, room: usize) -> bool
+    ensures { λ r. ⌜ r ≡ unfit reach call (now (bed .entry)) (now (u .entry)) room ⌝ }
 {
+    let n = reach.n;
+    if u.len() < n {
+        return true;
+    }
     if room < n {
         return true;
     }
-    if 1024 < n {
+    if CELLS < n {
         return true;
     }
     if bed.len() != n + 1 {
         return true;
     }
-    if jump < 0 {
-        return true;
-    }
-    if 262144 < jump {
+    if outside(0, LARGEST_JUMP, call.jump) {
         return true;
     }
     large_table(u, bed, n)

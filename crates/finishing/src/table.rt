@@ -2,48 +2,42 @@
 use crate::cell::cut_cell;
 use crate::cell::dried_cell;
 use crate::limiter::limit;
+use reach::Call;
+use reach::Cell;
+use reach::Reach;
+use reach::bed::under;
 ghost use mathlib.Core.Path.{_≡_};
 ghost use mathlib.Core.List.{[]};
-ghost use Prim.Native.Nat.{_+_, _≤_, _<_};
-ghost use lib.ListN.{getD, length};
-ghost use lib.IntN.{pos};
-ghost use lib.Signed.{_≤ℤ_};
-ghost use Rattle.whole.specs.Parts.{Within};
+ghost use Prim.Native.Nat.{ℕ, _≤_};
+ghost use lib.ListN.{length};
+ghost use lib.IntN.{ℤ};
 ghost use Rattle.tables.specs.Rows.{Filled};
 ghost use Rattle.tables.specs.Cells.{asList, seen};
-ghost use Rattle.finishing.specs.Held.{Unfinished};
-ghost use Rattle.finishing.specs.Narrow.{finishIn};
-
-// The bed at face i.
-pub fn bed_at(bed: &[i32], i: usize) -> i64
-    requires { ⌜ i < length (now bed) ⌝ }
-    ensures { λ r. ⌜ r ≡ getD (now (bed .entry)) i (pos 0) ⌝ }
-{
-    bed[i] as i64
-}
+ghost use Rattle.rules.specs.Finishing.{finish};
+ghost use Rattle.reach.specs.Told.{reachIn, callOn, bedAt};
+ghost use Rattle.reach.specs.Ranges.{Ground, AllUnfinished};
+ghost use Rattle.finishing.specs.InTable.{InTable};
 
 // Cell i, finished.
-fn finished(u: &[[i64; 4]; 1024], bed: &[i32], jump: i64, n: usize, i: usize) -> [i64; 4]
-    requires { ⌜ (i < n) × (n ≤ 1024) × (length (now bed) ≡ n + 1) ⌝ }
-    requires { ⌜ Unfinished (now bed) n (seen (now u)) ⌝ }
-    requires { ⌜ (pos 0 ≤ℤ jump) × Within 262144 jump ⌝ }
-    ensures { λ r. ⌜ r ≡ asList (finishIn n (now (bed .entry)) jump (seen (now (u .entry))) i) ⌝ }
+fn finished(u: &[Cell], bed: &[i32], reach: Reach, call: Call, i: usize) -> Cell
+    requires { ⌜ InTable (reach .n) (now u) i × Ground (bedAt (now bed) i) ⌝ }
+    ensures { λ r. ⌜ ((ρ : ℕ → ℤ) → r ≡ asList (finish (reachIn reach (now (bed .entry))) (callOn call ρ) (seen (now (u .entry))) i)) ⌝ }
 {
-    let zl = bed_at(bed, i);
-    let zr = bed_at(bed, i + 1);
-    dried_cell(zl, zr, cut_cell(zl, zr, limit(u, n, jump, i)))
+    let b = under(bed, i);
+    dried_cell(b, cut_cell(b, limit(u, reach, call, i)))
 }
 
 // Every cell of u, finished, into t.
-pub fn fill(u: &[[i64; 4]; 1024], bed: &[i32], jump: i64, n: usize, t: &mut [[i64; 4]])
-    requires { ⌜ (n ≤ 1024) × (length (now bed) ≡ n + 1) × (n ≤ length (now t)) ⌝ }
-    requires { ⌜ Unfinished (now bed) n (seen (now u)) ⌝ }
-    requires { ⌜ (pos 0 ≤ℤ jump) × Within 262144 jump ⌝ }
-    ensures { λ _. ⌜ Filled [] (now (t .entry)) (now (t .exit)) n (λ i. asList (finishIn n (now (bed .entry)) jump (seen (now (u .entry))) i)) ⌝ }
+pub fn fill(u: &[Cell], bed: &[i32], reach: Reach, call: Call, t: &mut [Cell])
+    requires { ⌜ (reach .n ≤ length (now u)) × (reach .n ≤ length (now t)) ⌝ }
+    requires { ⌜ AllUnfinished (now bed) (reach .n) (seen (now u)) ⌝ }
+    ensures { λ _. ⌜ ((ρ : ℕ → ℤ) → Filled [] (now (t .entry)) (now (t .exit)) (reach .n)
+        (λ i. asList (finish (reachIn reach (now (bed .entry))) (callOn call ρ) (seen (now (u .entry))) i))) ⌝ }
 {
+    let n = reach.n;
     let mut i: usize = 0;
     while i < n {
-        t[i] = finished(u, bed, jump, n, i);
+        t[i] = finished(u, bed, reach, call, i);
         i += 1;
     }
 }

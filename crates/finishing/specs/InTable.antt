@@ -1,0 +1,17 @@
+-- One cell of a working table.
+use mathlib.Core.List.{List, []}
+use Prim.Native.Nat.{ℕ, _≤_, _<_}
+use lib.ListN.{length, getD}
+use lib.IntN.{ℤ, pos}
+use Rattle.tables.specs.Cells.{seen}
+use Rattle.reach.specs.Ranges.{Wides}
+
+-- cell i is one of the n of a table, whose numbers are all small enough to be worked on
+pub record InTable (n : ℕ) (u : List (List ℤ)) (i : ℕ) : Type 0 where
+  pub below : i < n
+  pub room : n ≤ length u
+  pub wide : Wides n (seen u)
+
+-- number m of each cell: 0 is the level mean, 2 the discharge mean
+abbrev pub column : List (List ℤ) → ℕ → ℕ → ℤ
+column u m i = getD (getD u i []) m (pos 0)
