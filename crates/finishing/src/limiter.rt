@@ -5,9 +5,9 @@ use reach::Cell;
 use reach::Reach;
 use reach::limits::past;
 ghost use mathlib.Core.Path.{_≡_};
+ghost use mathlib.Core.Bool.{cond};
 ghost use mathlib.Core.List.{List};
 ghost use Prim.Native.Nat.{ℕ, suc, _<_};
-ghost use lib.ListN.{length};
 ghost use lib.IntN.{ℤ, _-ℤ_};
 ghost use Rattle.tables.specs.Cells.{asCell, asList, seen};
 ghost use Rattle.rules.specs.Reach.{el, er};
@@ -15,7 +15,7 @@ ghost use Rattle.rules.specs.Finishing as rules;
 ghost use Rattle.rules.specs.Refusals as refusals;
 ghost use Rattle.reach.specs.Told.{reachIn, callOn};
 ghost use Rattle.reach.specs.Ranges.{Wide};
-ghost use Rattle.finishing.specs.InTable.{column, InTable};
+ghost use Rattle.finishing.specs.InTable.{InTable, Neighbours, column};
 
 // The one nearest nought if both are above or both below nought, else 0.
 fn nearest(a: i64, b: i64) -> i64
@@ -78,8 +78,7 @@ fn marked(u: &[Cell], reach: Reach, call: Call, i: usize) -> bool
 // A slope against the step from the mean of cell i to that of the next: m is 0 for levels, 2 for
 // discharges.
 fn against(u: &[Cell], m: usize, i: usize, slope: i64) -> i64
-    requires { ⌜ (m < 4) × (suc i < length (now u)) ⌝ }
-    requires { ⌜ Wide (seen (now u) i) × Wide (seen (now u) (suc i)) ⌝ }
+    requires { ⌜ Neighbours (now u) i × (m < 4) ⌝ }
     ensures { λ r. ⌜ r ≡ rules.minmod slope (column (now (u .entry)) m (suc i) -ℤ column (now (u .entry)) m i) ⌝ }
 {
     nearest(slope, u[i + 1][m] - u[i][m])
@@ -107,11 +106,14 @@ fn with_left(u: &[Cell], reach: Reach, m: usize, i: usize, slope: i64) -> i64
     against(u, m, i - 1, slope)
 }
 
-// A slope of cell i against the means of the neighbours it has.
-fn limited(u: &[Cell], reach: Reach, m: usize, i: usize, slope: i64) -> i64
+// A slope of cell i, which is set against the means of the neighbours it has where the cell is marked.
+fn limited(u: &[Cell], reach: Reach, mark: bool, m: usize, i: usize, slope: i64) -> i64
     requires { ⌜ InTable (reach .n) (now u) i × (m < 4) ⌝ }
-    ensures { λ r. ⌜ ((bed : List ℤ) → r ≡ rules.limited (reachIn reach bed) (column (now (u .entry)) m) i slope) ⌝ }
+    ensures { λ r. ⌜ ((bed : List ℤ) → r ≡ cond mark (rules.limited (reachIn reach bed) (column (now (u .entry)) m) i slope) slope) ⌝ }
 {
+    if !mark {
+        return slope;
+    }
     with_left(u, reach, m, i, with_right(u, reach, m, i, slope))
 }
 
@@ -121,10 +123,8 @@ pub fn limit(u: &[Cell], reach: Reach, call: Call, i: usize) -> Cell
     ensures { λ r. ⌜ ((bed : List ℤ) (ρ : ℕ → ℤ) → r ≡ asList (rules.limit (reachIn reach bed) (callOn call ρ) (seen (now (u .entry))) i)) ⌝ }
 {
     let x = u[i];
-    if !marked(u, reach, call, i) {
-        return x;
-    }
-    let e1 = limited(u, reach, 0, i, x[1]);
-    let q1 = limited(u, reach, 2, i, x[3]);
+    let mark = marked(u, reach, call, i);
+    let e1 = limited(u, reach, mark, 0, i, x[1]);
+    let q1 = limited(u, reach, mark, 2, i, x[3]);
     [x[0], e1, x[2], q1]
 }

@@ -1,12 +1,21 @@
--- The rules of the limiter by whether a cell is the first.
+-- The rules of the limiter by whether a cell is the first or the last.
 -- Assumes nothing.
 use mathlib.Core.Path.{_≡_, refl, ap}
 use mathlib.Core.Bool.{_||_}
-use Prim.Native.Nat.{ℕ, zero, suc, _-_}
+use mathlib.Core.List.{List}
+use Prim.Native.Nat.{ℕ, zero, suc, _-_, _≤_, _<_}
 use native.Mathlib.Omega.{arith}
+use lib.ListN.{length}
 use lib.IntN.{ℤ, _-ℤ_}
+use Rattle.tables.specs.Cells.{seen}
 use Rattle.rules.specs.Reach.{Reach, Call, State}
 use Rattle.rules.specs.Finishing.{parted, minmod, withLeft, marked}
+use Rattle.reach.specs.Ranges.{Wides}
+use Rattle.finishing.specs.InTable.{Neighbours}
+
+-- cells i and i + 1 share an inner face where cell i is not the last
+pub neighbours : {n i : ℕ} {u : List (List ℤ)} → n ≤ length u → Wides n (seen u) → suc i < n → Neighbours u i
+neighbours {n} {i} room wide h = record { room = omega arith; left = wide i (omega arith); right = wide (suc i) h }
 
 back-one : (i : ℕ) → i ≡ suc i - 1
 back-one i = omega arith
