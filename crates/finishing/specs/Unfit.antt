@@ -15,20 +15,18 @@ use Rattle.reach.specs.declared.Call.{Call}
 use Rattle.reach.specs.Told.{bedAt}
 use Rattle.reach.specs.Ranges.{widest}
 
--- a value of the bed, or a number of the cell, is too large to be worked on
-unfoldable pub largeBed : Bed → Bool
-largeBed b = past highestBed (b .zl) || past highestBed (b .zr)
+-- one of two numbers is past a limit, either way
+unfoldable pub eitherPast : ℤ → ℤ → ℤ → Bool
+eitherPast most x y = past most x || past most y
 
-unfoldable pub largeCell : Cell → Bool
-largeCell x = any (past widest (x .e0) ∷ past widest (x .e1) ∷ past widest (x .q0) ∷ past widest (x .q1) ∷ [])
-
+-- the bed at a face of the cell, or a number of its level or its discharge, is too large to be worked on
 unfoldable pub tooLarge : Bed → Cell → Bool
-tooLarge b x = largeBed b || largeCell x
+tooLarge b x = any (eitherPast highestBed (b .zl) (b .zr) ∷ eitherPast widest (x .e0) (x .e1) ∷ eitherPast widest (x .q0) (x .q1) ∷ [])
 
--- u, or the table with that much room, has fewer than n cells, they are too many, or do not fit their bed; the jump is outside its list; or a number is too large
-unfoldable pub unfit : Reach → Call → List ℤ → List (List ℤ) → ℕ → Bool
-unfit r c bed u room =
-    any (
+-- what hinders finishing: u, or the table with that much room, has fewer than n cells; there are too many; they do not fit their bed;
+-- the jump is outside its list; or a number is too large
+abbrev pub hindrances : Reach → Call → List ℤ → List (List ℤ) → ℕ → List Bool
+hindrances r c bed u room =
     ltb (length u) (r .n)
     ∷ ltb room (r .n)
     ∷ ltb mostCells (r .n)
@@ -36,4 +34,6 @@ unfit r c bed u room =
     ∷ outside (pos 0) largestJump (c .jump)
     ∷ some (λ i. tooLarge (bedAt bed i) (seen u i)) (r .n)
     ∷ []
-    )
+
+unfoldable pub unfit : Reach → Call → List ℤ → List (List ℤ) → ℕ → Bool
+unfit r c bed u room = any (hindrances r c bed u room)

@@ -15,30 +15,29 @@ ghost use lib.ListN.{length};
 ghost use Rattle.tables.specs.Some.{some};
 ghost use Rattle.tables.specs.Cells.{asCell, seen};
 ghost use Rattle.reach.specs.Told.{bedIn, bedAt};
-ghost use Rattle.finishing.specs.Unfit.{largeBed, largeCell, tooLarge, unfit};
+ghost use Rattle.finishing.specs.Unfit.{eitherPast, tooLarge, unfit};
 
 // 2^46: sums of two fit in 64 bits with much to spare.
 const WIDEST: i64 = 70368744177664;
 
-// Is one of the two values of a bed?
-fn large_bed(b: Bed) -> bool
-    ensures { λ r. ⌜ r ≡ largeBed (bedIn b) ⌝ }
+// Is one of two numbers past a limit, either way?
+fn either_past(most: i64, x: i64, y: i64) -> bool
+    ensures { λ r. ⌜ r ≡ eitherPast most x y ⌝ }
 {
-    past(HIGHEST_BED, b.zl as i64) || past(HIGHEST_BED, b.zr as i64)
-}
-
-// Is one of the four numbers of a cell?
-fn large_cell(x: Cell) -> bool
-    ensures { λ r. ⌜ r ≡ largeCell (asCell x) ⌝ }
-{
-    past(WIDEST, x[0]) || past(WIDEST, x[1]) || past(WIDEST, x[2]) || past(WIDEST, x[3])
+    past(most, x) || past(most, y)
 }
 
 // Is a cell too large, or its bed?
 fn too_large(b: Bed, x: Cell) -> bool
     ensures { λ r. ⌜ r ≡ tooLarge (bedIn b) (asCell x) ⌝ }
 {
-    large_bed(b) || large_cell(x)
+    if either_past(HIGHEST_BED, b.zl as i64, b.zr as i64) {
+        return true;
+    }
+    if either_past(WIDEST, x[0], x[1]) {
+        return true;
+    }
+    either_past(WIDEST, x[2], x[3])
 }
 
 // Is some cell of the table too large, or its bed?

@@ -7,10 +7,10 @@ use Prim.Native.Nat.{ℕ, zero, suc, _+_, _≤_}
 use borrow.Author.Tests.{eq-eqb, le-ltb, eqb-true, ltb-false}
 use lib.Dec.{eqb, ltb}
 use lib.ListN.{length, getD}
-use lib.IntN.{ℤ, pos}
+use lib.IntN.{ℤ, pos, natAbs}
 use lib.Signed.{ltZ, _≤ℤ_}
 use Rattle.whole.specs.Flags.{or-l, or-r, not-f}
-use Rattle.whole.specs.Parts.{b-nonneg, range-b}
+use Rattle.whole.specs.Parts.{Within, b-nonneg, range-b}
 use Rattle.whole.specs.Choice.{not-beyond, within-past}
 use Rattle.whole.specs.Tests.{lt-no, no-lt}
 use Rattle.tables.specs.Some.{some, some-none, none-some}
@@ -22,7 +22,7 @@ use Rattle.reach.specs.declared.Reach.{Reach}
 use Rattle.reach.specs.declared.Call.{Call}
 use Rattle.reach.specs.Told.{bedAt}
 use Rattle.reach.specs.Ranges.{UpTo, widest, Unfinished, AllUnfinished}
-use Rattle.finishing.specs.Unfit.{largeBed, largeCell, tooLarge, unfit}
+use Rattle.finishing.specs.Unfit.{eitherPast, tooLarge, hindrances, unfit}
 
 -- ---- a list of tests of which none holds, by place
 none-at : (bs : List Bool) → any bs ≡ false → (k : ℕ) → getD bs k false ≡ false
@@ -31,37 +31,34 @@ none-at [] e k = refl
 none-at (b ∷ bs) e zero = or-l b (any bs) e
 none-at (b ∷ bs) e (suc k) = none-at bs (or-r b (any bs) e) k
 
+-- ---- two numbers within a limit
+both-in : (most : ℕ) (x y : ℤ) → eitherPast (pos most) x y ≡ false → Within most x × Within most y
+unfolding eitherPast
+both-in most x y e =
+    let p = past (pos most) x in let q = past (pos most) y in
+    (within-past most x (or-l p q e), within-past most y (or-r p q e))
+
+in-both : {most : ℕ} {x y : ℤ} → Within most x → Within most y → eitherPast (pos most) x y ≡ false
+unfolding eitherPast
+in-both {most} {x} {y} v w = rw (not-beyond most x v, not-beyond most y w)
+
 -- ---- a cell over its bed
 module _ (b : Bed) (x : Cell) where
-  large-unfinished : tooLarge b x ≡ false → Unfinished b x
-  unfolding tooLarge largeBed largeCell
-  large-unfinished e =
-      let low = or-l (largeBed b) (largeCell x) e in
-      let none = none-at (past widest (x .e0) ∷ past widest (x .e1) ∷ past widest (x .q0) ∷ past widest (x .q1) ∷ [])
-      (or-r (largeBed b) (largeCell x) e) in
-      let zl = past highestBed (b .zl) in let zr = past highestBed (b .zr) in
+  small-enough : tooLarge b x ≡ false → Unfinished b x
+  unfolding tooLarge
+  small-enough e =
+      let none = none-at _ e in
+      let bed = both-in (natAbs highestBed) (b .zl) (b .zr) (none 0) in
+      let level = both-in (natAbs widest) (x .e0) (x .e1) (none 1) in
+      let flow = both-in (natAbs widest) (x .q0) (x .q1) (none 2) in
       record {
-        ground = record { zl = within-past _ (b .zl) (or-l zl zr low); zr = within-past _ (b .zr) (or-r zl zr low) };
-        wide = record {
-          e0 = within-past _ (x .e0) (none 0);
-          e1 = within-past _ (x .e1) (none 1);
-          q0 = within-past _ (x .q0) (none 2);
-          q1 = within-past _ (x .q1) (none 3);
-        };
+        ground = record { zl = bed .0; zr = bed .1 };
+        wide = record { e0 = level .0; e1 = level .1; q0 = flow .0; q1 = flow .1 };
       }
 
-  unfinished-large : Unfinished b x → tooLarge b x ≡ false
-  unfolding tooLarge largeBed largeCell any
-  unfinished-large r =
-      let g = r .ground in let w = r .wide in
-      rw (
-        not-beyond _ (b .zl) (g .zl),
-        not-beyond _ (b .zr) (g .zr),
-        not-beyond _ (x .e0) (w .e0),
-        not-beyond _ (x .e1) (w .e1),
-        not-beyond _ (x .q0) (w .q0),
-        not-beyond _ (x .q1) (w .q1),
-      )
+  not-large : Unfinished b x → tooLarge b x ≡ false
+  unfolding tooLarge any
+  not-large r = let g = r .ground in let w = r .wide in rw (in-both (g .zl) (g .zr), in-both (w .e0) (w .e1), in-both (w .q0) (w .q1))
 
 -- ---- a table, and one with that much room to finish it in
 pub record Workable (reach : Reach) (call : Call) (bed : List ℤ) (u : List (List ℤ)) (room : ℕ) : Type 0 where
@@ -81,9 +78,7 @@ module _ (reach : Reach) (call : Call) (bed : List ℤ) (u : List (List ℤ)) (r
   unfolding unfit
   fit-works e =
       let n = reach .n in let jump = call .jump in
-      let tests = ltb (length u) n ∷ ltb room n ∷ ltb mostCells n ∷ not (eqb (length bed) (n + 1))
-      ∷ outside (pos 0) largestJump jump ∷ some large n ∷ [] in
-      let none = none-at tests e in
+      let none = none-at (hindrances reach call bed u room) e in
       let low = lt-no jump (pos 0) (or-l (ltZ jump (pos 0)) (ltZ largestJump jump) (none 4)) in
       let high = lt-no largestJump jump (or-r (ltZ jump (pos 0)) (ltZ largestJump jump) (none 4)) in
       record {
@@ -93,7 +88,7 @@ module _ (reach : Reach) (call : Call) (bed : List ℤ) (u : List (List ℤ)) (r
         beds = eqb-true (length bed) (n + 1) (not-f (eqb (length bed) (n + 1)) (none 3));
         jump-pos = low;
         jump-in = b-nonneg low high;
-        cells = λ i l. large-unfinished (bedAt bed i) (seen u i) (some-none large n (none 5) i l);
+        cells = λ i l. small-enough (bedAt bed i) (seen u i) (some-none large n (none 5) i l);
       }
 
   pub works-fit : Workable reach call bed u room → unfit reach call bed u room ≡ false
@@ -106,5 +101,5 @@ module _ (reach : Reach) (call : Call) (bed : List ℤ) (u : List (List ℤ)) (r
         eq-eqb (length bed) (reach .n + 1) (w .beds),
         no-lt (call .jump) (pos 0) (w .jump-pos),
         no-lt largestJump (call .jump) (range-b (w .jump-in) .1),
-        none-some large (reach .n) (λ i l. unfinished-large (bedAt bed i) (seen u i) (w .cells i l)),
+        none-some large (reach .n) (λ i l. not-large (bedAt bed i) (seen u i) (w .cells i l)),
       )
