@@ -6,15 +6,14 @@ use Prim.Native.Nat.{ℕ}
 use lib.ListN.{length}
 use lib.IntN.{ℤ}
 use Rattle.tables.specs.Rows.{Filled}
-use Rattle.tables.specs.Cells.{asList, seen}
-use Rattle.rules.specs.Finishing.{finish}
 use Rattle.reach.specs.declared.Reach.{Reach}
 use Rattle.reach.specs.declared.Call.{Call}
-use Rattle.reach.specs.Told.{reachIn, callOn}
 use Rattle.finishing.specs.Unfit.{unfit}
+use Rattle.finishing.specs.FinishedCell.{finishedCell}
 
--- The finished cells stand in the first n places of the table, whatever the friction ρ, which finishing does not read; or, where it cannot be worked, the table is as it was.
-pub record FinishSays (reach : Reach) (call : Call) (bed : List ℤ) (u : List (List ℤ)) (done : Bool) (old new : List (List ℤ)) : Type 0 where
+-- the finished cells in the first n places of the table, at every friction ρ; or, where it cannot be worked, the table as it was
+pub record FinishSays (reach : Reach) (call : Call) (bed : List ℤ) (u : List (List ℤ))
+    (done : Bool) (old new : List (List ℤ)) : Type 0 where
   pub works : done ≡ not (unfit reach call bed u (length old))
-  pub filled : done ≡ true → (ρ : ℕ → ℤ) → Filled [] old new (reach .n) (λ i. asList (finish (reachIn reach bed) (callOn call ρ) (seen u) i))
+  pub filled : done ≡ true → (ρ : ℕ → ℤ) → Filled [] old new (reach .n) (finishedCell reach call bed u ρ)
   pub kept : done ≡ false → new ≡ old

@@ -21,7 +21,8 @@ eitherPast most x y = past most x || past most y
 
 -- the bed at a face of the cell, or a number of its level or its discharge, is too large to be worked on
 unfoldable pub tooLarge : Bed → Cell → Bool
-tooLarge b x = any (eitherPast highestBed (b .zl) (b .zr) ∷ eitherPast widest (x .e0) (x .e1) ∷ eitherPast widest (x .q0) (x .q1) ∷ [])
+tooLarge b x =
+    any (eitherPast highestBed (b .zl) (b .zr) ∷ eitherPast widest (x .e0) (x .e1) ∷ eitherPast widest (x .q0) (x .q1) ∷ [])
 
 -- what hinders finishing: u, or the table with that much room, has fewer than n cells; there are too many; they do not fit their bed;
 -- the jump is outside its list; or a number is too large

@@ -15,7 +15,8 @@ ghost use Rattle.rules.specs.Finishing as rules;
 ghost use Rattle.rules.specs.Refusals as refusals;
 ghost use Rattle.reach.specs.Told.{reachIn, callOn};
 ghost use Rattle.reach.specs.Ranges.{Wide};
-ghost use Rattle.finishing.specs.InTable.{InTable, Neighbours, column};
+ghost use Rattle.finishing.specs.InTable.{InTable, Neighbours};
+ghost use Rattle.finishing.specs.Column.{column};
 
 // The one nearest nought if both are above or both below nought, else 0.
 fn nearest(a: i64, b: i64) -> i64
@@ -120,7 +121,8 @@ fn limited(u: &[Cell], reach: Reach, mark: bool, m: usize, i: usize, slope: i64)
 // Cell i after the limiter.
 pub fn limit(u: &[Cell], reach: Reach, call: Call, i: usize) -> Cell
     requires { ⌜ InTable (reach .n) (now u) i ⌝ }
-    ensures { λ r. ⌜ ((bed : List ℤ) (ρ : ℕ → ℤ) → r ≡ asList (rules.limit (reachIn reach bed) (callOn call ρ) (seen (now (u .entry))) i)) ⌝ }
+    ensures { λ r. ⌜ ((bed : List ℤ) (ρ : ℕ → ℤ) →
+        r ≡ asList (rules.limit (reachIn reach bed) (callOn call ρ) (seen (now (u .entry))) i)) ⌝ }
 {
     let x = u[i];
     let mark = marked(u, reach, call, i);

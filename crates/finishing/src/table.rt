@@ -12,16 +12,16 @@ ghost use Prim.Native.Nat.{ℕ, _≤_};
 ghost use lib.ListN.{length};
 ghost use lib.IntN.{ℤ};
 ghost use Rattle.tables.specs.Rows.{Filled};
-ghost use Rattle.tables.specs.Cells.{asList, seen};
-ghost use Rattle.rules.specs.Finishing.{finish};
-ghost use Rattle.reach.specs.Told.{reachIn, callOn, bedAt};
+ghost use Rattle.tables.specs.Cells.{seen};
+ghost use Rattle.reach.specs.Told.{bedAt};
 ghost use Rattle.reach.specs.Ranges.{Ground, AllUnfinished};
+ghost use Rattle.finishing.specs.FinishedCell.{finishedCell};
 ghost use Rattle.finishing.specs.InTable.{InTable};
 
 // Cell i, finished.
 fn finished(u: &[Cell], bed: &[i32], reach: Reach, call: Call, i: usize) -> Cell
     requires { ⌜ InTable (reach .n) (now u) i × Ground (bedAt (now bed) i) ⌝ }
-    ensures { λ r. ⌜ ((ρ : ℕ → ℤ) → r ≡ asList (finish (reachIn reach (now (bed .entry))) (callOn call ρ) (seen (now (u .entry))) i)) ⌝ }
+    ensures { λ r. ⌜ ((ρ : ℕ → ℤ) → r ≡ finishedCell reach call (now (bed .entry)) (now (u .entry)) ρ i) ⌝ }
 {
     let b = under(bed, i);
     dried_cell(b, cut_cell(b, limit(u, reach, call, i)))
@@ -31,8 +31,8 @@ fn finished(u: &[Cell], bed: &[i32], reach: Reach, call: Call, i: usize) -> Cell
 pub fn fill(u: &[Cell], bed: &[i32], reach: Reach, call: Call, t: &mut [Cell])
     requires { ⌜ (reach .n ≤ length (now u)) × (reach .n ≤ length (now t)) ⌝ }
     requires { ⌜ AllUnfinished (now bed) (reach .n) (seen (now u)) ⌝ }
-    ensures { λ _. ⌜ ((ρ : ℕ → ℤ) → Filled [] (now (t .entry)) (now (t .exit)) (reach .n)
-        (λ i. asList (finish (reachIn reach (now (bed .entry))) (callOn call ρ) (seen (now (u .entry))) i))) ⌝ }
+    ensures { λ _. ⌜ ((ρ : ℕ → ℤ) →
+        Filled [] (now (t .entry)) (now (t .exit)) (reach .n) (finishedCell reach call (now (bed .entry)) (now (u .entry)) ρ)) ⌝ }
 {
     let n = reach.n;
     let mut i: usize = 0;

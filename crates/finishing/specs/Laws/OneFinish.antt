@@ -7,11 +7,9 @@ use Prim.Native.Nat.{ℕ}
 use lib.IntN.{ℤ, pos}
 use Rattle.whole.specs.Flags.{by}
 use Rattle.tables.specs.Rows.{one-filled}
-use Rattle.tables.specs.Cells.{asList, seen}
-use Rattle.rules.specs.Finishing.{finish}
 use Rattle.reach.specs.declared.Reach.{Reach}
 use Rattle.reach.specs.declared.Call.{Call}
-use Rattle.reach.specs.Told.{reachIn, callOn}
+use Rattle.finishing.specs.FinishedCell.{finishedCell}
 use Rattle.finishing.specs.FinishSays.{FinishSays}
 
 pub one-finish : (reach : Reach) (call : Call) (bed : List ℤ) (u : List (List ℤ)) (a b : Bool) (old new new′ : List (List ℤ))
@@ -19,7 +17,7 @@ pub one-finish : (reach : Reach) (call : Call) (bed : List ℤ) (u : List (List 
 one-finish reach call bed u a b old new new′ p q =
     let same : a ≡ b = p .works ∙ sym (q .works) in
     let smooth : ℕ → ℤ = λ i. pos 0 in
-    let cells : ℕ → List ℤ = λ i. asList (finish (reachIn reach bed) (callOn call smooth) (seen u) i) in (
+    let cells = finishedCell reach call bed u smooth in (
       same,
       by a (λ e. one-filled [] old new new′ (reach .n) cells (p .filled e smooth) (q .filled (sym same ∙ e) smooth))
           (λ e. p .kept e ∙ sym (q .kept (sym same ∙ e))),

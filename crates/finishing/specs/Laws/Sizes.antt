@@ -17,7 +17,7 @@ use Rattle.rules.specs.Limits.{highestBed}
 use Rattle.rules.specs.Reach.{Reach, Call, State, Bed, z0, z1, h0, h1}
 use Rattle.rules.specs.Finishing.{minmod, withRight, withLeft, limited, marked, limit, clipped}
 use Rattle.reach.specs.Ranges.{UpTo, widest, Ground, Wide, Unfinished}
-use Rattle.finishing.specs.InTable.{column}
+use Rattle.finishing.specs.Column.{column}
 use Rattle.finishing.specs.Depths.{widestDepth}
 
 -- a number of a wide cell
@@ -36,7 +36,8 @@ minmod-size {A} a b w =
     (λ e. cond-ind (leZ a b) a b (Within A) (λ f. w)
     (λ f. above (lt-yes (pos 0) b (and-r (ltZ (pos 0) a) (ltZ (pos 0) b) e)) (lt-le (le-no a b f))))
     (λ d. cond-ind (ltZ a (pos 0) && ltZ b (pos 0)) (maxZ a b) (pos 0) (Within A)
-    (λ e. cond-ind (leZ a b) b a (Within A) (λ f. below (lt-yes b (pos 0) (and-r (ltZ a (pos 0)) (ltZ b (pos 0)) e)) (le-yes a b f)) (λ f. w))
+    (λ e. cond-ind (leZ a b) b a (Within A)
+    (λ f. below (lt-yes b (pos 0) (and-r (ltZ a (pos 0)) (ltZ b (pos 0)) e)) (le-yes a b f)) (λ f. w))
     (λ e. record { abs = omega arith }))
   where
     above : pos 0 <ℤ b → b ≤ℤ a → Within A b

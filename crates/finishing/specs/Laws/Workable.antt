@@ -1,11 +1,11 @@
 -- What can be finished, by the ranges of its numbers.
 -- Assumes nothing.
 use mathlib.Core.Path.{_≡_, refl}
-use mathlib.Core.Bool.{Bool, false, not}
+use mathlib.Core.Bool.{Bool, false}
 use mathlib.Core.List.{List, [], _∷_}
 use Prim.Native.Nat.{ℕ, zero, suc, _+_, _≤_}
 use borrow.Author.Tests.{eq-eqb, le-ltb, eqb-true, ltb-false}
-use lib.Dec.{eqb, ltb}
+use lib.Dec.{eqb}
 use lib.ListN.{length, getD}
 use lib.IntN.{ℤ, pos, natAbs}
 use lib.Signed.{ltZ, _≤ℤ_}
@@ -13,11 +13,11 @@ use Rattle.whole.specs.Flags.{or-l, or-r, not-f}
 use Rattle.whole.specs.Parts.{Within, b-nonneg, range-b}
 use Rattle.whole.specs.Choice.{not-beyond, within-past}
 use Rattle.whole.specs.Tests.{lt-no, no-lt}
-use Rattle.tables.specs.Some.{some, some-none, none-some}
+use Rattle.tables.specs.Some.{some-none, none-some}
 use Rattle.tables.specs.Cells.{Cell, seen}
 use Rattle.rules.specs.Limits.{mostCells, highestBed, largestJump}
 use Rattle.rules.specs.Reach.{Bed}
-use Rattle.rules.specs.Refusals.{any, outside, past}
+use Rattle.rules.specs.Refusals.{any, past}
 use Rattle.reach.specs.declared.Reach.{Reach}
 use Rattle.reach.specs.declared.Call.{Call}
 use Rattle.reach.specs.Told.{bedAt}

@@ -3,14 +3,13 @@ use mathlib.Core.Path.{_≡_, _∙_, ap₂}
 use mathlib.Core.Bool.{cond}
 use mathlib.Core.List.{[], _∷_}
 use borrow.Author.Needs.{needs}
-use lib.IntN.{pos, natAbs, _+ℤ_, _-ℤ_}
+use lib.IntN.{pos, natAbs, _-ℤ_}
 use Rattle.whole.specs.Machine.{Got, g-add, g-fits, g-back, rd, back, back64}
 use Rattle.tables.specs.Cells.{Cell, asCell}
 use Rattle.rules.specs.Limits.{highestBed}
 use Rattle.rules.specs.Reach.{Bed, z1, h0, h1}
 use Rattle.rules.specs.Finishing.{beyond, clipped, cut}
 use Rattle.reach.specs.Told.{bedIn}
-use Rattle.reach.specs.Ranges.{UpTo}
 use Rattle.finishing.specs.Depths.{widestDepth}
 use Rattle.finishing.specs.Laws.Sizes.{z0-size, z1-size, h0-size, h1-size, clip-size}
 use Rattle.finishing.specs.Laws.Depths.{depth-fits, depth-is}

@@ -59,7 +59,8 @@ nearest-requires c κs = search needs
 returns : tie.Need-returns
 returns c =
     let s = c .before .before .before in
-    back64 (c .nearest .ok) (c .nearest .ensures ∙ ap₂ minmod (toZ-ofZ (s .fits .slope)) (rw (add-one (s .args .i)) (value (env s) rise tt)))
+    back64 (c .nearest .ok) (c .nearest .ensures
+    ∙ ap₂ minmod (toZ-ofZ (s .fits .slope)) (rw (add-one (s .args .i)) (value (env s) rise tt)))
 
 pub against-spec : {M : Type 1} → statement M
 against-spec =

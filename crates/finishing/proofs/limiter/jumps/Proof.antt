@@ -1,6 +1,7 @@
 use mathlib.Core.Path.{_∙_, ap₂}
 use mathlib.Core.List.{List, [], _∷_}
 use borrow.Author.Needs.{needs}
+use native.Mathlib.Omega.{arith}
 use Rattle.whole.specs.Parts.{fit}
 use Rattle.whole.specs.Machine.{X, v, _⊕_, _⊝_, Entry, entry, need, value, back}
 use Rattle.rules.specs.Refusals.{past}
@@ -43,7 +44,7 @@ past-requires c κs = search needs
 returns : tie.Need-returns
 returns c =
     let t = c .before in let s = t .before .before .before .before .before in
-    c .past .ensures ∙ ap₂ past (back {z = s .args .call .jump} (t .struct-told .given .1 .0 .1)) (value (env s) rise tt)
+    c .past .ensures ∙ ap₂ past (back {z = s .args .call .jump} (omega arith)) (value (env s) rise tt)
 
 pub jumps-spec : {M : Type 1} → statement M
 jumps-spec =

@@ -1,7 +1,7 @@
 -- The last cell has no neighbour to its right, and so no inner face there.
 -- Any other is parted from the next where the levels that the two show differ by more than the jump.
 use mathlib.Core.Path.{_≡_, _∙_, ap}
-use Prim.Native.Nat.{ℕ, suc, _+_, _<_}
+use Prim.Native.Nat.{ℕ, suc, _+_}
 use native.Mathlib.Numerals.{add-one}
 use native.Mathlib.Omega.{arith}
 use borrow.Author.Needs.{needs}

@@ -7,7 +7,7 @@ use lib.IntN.{ℤ, _-ℤ_}
 use mir.Facts.{toZ-ofZ}
 use Rattle.whole.specs.Machine.{back64}
 use Rattle.rules.specs.Finishing.{minmod}
-use Rattle.finishing.specs.InTable.{column}
+use Rattle.finishing.specs.Column.{column}
 use Rattle.finishing.specs.Laws.Ends.{neighbours, left-first, left-next}
 use Rattle.finishing.proofs.limiter.with_left.Statement.{statement}
 use Rattle.finishing.proofs.limiter.with_left.Tie as tie

@@ -1,5 +1,5 @@
 use mathlib.Core.Path.{_≡_, _∙_, ap}
-use Prim.Native.Nat.{suc, _<_}
+use Prim.Native.Nat.{suc}
 use native.Mathlib.Omega.{arith}
 use borrow.Author.Needs.{needs}
 use borrow.Author.Tests.{eq-eqb, ne-eqb}
@@ -8,7 +8,7 @@ use lib.IntN.{ℤ, _-ℤ_}
 use mir.Facts.{toZ-ofZ}
 use Rattle.whole.specs.Machine.{back64}
 use Rattle.rules.specs.Finishing.{minmod, withRight}
-use Rattle.finishing.specs.InTable.{column}
+use Rattle.finishing.specs.Column.{column}
 use Rattle.finishing.specs.Laws.Ends.{neighbours}
 use Rattle.finishing.proofs.limiter.with_right.Statement.{statement}
 use Rattle.finishing.proofs.limiter.with_right.Tie as tie

@@ -1,6 +1,7 @@
 use mathlib.Core.Path.{_≡_, sym, _∙_, ap}
 use mathlib.Core.Bool.{Bool}
 use mathlib.Core.List.{List}
+use native.Mathlib.Omega.{arith}
 use borrow.Author.Needs.{needs}
 use borrow.Author.Tests.{eq-eqb, ne-eqb, lt-ltb, le-ltb}
 use denote.Ref.{now}
@@ -39,7 +40,7 @@ jump : (c : tie.After-outside) → let s = c .before .before .before .before .be
     outside (pos 0) largestJump (s .args .call .jump) ≡ c .outside .result
 jump c =
     let t = c .before in let s = t .before .before .before .before .before in
-    sym (c .outside .ensures ∙ ap (outside (pos 0) largestJump) (back {z = s .args .call .jump} (t .struct-told .given .1 .0 .1)))
+    sym (c .outside .ensures ∙ ap (outside (pos 0) largestJump) (back {z = s .args .call .jump} (omega arith)))
 
 -- ---- the answers
 returns : tie.Need-returns

@@ -1,4 +1,5 @@
 use mathlib.Core.Path.{_≡_, sym, _∙_, ap₂}
+use native.Mathlib.Omega.{arith}
 use borrow.Author.Needs.{needs}
 use Rattle.whole.specs.Flags.{or-last}
 use Rattle.whole.specs.Machine.{back, widens, widened}
@@ -18,10 +19,10 @@ abbrev cell : tie.After-either-past → Cell
 cell c = asCell (start c .args .t2)
 
 cast-either-past : tie.Need-cast-either-past
-cast-either-past c = widens (c .before .before .args .b .zl) (c .struct-told .given .0 .1)
+cast-either-past c = widens (c .before .before .args .b .zl) (omega arith)
 
 cast-either-past-2 : tie.Need-cast-either-past-2
-cast-either-past-2 c = widens (c .before .before .before .before .args .b .zr) (c .struct-told2 .given .1 .0 .1)
+cast-either-past-2 c = widens (c .before .before .before .before .args .b .zr) (omega arith)
 
 either-past-requires : tie.Need-either-past-requires
 either-past-requires c κs = search needs
@@ -29,8 +30,8 @@ either-past-requires c κs = search needs
 -- what the test of the bed says,
 ground : (c : tie.After-either-past) → let b = start c .args .b in eitherPast highestBed (b .zl) (b .zr) ≡ c .either-past .result
 ground c =
-    let g = c .before .struct-told2 .given in
-    sym (c .either-past .ensures ∙ ap₂ (eitherPast highestBed) (widened (g .0 .1)) (widened (g .1 .0 .1)))
+    let b = start c .args .b in
+    sym (c .either-past .ensures ∙ ap₂ (eitherPast highestBed) (widened {z = b .zl} (omega arith)) (widened {z = b .zr} (omega arith)))
 
 returns : tie.Need-returns
 unfolding tooLarge any

@@ -1,5 +1,5 @@
 use mathlib.Core.Path.{_≡_, refl, subst}
-use mathlib.Core.List.{List, []}
+use mathlib.Core.List.{[]}
 use Prim.Native.Nat.{ℕ, _≤_, _<_, _-_}
 use native.Mathlib.Omega.{arith}
 use borrow.Author.Needs.{needs}
@@ -7,19 +7,13 @@ use denote.Ref.{now}
 use lib.ListN.{length, length-set}
 use lib.IntN.{ℤ}
 use Rattle.tables.specs.Rows.{Filled, filled-none, filled-more}
-use Rattle.tables.specs.Cells.{asList, seen}
-use Rattle.rules.specs.Finishing.{finish}
-use Rattle.reach.specs.declared.Reach.{Reach}
-use Rattle.reach.specs.declared.Call.{Call}
-use Rattle.reach.specs.Told.{reachIn, callOn}
+use Rattle.finishing.specs.FinishedCell.{finishedCell}
 use Rattle.finishing.proofs.table.fill.Statement.{statement}
 use Rattle.finishing.proofs.table.fill.Tie as tie
 
-abbrev last : List (List ℤ) → List ℤ → Reach → Call → (ℕ → ℤ) → ℕ → List ℤ
-last u bed reach call ρ i = asList (finish (reachIn reach bed) (callOn call ρ) (seen u) i)
-
 abbrev Inv-loop : tie.InvT-loop
-Inv-loop u bed reach call t₀ n i₀ t i = (i ≤ reach .n) × (length t ≡ length t₀) × ((ρ : ℕ → ℤ) → Filled [] t₀ t i (last u bed reach call ρ))
+Inv-loop u bed reach call t₀ n i₀ t i =
+    (i ≤ reach .n) × (length t ≡ length t₀) × ((ρ : ℕ → ℤ) → Filled [] t₀ t i (finishedCell reach call bed u ρ))
 
 abbrev μ-loop : tie.MeasureT-loop
 μ-loop u bed reach call t₀ n i₀ t i = reach .n - i
@@ -57,7 +51,7 @@ returns : tie.Need-returns Inv-loop μ-loop
 returns c =
     let l = c .before .loop in let s = c .before .before in
     let e : l .i ≡ s .args .reach .n = omega arith in
-    let cells = last (now (s .args .u)) (now (s .args .bed)) (s .args .reach) (s .args .call) in
+    let cells = finishedCell (s .args .reach) (s .args .call) (now (s .args .bed)) (now (s .args .u)) in
     λ ρ. subst (λ (m : ℕ). Filled [] (now (s .args .t)) (l .t) m (cells ρ)) e (l .inv .2 ρ)
 
 pub fill-spec : {M : Type 1} → statement M
