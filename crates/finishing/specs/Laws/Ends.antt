@@ -1,10 +1,13 @@
 -- The rules of the limiter by whether a cell is the first or the last.
 -- Assumes nothing.
-use mathlib.Core.Path.{_≡_, refl, ap}
-use mathlib.Core.Bool.{_||_}
+use mathlib.Core.Path.{_≡_, refl, sym, _∙_, ap}
+use mathlib.Core.Bool.{true, false, _||_}
 use mathlib.Core.List.{List}
-use Prim.Native.Nat.{ℕ, zero, suc, _-_, _≤_, _<_}
+use Prim.Native.Nat.{ℕ, zero, suc, _+_, _-_, _≤_, _<_}
+use native.Mathlib.Numerals.{add-one}
 use native.Mathlib.Omega.{arith}
+use borrow.Author.Tests.{eq-eqb, ne-eqb}
+use lib.Dec.{eqb}
 use lib.ListN.{length}
 use lib.IntN.{ℤ, _-ℤ_}
 use Rattle.tables.specs.Cells.{seen}
@@ -13,14 +16,22 @@ use Rattle.rules.specs.Finishing.{parted, minmod, withLeft, marked}
 use Rattle.reach.specs.Ranges.{Wides}
 use Rattle.finishing.specs.InTable.{Neighbours}
 
--- cells i and i + 1 share an inner face where cell i is not the last
+-- ---- the last of n cells, as the code asks and as the rules do
+module _ (i : ℕ) {n : ℕ} where
+  pub is-last : i + 1 ≡ n → eqb (suc i) n ≡ true
+  is-last e = eq-eqb (suc i) n (sym (add-one i) ∙ e)
+
+  pub not-last : (i + 1 ≡ n → ⊥) → eqb (suc i) n ≡ false
+  not-last f = ne-eqb (suc i) n (λ e. f (add-one i ∙ e))
+
+-- any other shares an inner face with the next
 pub neighbours : {n i : ℕ} {u : List (List ℤ)} → n ≤ length u → Wides n (seen u) → suc i < n → Neighbours u i
 neighbours {n} {i} room wide h = record { room = omega arith; left = wide i (omega arith); right = wide (suc i) h }
 
+-- ---- the first cell, and one that has a cell before it
 back-one : (i : ℕ) → i ≡ suc i - 1
 back-one i = omega arith
 
--- a limited slope
 pub left-first : (m : ℕ → ℤ) (i : ℕ) (x : ℤ) → i ≡ 0 → withLeft m i x ≡ x
 unfolding withLeft
 left-first m zero x e = refl
@@ -31,7 +42,6 @@ unfolding withLeft
 left-next m zero x f = absurd (f refl)
 left-next m (suc i) x f = ap (λ (j : ℕ). minmod x (m (suc j) -ℤ m j)) (back-one i)
 
--- a mark
 module _ (r : Reach) (c : Call) (s : State) where
   pub marked-first : (i : ℕ) → i ≡ 0 → marked r c s i ≡ parted r c s i
   unfolding marked

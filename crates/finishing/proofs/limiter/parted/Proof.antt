@@ -1,17 +1,17 @@
 -- The last cell has no neighbour to its right, and so no inner face there.
 -- Any other is parted from the next where the levels that the two show differ by more than the jump.
-use mathlib.Core.Path.{_≡_, _∙_, ap}
-use Prim.Native.Nat.{ℕ, suc, _+_}
+use mathlib.Core.Path.{_∙_}
+use Prim.Native.Nat.{_+_}
 use native.Mathlib.Numerals.{add-one}
 use native.Mathlib.Omega.{arith}
 use borrow.Author.Needs.{needs}
-use borrow.Author.Tests.{eq-eqb, ne-eqb}
 use denote.Ref.{now}
 use lib.IntN.{_-ℤ_}
 use Rattle.tables.specs.Cells.{seen}
 use Rattle.rules.specs.Reach.{el, er}
 use Rattle.rules.specs.Finishing.{parted}
 use Rattle.rules.specs.Refusals.{past}
+use Rattle.finishing.specs.Laws.Ends.{is-last, not-last}
 use Rattle.finishing.proofs.limiter.parted.Statement.{statement}
 use Rattle.finishing.proofs.limiter.parted.Tie as tie
 
@@ -20,10 +20,7 @@ add-if1 c = search needs
 
 returns : tie.Need-returns
 unfolding parted
-returns c =
-    let s = c .before .before in
-    let e : suc (s .args .i) ≡ s .args .reach .n = omega arith in
-    λ bed ρ. rw (eq-eqb _ _ e)
+returns c = λ bed ρ. rw (is-last (c .before .before .args .i) (c .if1 .taken))
 
 mul-jumps : tie.Need-mul-jumps
 mul-jumps c = search needs
@@ -48,10 +45,8 @@ jumps-requires c κs =
 returns-2 : tie.Need-returns-2
 unfolding parted
 returns-2 c =
-    let s = c .before .before .before .before .before in
-    let u = seen (now (s .args .u)) in let i = s .args .i in
-    let e : suc i ≡ s .args .reach .n → ⊥ = λ z. let y : suc i ≡ s .args .reach .n = z in omega arith in
-    λ bed ρ. rw (ne-eqb _ _ e) (c .jumps .ensures ∙ ap (λ (j : ℕ). past (s .args .call .jump) (el (u j) -ℤ er (u i))) (add-one i))
+    let e = c .before .before .before in let s = e .before .before in let u = seen (now (s .args .u)) in let i = s .args .i in
+    λ bed ρ. rw (not-last i (e .if1 .left)) (c .jumps .ensures ∙ (λ x. past (s .args .call .jump) (el (u (add-one i x)) -ℤ er (u i))))
 
 pub parted-spec : {M : Type 1} → statement M
 parted-spec =
