@@ -17,7 +17,7 @@ ghost use Rattle.tables.specs.Cells.{asCell, seen};
 ghost use Rattle.reach.specs.Told.{bedIn, bedAt};
 ghost use Rattle.finishing.specs.Unfit.{eitherPast, tooLarge, unfit};
 
-// 2^46: sums of two fit in 64 bits with much to spare.
+// 2^46, `widest` in contracts: sums of a few such numbers fit in 64 bits with much to spare.
 const WIDEST: i64 = 70368744177664;
 
 // Is one of two numbers past a limit, either way?

@@ -13,7 +13,7 @@ is-unfit-requires : tie.Need-is-unfit-requires
 is-unfit-requires c κs = search needs
 
 returns : tie.Need-returns
-returns c = record { works = sym (ap not (sym (c .before .is-unfit .ensures) ∙ c .if1 .taken)); filled = λ e. clash e; kept = λ e. refl }
+returns c = record { works = ap not (sym (c .if1 .taken) ∙ c .before .is-unfit .ensures); filled = λ e. clash e; kept = λ e. refl }
 
 fill-requires : tie.Need-fill-requires
 fill-requires c κs =
@@ -28,7 +28,7 @@ returns-2 : tie.Need-returns-2
 returns-2 c =
     let f = c .before in let e = f .before .before in
     record {
-      works = sym (ap not (sym (e .before .is-unfit .ensures) ∙ e .if1 .left));
+      works = ap not (sym (e .if1 .left) ∙ e .before .is-unfit .ensures);
       filled = λ y. f .fill .ensures;
       kept = λ y. clash (sym y);
     }
