@@ -27,13 +27,32 @@ need_c() {
     fi
 }
 
-# Builds target/libbassoonsun.a; what rt says is shown only where it fails.
+# Of what rt says, read from standard input, shows each crate that had to be proved, with its time. rt proves the
+# last one, editor, in every build and gives no time for it: it is shown where another was, or where $1 is not empty.
+show_proved() {
+    local line shown=$1 since=$SECONDS
+    while IFS= read -r line; do
+        case $line in
+            "rt: "*" proved (unchanged "*) ;;
+            "rt: "*" proved ("*) echo "${line#rt: }"; shown=yes since=$SECONDS ;;
+            "rt: target/staticlib/"*) [ -z "$shown" ] || echo "editor proved ($((SECONDS - since)) s)" ;;
+        esac
+    done
+}
+
+# Builds target/libbassoonsun.a and shows on standard error what is proved for it; nothing, where nothing has changed.
+# All that rt says is kept in target/staticlib.log, and is shown where it fails.
 build_library() {
+    local library=$root/target/libbassoonsun.a said=$root/target/staticlib.log changed=''
     command -v rt >/dev/null 2>&1 || { echo "the Rattle toolchain's command rt is not on PATH" >&2; exit 2; }
     mkdir -p "$root/target"
-    (cd "$root" && rt staticlib editor) >"$root/target/staticlib.log" 2>&1 ||
-        { cat "$root/target/staticlib.log" >&2; echo "rt staticlib editor failed" >&2; exit 2; }
-    cp "$root/target/staticlib/libeditor.a" "$root/target/libbassoonsun.a" || exit 2
+    if [ ! -f "$library" ] || [ -n "$(find "$root/crates" "$root/crates.txt" -newer "$library" -print -quit)" ]; then
+        changed=yes
+        echo "building target/libbassoonsun.a; what has changed is proved first (from nothing, some minutes)" >&2
+    fi
+    (cd "$root" && rt staticlib editor) 2>&1 | tee "$said" | show_proved "$changed" >&2
+    [ "${PIPESTATUS[0]}" -eq 0 ] || { cat "$said" >&2; echo "rt staticlib editor failed" >&2; exit 2; }
+    cp "$root/target/staticlib/libeditor.a" "$library" || exit 2
 }
 
 # Compiles the C file $1 and links it with the library, as $2; more arguments go to the compiler.
