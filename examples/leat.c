@@ -6,8 +6,10 @@
  * N is the time step in 1/4096 s; with 500 the first step is refused, and the run says why and
  * what to change. With a file, the section is also written there as a picture. The exit status is 0
  * when every step was accepted, every unit of water was found again and the picture, where one is
- * asked for, was written. */
+ * asked for, was written; 1 when not; 2 when the words above are not understood. */
 #include <bassoonsun.h>
+#include <ctype.h>
+#include <errno.h>
 #include <stdio.h>
 #include <stdlib.h>
 #include <string.h>
@@ -203,18 +205,38 @@ static int run(Leat *leat)
     return 0;
 }
 
+/* Reads a whole number that fits the library's 32 bits; gives 0 where the word is no such number. Which of
+ * them are a time step is for the library to say. */
+static int read_number(const char *word, uint32_t *number)
+{
+    char *end;
+    errno = 0;
+    unsigned long long value = strtoull(word, &end, 10);
+    if (!isdigit((unsigned char)word[0]) || *end != '\0' || errno != 0 || value > UINT32_MAX)
+        return 0;
+    *number = (uint32_t)value;
+    return 1;
+}
+
+static int usage(void)
+{
+    fputs("use: leat [--dt N] [FILE.svg]   (N, a whole number, is the time step in 1/4096 s)\n", stderr);
+    return 2;
+}
+
 int main(int argc, char **argv)
 {
     static Leat leat;
     const char *picture = NULL;
     leat.dt = TIME_STEP;
     for (int i = 1; i < argc; i++)
-        if (strcmp(argv[i], "--dt") == 0 && i + 1 < argc)
-            leat.dt = (uint32_t)strtoul(argv[++i], NULL, 10);
-        else if (argv[i][0] != '-' && picture == NULL)
-            picture = argv[i];
+        if (strcmp(argv[i], "--dt") == 0) {
+            if (++i == argc || !read_number(argv[i], &leat.dt))
+                return usage();
+        } else if (argv[i][0] == '-' || picture != NULL)
+            return usage();
         else
-            return fputs("use: leat [--dt N] [FILE.svg]\n", stderr), 2;
+            picture = argv[i];
     fill(&leat);
     if (run(&leat) != 0)
         return 1;
