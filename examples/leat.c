@@ -133,10 +133,12 @@ static void draw(const Leat *leat)
 {
     puts("\n  m  # bed   - level before   ~ level after   = both");
     for (int line = LINES - 1; line >= 0; line--) {
-        printf("%5.3f ", (double)line * LINE_HEIGHT / METRE);
+        char signs[CELLS];
+        int drawn = 0; /* so many signs go as far as the last that is not blank */
         for (int i = 0; i < CELLS; i++)
-            putchar(sign(leat, line, i));
-        putchar('\n');
+            if ((signs[i] = sign(leat, line, i)) != ' ')
+                drawn = i + 1;
+        printf("%5.3f%s%.*s\n", (double)line * LINE_HEIGHT / METRE, drawn > 0 ? " " : "", drawn, signs);
     }
     printf("      0 m%*d m\n", CELLS - 5, CELLS * CELL_LENGTH / METRE);
 }
@@ -156,14 +158,48 @@ static void levels(FILE *out, const Cell *cells)
     }
 }
 
-/* The scales: metres along the leat and up. */
-static void scales(FILE *out)
+/* What the picture shows the bed and the two levels with; the legend shows the same. */
+#define BED "fill=\"#7a6248\""
+#define BEFORE "fill=\"none\" stroke=\"black\" stroke-dasharray=\"4 3\""
+#define AFTER "fill=\"none\" stroke=\"#14609c\" stroke-width=\"1.6\""
+
+static void legend(FILE *out)
 {
-    for (int m = 0; m <= CELLS * CELL_LENGTH / METRE; m += 8)
-        fprintf(out, "<text x=\"%d\" y=\"216\" text-anchor=\"middle\">%d m</text>\n", 10 * m, m);
+    fputs("<rect " BED " x=\"330\" y=\"-21\" width=\"24\" height=\"10\"/><text x=\"360\" y=\"-12\">bed</text>\n"
+          "<path " BEFORE " d=\"M410,-16 h24\"/><text x=\"440\" y=\"-12\">level before</text>\n"
+          "<path " AFTER " d=\"M540,-16 h24\"/><text x=\"570\" y=\"-12\">level after</text>\n", out);
+}
+
+/* The scale of heights, with a line at each half metre. */
+static void heights(FILE *out)
+{
     for (int h = 0; h <= 4; h++)
         fprintf(out, "<path stroke=\"#0003\" d=\"M0,%d h%d\"/><text x=\"-6\" y=\"%d\" text-anchor=\"end\">%.1f m</text>\n",
                 200 - 50 * h, 10 * CELLS, 204 - 50 * h, 0.5 * h);
+}
+
+/* The scale along the leat. */
+static void places(FILE *out)
+{
+    for (int m = 0; m <= CELLS * CELL_LENGTH / METRE; m += 8)
+        fprintf(out, "<text x=\"%d\" y=\"216\" text-anchor=\"middle\">%d m</text>\n", 10 * m, m);
+}
+
+/* The water, the lines of the heights over it, and over both the bed and the levels. */
+static void section(FILE *out, const Leat *leat)
+{
+    fputs("<polygon fill=\"#9cc9e8\" points=\"", out);
+    levels(out, leat->now);
+    fprintf(out, "%d,200 0,200\"/>\n", 10 * CELLS);
+    heights(out);
+    fputs("<polygon " BED " points=\"", out);
+    for (int i = 0; i <= CELLS; i++)
+        point(out, i, leat->bed[i]);
+    fprintf(out, "%d,200 0,200\"/>\n<polyline " AFTER " points=\"", 10 * CELLS);
+    levels(out, leat->now);
+    fputs("\"/>\n<polyline " BEFORE " points=\"", out);
+    levels(out, leat->before);
+    fputs("\"/>\n", out);
 }
 
 /* Gives 0 when all of the picture was written. */
@@ -174,18 +210,11 @@ static int write_svg(const Leat *leat, const char *path)
         return 1;
     fprintf(out, "<svg xmlns=\"http://www.w3.org/2000/svg\" viewBox=\"-50 -30 %d 255\" font-family=\"sans-serif\" font-size=\"11\">\n", 10 * CELLS + 70);
     fprintf(out, "<rect x=\"-50\" y=\"-30\" width=\"%d\" height=\"255\" fill=\"white\"/>\n", 10 * CELLS + 70);
-    fprintf(out, "<text x=\"0\" y=\"-12\">A leat with a sill and a pool: the level at the start (dashed) and after %.2f s</text>\n",
+    fprintf(out, "<text x=\"0\" y=\"-12\">A leat with a sill and a pool, before and after %.2f s</text>\n",
             (double)STEPS * leat->dt / METRE);
-    fputs("<polygon fill=\"#9cc9e8\" points=\"", out);
-    levels(out, leat->now);
-    fprintf(out, "%d,200 0,200\"/>\n<polygon fill=\"#7a6248\" points=\"", 10 * CELLS);
-    for (int i = 0; i <= CELLS; i++)
-        point(out, i, leat->bed[i]);
-    fprintf(out, "%d,200 0,200\"/>\n", 10 * CELLS);
-    fputs("<polyline fill=\"none\" stroke=\"black\" stroke-dasharray=\"4 3\" points=\"", out);
-    levels(out, leat->before);
-    fputs("\"/>\n", out);
-    scales(out);
+    legend(out);
+    section(out, leat);
+    places(out);
     fputs("</svg>\n", out);
     int failed = ferror(out);
     return fclose(out) != 0 || failed;
