@@ -89,10 +89,34 @@ static const char *advice(uint32_t refusal)
         "4: a friction value is over 200. Give Manning's n in thousandths, 30 for 0.030",
         "5: a depth or a discharge of the present state is out of range. Look for a level below the bed",
         "6: the water is faster than 32 m/s. Start with deeper water, or a lower or smoother wave",
-        "7: the time step is too long for these cells. Shorten dt to a third of dx/S, or lengthen dx",
+        "7: the time step is too long for these cells. Shorten dt to 4096*dx/(3*S), or lengthen dx",
         "8: a depth or a discharge has grown too large. Start with less water or less discharge",
     };
     return refusal >= 1 && refusal <= 8 ? words[refusal - 1] : "a number that the library never gives";
+}
+
+/* S, from which bassoonsun.h takes the length of a time step: the greatest over the cells of |u| + a, the speeds of
+ * the water and of its waves. It is the top speed of a face with the same water on both sides. */
+static int64_t top_speed(const Leat *leat)
+{
+    int64_t top = 1, flux[4];
+    for (int i = 0; i < CELLS; i++) {
+        int64_t h = leat->now[i].level - (leat->bed[i] + leat->bed[i + 1]) / 2;
+        int64_t u = h > 4 ? (int64_t)METRE * leat->now[i].discharge / h : 0; /* thinner water has no speed */
+        if (bassoonsun_face(h, u, h, u, flux) == 0 && flux[3] > top)
+            top = flux[3];
+    }
+    return top;
+}
+
+/* Says what was refused and what to change; of a time step that is too long, also how long it should be. */
+static void say_refused(const Leat *leat, int step, uint32_t refusal)
+{
+    fprintf(stderr, "leat: step %d is refused with %s\n", step, advice(refusal));
+    if (refusal == 7) {
+        long long top = top_speed(leat), dt = (long long)METRE * CELL_LENGTH / (3 * top);
+        fprintf(stderr, "      S, the greatest of |u| + a, is %lld here: take --dt %lld or less\n", top, dt);
+    }
 }
 
 /* One step; 0, or the refusal's number, and then the leat is as it was. */
@@ -229,7 +253,7 @@ static int run(Leat *leat)
             return fputs("leat: water is missing\n", stderr), 1;
         uint32_t refusal = steps < STEPS ? step(leat) : 0;
         if (refusal != 0)
-            return fprintf(stderr, "leat: step %d is refused with %s\n", steps + 1, advice(refusal)), 1;
+            return say_refused(leat, steps + 1, refusal), 1;
     }
     return 0;
 }

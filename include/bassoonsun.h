@@ -44,7 +44,7 @@ extern "C" {
  *   bed       n + 1 numbers, the bed at the faces: 0 to 1048576 (256 m), each even
  *   friction  n Manning values in 1/1000, 0 to 200
  *   dx        length of a cell, 1 to 1048576 (256 m)
- *   dt        time step, 1 to 4096 (1 s)
+ *   dt        time step, 1 to 4096 (1 s): see HOW LONG A TIME STEP, below
  *   jump      J, 0 to 262144 (64 m): at a face where the levels of two cells differ by more than
  *             J, the slopes of both are limited
  *   left      kind of the left end: 0 a wall, 1 open (the water outside is as deep and as fast as
@@ -67,8 +67,8 @@ extern "C" {
  *   4  a friction value is over 200
  *   5  the present state has a face depth or a face discharge out of range
  *   6  the water is faster than 32 m/s: in a cell before friction, at a face, or at a Gauss point
- *   7  the time step is too long for the top speed S at some face: 2*dt*S is over 4096*dx.
- *      Try a third of dx/S; the longest step that is accepted is not stable
+ *   7  the time step is too long for the top speed S at some face: 2*dt*S is over 4096*dx. Halve
+ *      dt, say, and make the same call again
  *   8  after stage one, or at the end, a depth or a discharge is too large. It is never a depth
  *      below nought
  *
@@ -77,6 +77,17 @@ extern "C" {
  * walls. An open end is for water that leaves faster than its waves run: when slower water reaches
  * it, water was seen to come in from outside, and after a wave of 0.5 m on 1 m of water the level at
  * the end rose until a 7. These are trials of the rules and no theorems.
+ *
+ * HOW LONG A TIME STEP. The longest dt that is accepted is not stable: in trials a ripple grew until
+ * a later step was refused. Take a third of a cell a step, which in these whole numbers is
+ *
+ *     dt = 4096*dx/(3*S)      or 4096, if that is less; work it in 64 bits
+ *
+ * S being the greatest over the reach of |u| + a, where u = 4096*q/h is the speed of water of depth
+ * h and discharge q, and a, the speed of its waves, is the square root of 40181.76*h; these are
+ * 1/4096 m/s. bassoonsun_face(h, u, h, u, flux) gives |u| + a as flux[3]. Where water stands beside
+ * dry ground, count a twice. In 1 m of still water (h 4096, u 0) S is 12829, and cells of 1 m
+ * (dx 4096) take a dt of 435.
  *
  * The call works on the stack, in about 200 KiB however short the reach: lend a worker thread that
  * calls it 512 KiB. */
