@@ -57,10 +57,12 @@ fn cube_scale(part: u64) -> u64
     }
 }
 
-// A first guess at 256 times the cube root of h, within a thousandth of it and rounded up. The
-// twelve bits of h from the first that is set are a number t from 2,048 to 4,095, and a polynomial
-// of degree 2 comes near 2^36 times the cube root of t / 4,096. What is left is the cube root of a
-// power of two. No proof rests on how near: it only decides how far the search still goes.
+// A first guess at 256 times the cube root of h, within a thousandth of it and then rounded up. As a
+// whole number it is from 0.08 % too small to 0.4 % too large, the most at h = 1, where it is 257
+// for 256; 103 of the 262,144 depths, all below 1,800, are beyond a thousandth. The twelve bits of h
+// from the first that is set are a number t from 2,048 to 4,095, and a polynomial of degree 2 comes
+// near 2^36 times the cube root of t / 4,096. What is left is the cube root of a power of two. No
+// proof rests on how near: it only decides how far the search still goes.
 fn cube_guess(h: u64) -> u64
     requires { ⌜ 0 < h ⌝ }
     ensures { λ r. ⌜ (0 < r) × (r < 2 ^ 32) ⌝ }
