@@ -77,8 +77,10 @@ static void fill_wave(Case *c, size_t n)
     }
 }
 
-static void (*const fills[])(Case *, size_t) = {fill_wave, fill_lake};
-static const char *const case_names[] = {"wave", "lake"};
+enum { CASES = 2, LENGTHS = 4 };
+static void (*const fills[CASES])(Case *, size_t) = {fill_wave, fill_lake};
+static const char *const case_names[CASES] = {"wave", "lake"};
+static const size_t lengths[LENGTHS] = {16, 64, 128, 1024}; /* in cells */
 
 /* ---- Comparing answers */
 
@@ -259,14 +261,13 @@ static void time_case(const Case *c, const char *name)
 static int compare_and_time(void)
 {
     static Case c;
-    static const size_t counts[] = {16, 128, 1024};
     if (!compare_random())
         return 1;
     puts("| case | cells | library (steps/s) | plain C | plain C, processor's root | library (ns a cell a step) "
          "| library / plain C | library / plain C, processor's root |\n|---|---|---|---|---|---|---|---|");
-    for (size_t name = 0; name < 2; name++)
-        for (size_t k = 0; k < 3; k++) {
-            fills[name](&c, counts[k]);
+    for (size_t name = 0; name < CASES; name++)
+        for (size_t k = 0; k < LENGTHS; k++) {
+            fills[name](&c, lengths[k]);
             if (!compare_case(&c, case_names[name]))
                 return 1;
             time_case(&c, case_names[name]);
@@ -293,5 +294,6 @@ int main(int argc, char **argv)
         return count(argv + 2);
     if (argc != 1)
         return fputs("use: bench [count WHO CASE N RUNS]\n", stderr), 2;
+    setvbuf(stdout, NULL, _IOLBF, BUFSIZ); /* each line is shown as soon as it is timed, also through a pipe */
     return compare_and_time();
 }
