@@ -21,3 +21,12 @@ pub struct Call {
     pub left: u32,
     pub right: u32,
 }
+
+// The numbers of a call as its caller gives them, each still to be held against its list.
+pub struct Given {
+    pub dx: u32,
+    pub dt: u32,
+    pub jump: u32,
+    pub left: u32,
+    pub right: u32,
+}

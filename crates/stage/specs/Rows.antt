@@ -1,4 +1,4 @@
--- The rows that a stage keeps: the two sides of a cell, the momentum of its Gauss points, and what crosses a face with its volume.
+-- The rows that a stage keeps, what travels between them, and what is worked out of them, as the rules' records.
 use mathlib.Core.Bool.{Bool, cond, _||_}
 use mathlib.Core.List.{List, [], _∷_}
 use Prim.Native.Nat.{ℕ, zero, suc, _<_}
@@ -8,26 +8,43 @@ use lib.IntN.{ℤ, pos, _+ℤ_, _-ℤ_, _*ℤ_}
 use lib.Signed.{quotZ, ltZ}
 use Rattle.tables.specs.Cells.{Cell}
 use Rattle.rules.specs.Limits.{dryDepth}
-use Rattle.rules.specs.Face.{Side, Flux, speed, face}
+use Rattle.rules.specs.Face.{speed, face}
+use Rattle.rules.specs.Face as rules
 use Rattle.rules.specs.Reach.{State, Bed, short, h0, h1, sideL, sideR}
 use Rattle.rules.specs.Stage.{outer, volume, carried, flowBefore, flowBehind, depthBefore, depthBehind, gauss}
-use Rattle.rules.specs.Refusals.{fastSide}
+use Rattle.rules.specs.Step.{half, joinedCell}
+use Rattle.rules.specs.Refusals.{fastSide, fastPoints}
 use Rattle.rules.specs.Laws.Sizes.{Sound}
-use Rattle.finishing.specs.Held.{bedAt}
+use Rattle.reach.specs.declared.Reach.{Reach}
+use Rattle.reach.specs.declared.Call.{Call}
+use Rattle.reach.specs.Told.{bedAt}
+use Rattle.stage.specs.declared.rows.Side.{Side}
+use Rattle.stage.specs.declared.rows.Flux.{Flux}
 
 -- ---- sides: depth and speed at the left face, depth and speed at the right
-abbrev pub sideRow : Side → Side → List ℤ
+abbrev pub sideIn : Side → rules.Side
+sideIn x = record { h = x .h; u = x .u }
+
+abbrev pub sideRow : rules.Side → rules.Side → List ℤ
 sideRow l r = l .h ∷ l .u ∷ r .h ∷ r .u ∷ []
 
+-- the two sides of a row
+abbrev pub leftOf : List ℤ → rules.Side
+leftOf l = record { h = getD l 0 (pos 0); u = getD l 1 (pos 0) }
+
+abbrev pub rightOf : List ℤ → rules.Side
+rightOf l = record { h = getD l 2 (pos 0); u = getD l 3 (pos 0) }
+
 -- the side at a face whose level lies h over the bed, with the discharge q
-abbrev pub sideBy : ℤ → ℤ → Side
+abbrev pub sideBy : ℤ → ℤ → rules.Side
 sideBy h q = record { h = h +ℤ short h; u = speed dryDepth q (h +ℤ short h) }
 
-abbrev pub leftIn : List (List ℤ) → ℕ → Side
-leftIn d i = record { h = getD (getD d i []) 0 (pos 0); u = getD (getD d i []) 1 (pos 0) }
+-- those of cell i, of a table of rows
+abbrev pub leftIn : List (List ℤ) → ℕ → rules.Side
+leftIn d i = leftOf (getD d i [])
 
-abbrev pub rightIn : List (List ℤ) → ℕ → Side
-rightIn d i = record { h = getD (getD d i []) 2 (pos 0); u = getD (getD d i []) 3 (pos 0) }
+abbrev pub rightIn : List (List ℤ) → ℕ → rules.Side
+rightIn d i = rightOf (getD d i [])
 
 -- sides within the limits, in a table of n cells
 abbrev pub Sounds : List (List ℤ) → ℕ → Type 0
@@ -46,34 +63,69 @@ abbrev pub pointsBy : ℤ → ℤ → ℤ → ℤ → List ℤ
 pointsBy h q h′ q′ = speed dryDepth q h ∷ speed dryDepth q′ h′ ∷ (carried dryDepth q h +ℤ carried dryDepth q′ h′) ∷ []
 
 unfoldable pub pointRow : Bed → Cell → List ℤ
-pointRow b x = speed dryDepth (flowBefore x) (depthBefore b x) ∷ speed dryDepth (flowBehind x) (depthBehind b x) ∷ gauss dryDepth b x ∷ []
+pointRow b x =
+    speed dryDepth (flowBefore x) (depthBefore b x) ∷ speed dryDepth (flowBehind x) (depthBehind b x) ∷ gauss dryDepth b x ∷ []
 
--- ---- faces: mass, pressure, advection and top speed; then the row that is kept, with the volume for the top speed
-abbrev pub fluxList : Flux → List ℤ
-fluxList f = f .F ∷ f .K ∷ f .A ∷ f .S ∷ []
+-- those of cell i
+abbrev pub fastPointsAt : List ℤ → State → ℕ → Bool
+fastPointsAt bed s i = fastPoints dryDepth (bedAt bed i) (s i)
 
-abbrev pub asFlux : List ℤ → Flux
-asFlux l = record { F = getD l 0 (pos 0); K = getD l 1 (pos 0); A = getD l 2 (pos 0); S = getD l 3 (pos 0) }
+abbrev pub momentumAt : List ℤ → State → ℕ → ℤ
+momentumAt bed s i = gauss dryDepth (bedAt bed i) (s i)
 
-abbrev pub faceRow : ℤ → ℤ → Flux → List ℤ
-faceRow dx dt f = f .F ∷ f .K ∷ f .A ∷ volume dx dt f ∷ []
+-- ---- faces: mass, pressure, advection and top speed; then the row that is kept, with the volume
+abbrev pub fluxIn : Flux → rules.Flux
+fluxIn x = record { F = x .f; K = x .k; A = x .a; S = x .s }
+
+abbrev pub faceRow : ℤ → ℤ → rules.Flux → List ℤ
+faceRow dx dt x = x .F ∷ x .K ∷ x .A ∷ volume dx dt x ∷ []
+
+-- the numbers of a row
+abbrev pub massOf : List ℤ → ℤ
+massOf l = getD l 0 (pos 0)
+
+abbrev pub pressureOf : List ℤ → ℤ
+pressureOf l = getD l 1 (pos 0)
+
+abbrev pub advectionOf : List ℤ → ℤ
+advectionOf l = getD l 2 (pos 0)
+
+abbrev pub volumeOf : List ℤ → ℤ
+volumeOf l = getD l 3 (pos 0)
 
 -- a face at which the step is too long
-unfoldable pub longFlux : ℤ → ℤ → Flux → Bool
-longFlux dx dt f = ltZ (pos 4096 *ℤ dx) (pos 2 *ℤ dt *ℤ f .S)
+unfoldable pub longFlux : ℤ → ℤ → rules.Flux → Bool
+longFlux dx dt x = ltZ (pos 4096 *ℤ dx) (pos 2 *ℤ dt *ℤ x .S)
 
 -- what crosses face i of 0 to n between the sides of a table
-unfoldable pub crossAt : ℕ → ℕ → ℕ → List (List ℤ) → ℕ → Flux
-crossAt n left right d zero = face (outer left (leftIn d zero)) (leftIn d zero)
-crossAt n left right d (suc i) = cond (eqb (suc i) n) (face (rightIn d i) (outer right (rightIn d i))) (face (rightIn d i) (leftIn d (suc i)))
+unfoldable pub crossAt : Reach → Call → List (List ℤ) → ℕ → rules.Flux
+crossAt r c d zero = face (outer (c .left) (leftIn d zero)) (leftIn d zero)
+crossAt r c d (suc i) =
+    cond (eqb (suc i) (r .n)) (face (rightIn d i) (outer (c .right) (rightIn d i))) (face (rightIn d i) (leftIn d (suc i)))
+
+abbrev pub longAt : Reach → Call → List (List ℤ) → ℕ → Bool
+longAt r c d i = longFlux (r .dx) (c .dt) (crossAt r c d i)
+
+abbrev pub faceRowAt : Reach → Call → List (List ℤ) → ℕ → List ℤ
+faceRowAt r c d i = faceRow (r .dx) (c .dt) (crossAt r c d i)
 
 -- ---- a cell after the stage, from the rows l and f of its faces and its momentum g
+-- dt/dx of three times a sum, and how a pressure moves a discharge
+unfoldable pub slopeOf : ℤ → ℤ → ℤ → ℤ
+slopeOf a dx dt = quotZ (pos 3 *ℤ a *ℤ dt) dx
+
+unfoldable pub thrust : ℤ → ℤ → ℤ → ℤ
+thrust e dx dt = quotZ (pos 981 *ℤ e *ℤ dt) (pos 819200 *ℤ dx)
+
 -- E and D, of a mean depth m with the slope s over a bed from zl to zr, between faces of pressure kl and kr
 unfoldable pub pushOf : ℤ → ℤ → ℤ → ℤ → ℤ → ℤ → ℤ
-pushOf m s zl zr kl kr = kl -ℤ kr -ℤ ((m +ℤ s +ℤ short (m +ℤ s)) +ℤ (m -ℤ s +ℤ short (m -ℤ s))) *ℤ ((zr -ℤ short (m +ℤ s)) -ℤ (zl -ℤ short (m -ℤ s)))
+pushOf m s zl zr kl kr =
+    kl -ℤ kr
+    -ℤ ((m +ℤ s +ℤ short (m +ℤ s)) +ℤ (m -ℤ s +ℤ short (m -ℤ s))) *ℤ ((zr -ℤ short (m +ℤ s)) -ℤ (zl -ℤ short (m -ℤ s)))
 
 unfoldable pub tiltOf : ℤ → ℤ → ℤ → ℤ → ℤ → ℤ → ℤ
-tiltOf m s zl zr kl kr = pos 3 *ℤ kr +ℤ pos 3 *ℤ kl -ℤ pos 6 *ℤ (m *ℤ m) -ℤ pos 2 *ℤ (s *ℤ s) +ℤ pos 4 *ℤ (s *ℤ quotZ (zr -ℤ zl) (pos 2))
+tiltOf m s zl zr kl kr =
+    pos 3 *ℤ kr +ℤ pos 3 *ℤ kl -ℤ pos 6 *ℤ (m *ℤ m) -ℤ pos 2 *ℤ (s *ℤ s) +ℤ pos 4 *ℤ (s *ℤ quotZ (zr -ℤ zl) (pos 2))
 
 abbrev pub pushBy : Bed → Cell → ℤ → ℤ → ℤ
 pushBy b x kl kr = pushOf (h0 b x) (h1 b x) (b .zl) (b .zr) kl kr
@@ -83,8 +135,20 @@ tiltBy b x kl kr = tiltOf (h0 b x) (h1 b x) (b .zl) (b .zr) kl kr
 
 unfoldable pub updateBy : ℤ → ℤ → Bed → Cell → List ℤ → List ℤ → ℤ → Cell
 updateBy dx dt b x l f g = record {
-  e0 = x .e0 +ℤ getD l 3 (pos 0) -ℤ getD f 3 (pos 0);
-  e1 = x .e1 -ℤ quotZ (pos 3 *ℤ (getD f 0 (pos 0) +ℤ getD l 0 (pos 0) -ℤ pos 2 *ℤ x .q0) *ℤ dt) dx;
-  q0 = x .q0 +ℤ quotZ ((getD l 2 (pos 0) -ℤ getD f 2 (pos 0)) *ℤ dt) dx +ℤ quotZ (pos 981 *ℤ pushBy b x (getD l 1 (pos 0)) (getD f 1 (pos 0)) *ℤ dt) (pos 819200 *ℤ dx);
-  q1 = x .q1 -ℤ quotZ (pos 3 *ℤ (getD f 2 (pos 0) +ℤ getD l 2 (pos 0) -ℤ g) *ℤ dt) dx -ℤ quotZ (pos 981 *ℤ tiltBy b x (getD l 1 (pos 0)) (getD f 1 (pos 0)) *ℤ dt) (pos 819200 *ℤ dx);
+  e0 = x .e0 +ℤ volumeOf l -ℤ volumeOf f;
+  e1 = x .e1 -ℤ slopeOf (massOf f +ℤ massOf l -ℤ pos 2 *ℤ x .q0) dx dt;
+  q0 = x .q0 +ℤ quotZ ((advectionOf l -ℤ advectionOf f) *ℤ dt) dx +ℤ thrust (pushBy b x (pressureOf l) (pressureOf f)) dx dt;
+  q1 = x .q1 -ℤ slopeOf (advectionOf f +ℤ advectionOf l -ℤ g) dx dt -ℤ thrust (tiltBy b x (pressureOf l) (pressureOf f)) dx dt;
 }
+
+-- cell i, of the tables
+abbrev pub updateAt : Reach → Call → List ℤ → State → List (List ℤ) → List ℤ → ℕ → Cell
+updateAt r c bed s f g i =
+    updateBy (r .dx) (c .dt) (bedAt bed i) (s i) (getD f i []) (getD f (suc i) []) (getD g i (pos 0))
+
+-- ---- the end of the step: W at face i, from its rows in the two stages, and cell i from its values after friction and after stage two
+abbrev pub volumeAt : List (List ℤ) → List (List ℤ) → ℕ → ℤ
+volumeAt f h i = half (volumeOf (getD f i [])) (volumeOf (getD h i []))
+
+abbrev pub joinAt : State → State → List (List ℤ) → List (List ℤ) → ℕ → Cell
+joinAt a u f h i = joinedCell (a i) (u i) (volumeAt f h i) (volumeAt f h (suc i))

@@ -1,85 +1,111 @@
--- What the functions of a step answer: the checks in their order, a stage, and a stage with the state that it is finished to.
+-- What the functions of a step answer: the checks in their order, and what the tables then hold.
 use mathlib.Core.Path.{_≡_}
 use mathlib.Core.List.{List, [], _∷_, _++_}
 use Prim.Native.Nat.{ℕ, suc}
-use lib.ListN.{length, getD}
+use lib.ListN.{getD}
 use lib.IntN.{ℤ, pos}
-use lib.Signed.{_≤ℤ_, _<ℤ_}
-use Rattle.whole.specs.Parts.{Within}
 use Rattle.tables.specs.Some.{some}
-use Rattle.tables.specs.Rows.{Written}
-use Rattle.tables.specs.Cells.{cellAt, seen, Holds}
+use Rattle.tables.specs.Rows.{Written, Filled}
+use Rattle.tables.specs.Cells.{asList, cellAt, seen, Holds}
 use Rattle.rules.specs.Limits.{dryDepth}
 use Rattle.rules.specs.Reach.{Reach, Call, State}
-use Rattle.rules.specs.Stage.{faceAt, volume, stage}
+use Rattle.rules.specs.Stage.{faceAt, stage}
 use Rattle.rules.specs.Finishing.{finish}
-use Rattle.rules.specs.Step.{half, joinedCell}
+use Rattle.rules.specs.Step.{rubbed, stageOne, next}
 use Rattle.rules.specs.Refusals.{badBed, badRough, offCell, off, fastCell, Check, chk, verdict, stageChecks}
-use Rattle.finishing.specs.Held.{bedAt}
-use Rattle.stage.specs.Held.{Smalls}
-use Rattle.finishing.specs.Narrow.{reachBy, callWith}
-use Rattle.stage.specs.Rows.{faceRow}
-use Rattle.stage.specs.Kept.{FaceRows}
-
--- the numbers of a call that passed check 2
-pub record Numbers (dx dt jump : ℤ) : Type 0 where
-  pub dx-pos : pos 0 <ℤ dx
-  pub dx-in : Within 1048576 dx
-  pub dt-pos : pos 0 ≤ℤ dt
-  pub dt-in : Within 4096 dt
-  pub jump-pos : pos 0 ≤ℤ jump
-  pub jump-in : Within 262144 jump
+use Rattle.rules.specs.Laws.Agree.{Same}
+use Rattle.reach.specs.declared.Reach.{Reach as ToldReach}
+use Rattle.reach.specs.declared.Call.{Call as ToldCall}
+use Rattle.reach.specs.Told.{reachIn, callOn, bedAt}
+use Rattle.reach.specs.Ranges.{Wides}
+use Rattle.stage.specs.Ranges.{Smalls, Ranged, FaceRows}
+use Rattle.stage.specs.Rows.{faceRow, joinAt}
 
 -- checks 3 to 5 and the friction speeds
-abbrev pub readyChecks : ℕ → List ℤ → List ℕ → List ℤ → List Check
-readyChecks n bed friction state =
+abbrev pub readyChecks : ℕ → List ℤ → List ℕ → State → List Check
+readyChecks n bed friction s =
     chk 3 (some (λ i. badBed (getD bed i (pos 0))) (suc n))
     ∷ chk 4 (some (λ i. badRough (pos (getD friction i 0))) n)
-    ∷ chk 5 (some (λ i. offCell (bedAt bed i) (cellAt state i)) n)
-    ∷ chk 6 (some (λ i. fastCell dryDepth (bedAt bed i) (cellAt state i)) n)
+    ∷ chk 5 (some (λ i. offCell (bedAt bed i) (s i)) n)
+    ∷ chk 6 (some (λ i. fastCell dryDepth (bedAt bed i) (s i)) n)
     ∷ []
 
+-- a stage's checks with the range of t, to which it is finished
+abbrev pub halfChecks : Reach → Call → State → State → List Check
+halfChecks r c s t = stageChecks r c s ++ chk 8 (some (off r t) (r .n)) ∷ []
+
+-- the checks from stage one on
+abbrev pub bothChecks : Reach → Call → State → List Check
+bothChecks r c s = halfChecks r c (rubbed r c s) (stageOne r c s) ++ halfChecks r c (stageOne r c s) (next r c s)
+
+-- the cells of a lent state, in the first n places of a table; they are no wider than its numbers
+pub record LoadSays (n : ℕ) (state : List ℤ) (old new : List (List ℤ)) : Type 0 where
+  pub cells : Filled [] old new n (λ i. asList (cellAt state i))
+  pub wide : Wides n (seen new)
+
+-- a table shows a state in the reach
+abbrev pub Shows : Reach → List (List ℤ) → State → Type 0
+Shows r t s = Same r (seen t) s
+
+-- the rows of the faces of a state, and their sizes
+pub record FacesOf (r : Reach) (c : Call) (s : State) (f : List (List ℤ)) : Type 0 where
+  pub rows : Written [] f (suc (r .n)) (λ i. faceRow (r .dx) (c .dt) (faceAt r c s i))
+  pub sized : FaceRows f (r .n)
+
 -- a stage from s: 6, 7 or 0, and where it is 0 the rows of its faces in f and the unfinished state in u
+pub record StageDone (r : Reach) (c : Call) (s : State) (f u : List (List ℤ)) : Type 0 where
+  pub faces : FacesOf r c s f
+  pub cells : Holds u (r .n) (stage r c s)
+  pub small : Smalls (r .n) (stage r c s)
+
 pub record StageSays (r : Reach) (c : Call) (s : State) (k : ℕ) (f u : List (List ℤ)) : Type 0 where
   pub number : k ≡ verdict (stageChecks r c s)
-  pub f-size : length f ≡ 1025
-  pub u-size : length u ≡ 1024
-  pub rows : k ≡ 0 → Written [] f (suc (r .n)) (λ i. faceRow (r .dx) (c .dt) (faceAt r c s i))
-  pub sized : k ≡ 0 → FaceRows f (r .n)
-  pub cells : k ≡ 0 → Holds u (r .n) (stage r c s)
-  pub small : k ≡ 0 → Smalls (r .n) (stage r c s)
+  pub done : k ≡ 0 → StageDone r c s f u
 
--- the same with the state t, which the stage is finished to, and its range
-abbrev pub endChecks : Reach → Call → State → State → List Check
-endChecks r c s t = stageChecks r c s ++ chk 8 (some (off r t) (r .n)) ∷ []
+-- the end state before it is finished: a after friction and u after stage two, joined into j by the faces f and h
+pub record JoinSays (n : ℕ) (a u : State) (f h j : List (List ℤ)) : Type 0 where
+  pub cells : Holds j n (joinAt a u f h)
 
-pub record EndSays (r : Reach) (c : Call) (s t : State) (k : ℕ) (f b : List (List ℤ)) : Type 0 where
-  pub number : k ≡ verdict (endChecks r c s t)
-  pub f-size : length f ≡ 1025
-  pub b-size : length b ≡ 1024
-  pub rows : k ≡ 0 → Written [] f (suc (r .n)) (λ i. faceRow (r .dx) (c .dt) (faceAt r c s i))
-  pub sized : k ≡ 0 → FaceRows f (r .n)
-  pub cells : k ≡ 0 → Holds b (r .n) t
+-- the end of a stage that left the state v: 8 or 0, and the finished state in b
+pub record EndSays (r : Reach) (c : Call) (v : State) (k : ℕ) (b : List (List ℤ)) : Type 0 where
+  pub number : k ≡ verdict (chk 8 (some (off r (finish r c v)) (r .n)) ∷ [])
+  pub cells : Holds b (r .n) (finish r c v)
 
--- the unfinished end state: a after friction, y after stage one
-unfoldable pub ending : Reach → Call → State → State → State
-ending r c a y i = joinedCell (a i) (stage r c y i)
-    (half (volume (r .dx) (c .dt) (faceAt r c a i)) (volume (r .dx) (c .dt) (faceAt r c y i)))
-    (half (volume (r .dx) (c .dt) (faceAt r c a (suc i))) (volume (r .dx) (c .dt) (faceAt r c y (suc i))))
+-- a half of the step, the stage from s that is finished to t: 6, 7, 8 or 0, and where it is 0 its faces in f and t in b
+pub record HalfDone (r : Reach) (c : Call) (s t : State) (f b : List (List ℤ)) : Type 0 where
+  pub faces : FacesOf r c s f
+  pub cells : Holds b (r .n) t
 
--- a call without friction, which is done before the stages
-abbrev pub stageCall : ℤ → ℤ → ℕ → ℕ → Call
-stageCall dt jump left right = callWith dt jump (λ i. pos 0) left right
+pub record HalfSays (r : Reach) (c : Call) (s t : State) (k : ℕ) (f b : List (List ℤ)) : Type 0 where
+  pub number : k ≡ verdict (halfChecks r c s t)
+  pub done : k ≡ 0 → HalfDone r c s t f b
 
--- stage one from the table a, and stage two from the table b with a after friction
-abbrev pub OneSays : ℕ → ℤ → List ℤ → ℤ → ℤ → ℕ → ℕ → List (List ℤ) → ℕ → List (List ℤ) → List (List ℤ) → Type 0
-OneSays n dx bed dt jump left right a k f b =
-    EndSays (reachBy n dx bed) (stageCall dt jump left right) (seen a) (finish (reachBy n dx bed) (stageCall dt jump left right) (stage (reachBy n dx bed) (stageCall dt jump left right) (seen a))) k f b
+-- both halves from s: the number of the first that stopped, or 0, and then the faces of the two and the next state in b
+pub record BothDone (r : Reach) (c : Call) (s : State) (f h b : List (List ℤ)) : Type 0 where
+  pub one : FacesOf r c (rubbed r c s) f
+  pub two : FacesOf r c (stageOne r c s) h
+  pub cells : Holds b (r .n) (next r c s)
 
-abbrev pub TwoSays : ℕ → ℤ → List ℤ → ℤ → ℤ → ℕ → ℕ → List (List ℤ) → List (List ℤ) → ℕ → List (List ℤ) → List (List ℤ) → Type 0
-TwoSays n dx bed dt jump left right a b k g y =
-    EndSays (reachBy n dx bed) (stageCall dt jump left right) (seen b) (finish (reachBy n dx bed) (stageCall dt jump left right) (ending (reachBy n dx bed) (stageCall dt jump left right) (seen a) (seen b))) k g y
+pub record StepSays (r : Reach) (c : Call) (s : State) (k : ℕ) (f h b : List (List ℤ)) : Type 0 where
+  pub number : k ≡ verdict (bothChecks r c s)
+  pub done : k ≡ 0 → BothDone r c s f h b
 
--- the rows of the faces of the state in the table a
-abbrev pub RowsOf : ℕ → ℤ → List ℤ → ℤ → ℤ → ℕ → ℕ → List (List ℤ) → List (List ℤ) → Type 0
-RowsOf n dx bed dt jump left right a f = Written [] f (suc n) (λ i. faceRow dx dt (faceAt (reachBy n dx bed) (stageCall dt jump left right) (seen a) i))
+-- ---- in tables: whatever the friction ρ, and whatever state s it left as the table a shows
+module _ (reach : ToldReach) (call : ToldCall) (bed : List ℤ) where
+  -- stage one from a
+  pub record OneSays (a : List (List ℤ)) (k : ℕ) (f b : List (List ℤ)) : Type 0 where
+    pub half : (ρ : ℕ → ℤ) (s : State) → let r : Reach = reachIn reach bed in let c : Call = callOn call ρ in
+        Shows r a (rubbed r c s) → HalfSays r c (rubbed r c s) (stageOne r c s) k f b
+    -- and what stage two asks
+    pub sized : k ≡ 0 → FaceRows f (reach .n)
+    pub ranged : k ≡ 0 → Ranged bed (reach .n) (seen b)
+
+  -- stage two from b, which shows stage one with its faces in f
+  abbrev pub TwoSays : List (List ℤ) → List (List ℤ) → List (List ℤ) → ℕ → List (List ℤ) → List (List ℤ) → Type 0
+  TwoSays a f b k h y = (ρ : ℕ → ℤ) (s : State) → let r : Reach = reachIn reach bed in let c : Call = callOn call ρ in
+      Shows r a (rubbed r c s) → FacesOf r c (rubbed r c s) f → Shows r b (stageOne r c s) → HalfSays r c (stageOne r c s) (next r c s) k h y
+
+  -- both from a
+  abbrev pub BothSay : List (List ℤ) → ℕ → List (List ℤ) → List (List ℤ) → List (List ℤ) → Type 0
+  BothSay a k f h b = (ρ : ℕ → ℤ) (s : State) → let r : Reach = reachIn reach bed in let c : Call = callOn call ρ in
+      Shows r a (rubbed r c s) → StepSays r c s k f h b

@@ -1,41 +1,68 @@
 -- What the public function says, by the cases of its answer.
 use mathlib.Core.Path.{_≡_}
 use mathlib.Core.Bool.{cond}
-use mathlib.Core.List.{List, []}
+use mathlib.Core.List.{List, [], _++_}
 use Prim.Native.Nat.{ℕ, _*_, _<_}
 use lib.Dec.{leb}
 use lib.ListN.{length, getD}
 use lib.IntN.{ℤ, pos}
-use Rattle.whole.specs.Parts.{Within}
 use Rattle.tables.specs.Rows.{Filled}
 use Rattle.tables.specs.Cells.{asList, cellAt}
 use Rattle.rules.specs.Reach.{Reach, Call, State}
 use Rattle.rules.specs.Step.{carry, next}
 use Rattle.rules.specs.Refusals.{verdict}
 use Rattle.rules.specs.Lent.{Lent, reachOf, callOf, stateOf, number}
-use Rattle.finishing.specs.Narrow.{reachBy, callWith}
-use Rattle.stage.specs.Whole.{bothChecks}
+use Rattle.reach.specs.declared.Reach.{Reach as ToldReach}
+use Rattle.reach.specs.declared.Call.{Call as ToldCall}
+use Rattle.reach.specs.declared.Given.{Given}
+use Rattle.reach.specs.Told.{reachIn, callOn}
+use Rattle.reach.specs.Ranges.{UpTo}
+use Rattle.stage.specs.Ranges.{mostVolume}
+use Rattle.stage.specs.Says.{readyChecks, bothChecks}
 use Rattle.stage.specs.declared.worked.Worked.{Worked}
 use Rattle.stage.specs.declared.worked.Worked.the-variants.{Refused, Done}
 
 -- a volume that crosses a face, of any reach
 abbrev pub Volume : ℤ → Type 0
-Volume w = Within 210696667136 w
+Volume w = UpTo mostVolume w
 
--- a number and the table as it was; or the two volumes, and the new cells in the first n places of the table
+-- a number k and the table as it was; or the two volumes, and the new cells in the first n places of the table
+pub record Stopped (k m : ℕ) (old new : List (List ℤ)) : Type 0 where
+  pub number : m ≡ k
+  pub some : 0 < m
+  pub kept : new ≡ old
+
+pub record Went (r : Reach) (c : Call) (s : State) (k : ℕ) (w v : ℤ) (old new : List (List ℤ)) : Type 0 where
+  pub none : k ≡ 0
+  pub left : w ≡ carry r c s 0
+  pub right : v ≡ carry r c s (r .n)
+  pub cells : Filled [] old new (r .n) (λ i. asList (next r c s i))
+  pub left-in : Volume w
+  pub right-in : Volume v
+
 abbrev pub Says : Reach → Call → State → ℕ → Worked → List (List ℤ) → List (List ℤ) → Type 0
-Says r c s k (Refused m) old new = (m ≡ k) × (0 < m) × (new ≡ old)
-Says r c s k (Done w v) old new = (k ≡ 0) × (w ≡ carry r c s 0) × (v ≡ carry r c s (r .n)) × Filled [] old new (r .n) (λ i. asList (next r c s i)) × Volume w × Volume v
+Says r c s k (Refused m) old new = Stopped k m old new
+Says r c s k (Done w v) old new = Went r c s k w v old new
 
--- from stage one on
-abbrev pub BothSay : ℕ → ℤ → List ℤ → ℤ → ℤ → List ℕ → ℕ → ℕ → List ℤ → Worked → List (List ℤ) → List (List ℤ) → Type 0
-BothSay n dx bed dt jump friction left right state w old new =
-    let r : Reach = reachBy n dx bed in let c : Call = callWith dt jump (λ i. pos (getD friction i 0)) left right in let s : State = cellAt state in Says r c s (verdict (bothChecks r c s)) w old new
+-- the checks after 2, and the step on tables
+abbrev pub TablesSay : ToldReach → ToldCall → List ℤ → List ℕ → List ℤ → Worked → List (List ℤ) → List (List ℤ) → Type 0
+TablesSay reach call bed friction state w old new =
+    let r : Reach = reachIn reach bed in let c : Call = callOn call (λ i. pos (getD friction i 0)) in let s : State = cellAt state in
+    Says r c s (verdict (readyChecks (reach .n) bed friction s ++ bothChecks r c s)) w old new
 
 -- what is lent; a table that has no room for the n cells counts as one of the wrong length
-abbrev pub lentBy : List ℤ → List ℤ → List ℕ → ℕ → ℕ → ℕ → ℕ → ℕ → ℕ → Lent
-lentBy now bed friction dx dt jump left right room =
-    record { now = now; room = cond (leb (length friction) room) (4 * length friction) 0; bed = bed; friction = friction; dx = dx; dt = dt; jump = jump; left = left; right = right }
+abbrev pub lentBy : List ℤ → List ℤ → List ℕ → Given → ℕ → Lent
+lentBy now bed friction g room = record {
+  now = now;
+  room = cond (leb (length friction) room) (4 * length friction) 0;
+  bed = bed;
+  friction = friction;
+  dx = g .dx;
+  dt = g .dt;
+  jump = g .jump;
+  left = g .left;
+  right = g .right;
+}
 
 abbrev pub WorkedSays : Lent → Worked → List (List ℤ) → List (List ℤ) → Type 0
 WorkedSays a w old new = Says (reachOf a) (callOf a) (stateOf a) (number a) w old new

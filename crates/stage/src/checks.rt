@@ -1,23 +1,35 @@
-// The checks of what is lent, each over the whole reach.
+// The checks of what is lent, and of a finished state, each over the whole reach.
 use crate::cell::depths;
 use crate::cell::off_cell;
-use crate::cell::too_fast;
 use crate::sides::speed_of;
-use crate::table::bed_at;
-use crate::table::bed_of;
-use crate::table::cell_of;
+use reach::Call;
+use reach::Cell;
+use reach::Reach;
+use reach::bed::Bed;
+use reach::bed::bed_at;
+use reach::bed::under;
+use reach::limits::CELLS;
+use reach::limits::FASTEST;
+use reach::limits::HIGHEST_BED;
+use reach::limits::LARGEST_JUMP;
+use reach::limits::LONGEST_CELL;
+use reach::limits::LONGEST_STEP;
+use reach::limits::ROUGHEST;
+use reach::limits::outside;
+use reach::limits::past;
 ghost use mathlib.Core.Path.{_≡_};
-ghost use Prim.Native.Nat.{_+_, _*_, _≤_, _<_};
+ghost use mathlib.Core.List.{List};
+ghost use Prim.Native.Nat.{ℕ, _+_, _*_, _≤_, _<_};
 ghost use lib.ListN.{getD, length};
-ghost use lib.IntN.{pos};
+ghost use lib.IntN.{ℤ, pos};
 ghost use Rattle.tables.specs.Some.{some};
-ghost use Rattle.tables.specs.Cells.{asCell, cellAt, seen};
+ghost use Rattle.tables.specs.Cells.{asCell, seen};
 ghost use Rattle.rules.specs.Limits.{dryDepth};
-ghost use Rattle.rules.specs.Refusals.{outside, badBed, badRough, offCell, fastCell};
+ghost use Rattle.rules.specs.Refusals.{badCall, badBed, badRough, offCell, fastCell};
 ghost use Rattle.rules.specs.Lent.{misfit};
-ghost use Rattle.finishing.specs.Held.{asBed, bedAt, Grounds, Unfinished};
-ghost use Rattle.stage.specs.Held.{Inside, Ranged};
-ghost use Rattle.stage.specs.Narrow.{badNumbers};
+ghost use Rattle.reach.specs.Told.{reachIn, callOn, bedIn, bedAt};
+ghost use Rattle.reach.specs.Ranges.{AllUnfinished};
+ghost use Rattle.stage.specs.Ranges.{Room, Inside, Ranged};
 
 // 1: do the tables not fit the n cells? What `next` lends is the caller's to check.
 pub fn bad_lengths(state: usize, bed: usize, n: usize) -> bool
@@ -26,7 +38,7 @@ pub fn bad_lengths(state: usize, bed: usize, n: usize) -> bool
     if n == 0 {
         return true;
     }
-    if 1024 < n {
+    if CELLS < n {
         return true;
     }
     if state != 4 * n {
@@ -38,56 +50,34 @@ pub fn bad_lengths(state: usize, bed: usize, n: usize) -> bool
     false
 }
 
-// Is a number outside its list, which starts at low and ends with high?
-fn out_of(low: u32, x: u32, high: u32) -> bool
-    ensures { λ r. ⌜ r ≡ outside (pos low) (pos high) (pos x) ⌝ }
+// 2: is a number or an end kind outside its list? It reads neither the bed nor the friction.
+pub fn bad_numbers(reach: Reach, call: Call) -> bool
+    ensures { λ r. ⌜ ((bed : List ℤ) (ρ : ℕ → ℤ) → r ≡ badCall (reachIn reach bed) (callOn call ρ)) ⌝ }
 {
-    if x < low {
+    if outside(1, LONGEST_CELL, reach.dx) {
         return true;
     }
-    if high < x {
+    if outside(1, LONGEST_STEP, call.dt) {
         return true;
     }
-    false
-}
-
-// 2: is a number or an end kind outside its list?
-pub fn bad_numbers(dx: u32, dt: u32, jump: u32, left: u32, right: u32) -> bool
-    ensures { λ r. ⌜ r ≡ badNumbers dx dt jump left right ⌝ }
-{
-    if out_of(1, dx, 1048576) {
+    if outside(0, LARGEST_JUMP, call.jump) {
         return true;
     }
-    if out_of(1, dt, 4096) {
+    if 1 < call.left {
         return true;
     }
-    if out_of(0, jump, 262144) {
-        return true;
-    }
-    if 1 < left {
-        return true;
-    }
-    if 1 < right {
-        return true;
-    }
-    false
+    1 < call.right
 }
 
 // Is a bed value out of range or odd?
 fn bad_value(z: i64) -> bool
     ensures { λ r. ⌜ r ≡ badBed z ⌝ }
 {
-    if z < 0 {
-        return true;
-    }
-    if 1048576 < z {
+    if outside(0, HIGHEST_BED, z) {
         return true;
     }
     let size = z as u64;
-    if size % 2 != 0 {
-        return true;
-    }
-    false
+    size % 2 != 0
 }
 
 // 3: is some bed value out of range or odd?
@@ -110,7 +100,7 @@ pub fn bad_friction(friction: &[u16]) -> bool
 {
     let mut i: usize = 0;
     while i < friction.len() {
-        if 200 < friction[i] {
+        if ROUGHEST < friction[i] {
             return true;
         }
         i += 1;
@@ -118,31 +108,16 @@ pub fn bad_friction(friction: &[u16]) -> bool
     false
 }
 
-// 5: is some cell of the lent state out of range?
-pub fn off_lent(state: &[i32], bed: &[i32], n: usize) -> bool
-    requires { ⌜ (n ≤ 1024) × (length (now state) ≡ 4 * n) × (length (now bed) ≡ n + 1) ⌝ }
-    requires { ⌜ Grounds (now bed) n ⌝ }
-    ensures { λ r. ⌜ r ≡ some (λ i. offCell (bedAt (now (bed .entry)) i) (cellAt (now (state .entry)) i)) n ⌝ }
+// 5 and 8: is some cell out of range?
+pub fn off(t: &[Cell], bed: &[i32], reach: Reach) -> bool
+    requires { ⌜ Room reach (now t) ⌝ }
+    requires { ⌜ AllUnfinished (now bed) (reach .n) (seen (now t)) ⌝ }
+    ensures { λ r. ⌜ r ≡ some (λ i. offCell (bedAt (now (bed .entry)) i) (seen (now (t .entry)) i)) (reach .n) ⌝ }
 {
+    let n = reach.n;
     let mut i: usize = 0;
     while i < n {
-        if off_cell(bed_of(bed, i), cell_of(state, i)) {
-            return true;
-        }
-        i += 1;
-    }
-    false
-}
-
-// 8: is some cell of a finished table out of range?
-pub fn off(t: &[[i64; 4]; 1024], bed: &[i32], n: usize) -> bool
-    requires { ⌜ (n ≤ 1024) × (length (now bed) ≡ n + 1) ⌝ }
-    requires { ⌜ Unfinished (now bed) n (seen (now t)) ⌝ }
-    ensures { λ r. ⌜ r ≡ some (λ i. offCell (bedAt (now (bed .entry)) i) (seen (now (t .entry)) i)) n ⌝ }
-{
-    let mut i: usize = 0;
-    while i < n {
-        if off_cell(bed_of(bed, i), t[i]) {
+        if off_cell(under(bed, i), t[i]) {
             return true;
         }
         i += 1;
@@ -151,23 +126,24 @@ pub fn off(t: &[[i64; 4]; 1024], bed: &[i32], n: usize) -> bool
 }
 
 // Is the speed of a cell's mean discharge too large? A dry cell has none.
-fn fast_cell(b: [i64; 2], x: [i64; 4]) -> bool
-    requires { ⌜ Inside (asBed b) (asCell x) ⌝ }
-    ensures { λ r. ⌜ r ≡ fastCell dryDepth (asBed b) (asCell x) ⌝ }
+fn fast_cell(b: Bed, x: Cell) -> bool
+    requires { ⌜ Inside (bedIn b) (asCell x) ⌝ }
+    ensures { λ r. ⌜ r ≡ fastCell dryDepth (bedIn b) (asCell x) ⌝ }
 {
     let h = depths(b, x);
-    too_fast(speed_of(x[2], h[0]))
+    past(FASTEST, speed_of(x[2], h[0]))
 }
 
 // 6, of friction: is some cell too fast? Checked also where friction is 0.
-pub fn fast_lent(state: &[i32], bed: &[i32], n: usize) -> bool
-    requires { ⌜ (n ≤ 1024) × (length (now state) ≡ 4 * n) × (length (now bed) ≡ n + 1) ⌝ }
-    requires { ⌜ Ranged (now bed) n (cellAt (now state)) ⌝ }
-    ensures { λ r. ⌜ r ≡ some (λ i. fastCell dryDepth (bedAt (now (bed .entry)) i) (cellAt (now (state .entry)) i)) n ⌝ }
+pub fn fast(t: &[Cell], bed: &[i32], reach: Reach) -> bool
+    requires { ⌜ Room reach (now t) ⌝ }
+    requires { ⌜ Ranged (now bed) (reach .n) (seen (now t)) ⌝ }
+    ensures { λ r. ⌜ r ≡ some (λ i. fastCell dryDepth (bedAt (now (bed .entry)) i) (seen (now (t .entry)) i)) (reach .n) ⌝ }
 {
+    let n = reach.n;
     let mut i: usize = 0;
     while i < n {
-        if fast_cell(bed_of(bed, i), cell_of(state, i)) {
+        if fast_cell(under(bed, i), t[i]) {
             return true;
         }
         i += 1;

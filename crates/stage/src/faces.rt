@@ -1,119 +1,103 @@
 // What crosses each face of the reach: worked once a stage, and kept with its volume.
+use crate::rows::FaceRow;
+use crate::rows::Flux;
+use crate::rows::Side;
+use crate::rows::Sides;
+use crate::rows::left_side;
+use crate::rows::right_side;
 use face::answer::Carried;
+use reach::Call;
+use reach::Reach;
 ghost use mathlib.Core.Path.{_≡_};
-ghost use mathlib.Core.Bool.{false, cond};
 ghost use mathlib.Core.List.{[]};
 ghost use Prim.Native.Nat.{suc, _≤_, _<_};
-ghost use lib.Dec.{eqb};
 ghost use lib.ListN.{length};
-ghost use lib.IntN.{pos, negℤ};
-ghost use lib.Signed.{_<ℤ_};
-ghost use Rattle.whole.specs.Parts.{Within};
-ghost use Rattle.tables.specs.Some.{some};
-ghost use Rattle.tables.specs.Rows.{Written};
+ghost use Rattle.tables.specs.Filling.{FillSays};
 ghost use Rattle.rules.specs.Face.{face};
+ghost use Rattle.rules.specs.Stage as rules;
 ghost use Rattle.rules.specs.Laws.Sizes.{Sound, Sized};
-ghost use Rattle.rules.specs.Stage.{outer};
-ghost use Rattle.stage.specs.Crossings.{leftOf, rightOf};
-ghost use Rattle.stage.specs.Rows.{Sounds, fluxList, asFlux, faceRow, longFlux, crossAt};
+ghost use Rattle.reach.specs.Ranges.{Numbers};
+ghost use Rattle.stage.specs.Rows.{Sounds, sideIn, fluxIn, faceRow, longFlux, crossAt, longAt, faceRowAt};
+ghost use Rattle.stage.specs.Ranges.{Room, FaceRoom};
 
-// The speed on the outer side of an end: reversed at a wall, the same at an open end.
-fn outer_speed(kind: u32, u: i64) -> i64
-    requires { ⌜ Within 131072 u ⌝ }
-    ensures { λ r. ⌜ r ≡ cond (eqb kind 0) (negℤ u) u ⌝ }
+// The outer side of an end: as deep as the inner; its speed is reversed at a wall, the same at an
+// open end.
+fn outer(kind: u32, x: Side) -> Side
+    requires { ⌜ Sound (sideIn x) ⌝ }
+    ensures { λ r. ⌜ sideIn r ≡ rules.outer kind (sideIn x) ⌝ }
 {
-    if kind == 0 { -u } else { u }
+    if kind == 0 {
+        return Side { h: x.h, u: -x.u };
+    }
+    x
 }
 
 // What crosses between two sides. Both are within the limits, so the face crate never refuses.
-fn crossing(hl: i64, ul: i64, hr: i64, ur: i64) -> [i64; 4]
-    requires { ⌜ Sound (record { h = hl; u = ul }) ⌝ }
-    requires { ⌜ Sound (record { h = hr; u = ur }) ⌝ }
-    ensures { λ r. ⌜ r ≡ fluxList (face (record { h = hl; u = ul }) (record { h = hr; u = ur })) ⌝ }
+fn crossing(l: Side, r: Side) -> Flux
+    requires { ⌜ Sound (sideIn l) × Sound (sideIn r) ⌝ }
+    ensures { λ x. ⌜ fluxIn x ≡ face (sideIn l) (sideIn r) ⌝ }
 {
-    match face::flux::face(hl, ul, hr, ur) {
-        Carried::Flux(f, k, a, s) => [f, k, a, s],
-        Carried::Refused => [0, 0, 0, 0],
+    match face::flux::face(l.h, l.u, r.h, r.u) {
+        Carried::Flux(f, k, a, s) => Flux { f, k, a, s },
+        Carried::Refused => Flux {
+            f: 0,
+            k: 0,
+            a: 0,
+            s: 0,
+        },
     }
 }
 
-// What crosses the left end, the right end, and the face between two cells, from the rows of their sides.
-fn left_end(x: [i64; 4], kind: u32) -> [i64; 4]
-    requires { ⌜ Sound (leftOf x) ⌝ }
-    ensures { λ r. ⌜ r ≡ fluxList (face (outer kind (leftOf x)) (leftOf x)) ⌝ }
-{
-    crossing(x[0], outer_speed(kind, x[1]), x[0], x[1])
-}
-
-fn right_end(x: [i64; 4], kind: u32) -> [i64; 4]
-    requires { ⌜ Sound (rightOf x) ⌝ }
-    ensures { λ r. ⌜ r ≡ fluxList (face (rightOf x) (outer kind (rightOf x))) ⌝ }
-{
-    crossing(x[2], x[3], x[2], outer_speed(kind, x[3]))
-}
-
-fn inner(x: [i64; 4], y: [i64; 4]) -> [i64; 4]
-    requires { ⌜ Sound (rightOf x) × Sound (leftOf y) ⌝ }
-    ensures { λ r. ⌜ r ≡ fluxList (face (rightOf x) (leftOf y)) ⌝ }
-{
-    crossing(x[2], x[3], y[0], y[1])
-}
-
-// What crosses face i.
-fn face_at(d: &[[i64; 4]; 1024], n: usize, left: u32, right: u32, i: usize) -> [i64; 4]
-    requires { ⌜ (0 < n) × (n ≤ 1024) × (i ≤ n) ⌝ }
-    requires { ⌜ Sounds (now d) n ⌝ }
-    ensures { λ r. ⌜ r ≡ fluxList (crossAt n left right (now (d .entry)) i) ⌝ }
+// What crosses face i, between the sides in d.
+fn face_at(d: &[Sides], reach: Reach, call: Call, i: usize) -> Flux
+    requires { ⌜ (0 < reach .n) × Room reach (now d) × (i ≤ reach .n) ⌝ }
+    requires { ⌜ Sounds (now d) (reach .n) ⌝ }
+    ensures { λ r. ⌜ fluxIn r ≡ crossAt reach call (now (d .entry)) i ⌝ }
 {
     if i == 0 {
-        return left_end(d[0], left);
+        let first = left_side(d[0]);
+        return crossing(outer(call.left, first), first);
     }
-    if i == n {
-        return right_end(d[i - 1], right);
+    let before = right_side(d[i - 1]);
+    if i == reach.n {
+        return crossing(before, outer(call.right, before));
     }
-    inner(d[i - 1], d[i])
+    crossing(before, left_side(d[i]))
 }
 
 // Is the step too long for the top speed of a face?
-fn too_long(c: [i64; 4], dx: i64, dt: i64) -> bool
-    requires { ⌜ Sized (asFlux c) ⌝ }
-    requires { ⌜ Within 1048576 dx × Within 4096 dt ⌝ }
-    ensures { λ r. ⌜ r ≡ longFlux dx dt (asFlux c) ⌝ }
+fn too_long(x: Flux, reach: Reach, call: Call) -> bool
+    requires { ⌜ Sized (fluxIn x) ⌝ }
+    requires { ⌜ Numbers reach call ⌝ }
+    ensures { λ r. ⌜ r ≡ longFlux (reach .dx) (call .dt) (fluxIn x) ⌝ }
 {
-    4096 * dx < 2 * dt * c[3]
+    4096 * reach.dx < 2 * call.dt * x.s
 }
 
-// The row that is kept of a face: V stands in the place of the top speed, which has been checked.
-fn kept_row(c: [i64; 4], dx: i64, dt: i64) -> [i64; 4]
-    requires { ⌜ Sized (asFlux c) ⌝ }
-    requires { ⌜ (pos 0 <ℤ dx) × Within 4096 dt ⌝ }
-    ensures { λ r. ⌜ r ≡ faceRow dx dt (asFlux c) ⌝ }
+// What is kept of a face, whose top speed has been checked: F, K, A, and V = F·dt/dx.
+fn face_row(x: Flux, reach: Reach, call: Call) -> FaceRow
+    requires { ⌜ Sized (fluxIn x) ⌝ }
+    requires { ⌜ Numbers reach call ⌝ }
+    ensures { λ r. ⌜ r ≡ faceRow (reach .dx) (call .dt) (fluxIn x) ⌝ }
 {
-    [c[0], c[1], c[2], c[0] * dt / dx]
+    [x.f, x.k, x.a, x.f * call.dt / reach.dx]
 }
 
 // The rows of all n + 1 faces into f, and whether the step is too long at some face.
-pub fn faces(
-    d: &[[i64; 4]; 1024],
-    n: usize,
-    left: u32,
-    right: u32,
-    dx: i64,
-    dt: i64,
-    f: &mut [[i64; 4]; 1025],
-) -> bool
-    requires { ⌜ (0 < n) × (n ≤ 1024) × (length (now f) ≡ 1025) ⌝ }
-    requires { ⌜ (pos 0 <ℤ dx) × Within 1048576 dx × Within 4096 dt ⌝ }
-    requires { ⌜ Sounds (now d) n ⌝ }
-    ensures { λ r. ⌜ (length (now (f .exit)) ≡ 1025) × (r ≡ some (λ i. longFlux dx dt (crossAt n left right (now (d .entry)) i)) (suc n)) × (r ≡ false → Written [] (now (f .exit)) (suc n) (λ i. faceRow dx dt (crossAt n left right (now (d .entry)) i))) ⌝ }
+pub fn faces(d: &[Sides], reach: Reach, call: Call, f: &mut [FaceRow]) -> bool
+    requires { ⌜ (0 < reach .n) × Room reach (now d) × FaceRoom reach (now f) ⌝ }
+    requires { ⌜ Numbers reach call ⌝ }
+    requires { ⌜ Sounds (now d) (reach .n) ⌝ }
+    ensures { λ r. ⌜ FillSays [] (suc (reach .n)) (longAt reach call (now (d .entry))) (faceRowAt reach call (now (d .entry))) r (now (f .exit)) ⌝ }
 {
+    let n = reach.n;
     let mut i: usize = 0;
     while i <= n {
-        let c = face_at(d, n, left, right, i);
-        if too_long(c, dx, dt) {
+        let x = face_at(d, reach, call, i);
+        if too_long(x, reach, call) {
             return true;
         }
-        f[i] = kept_row(c, dx, dt);
+        f[i] = face_row(x, reach, call);
         i += 1;
     }
     false

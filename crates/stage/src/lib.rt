@@ -3,13 +3,14 @@
 // all that it is lent and answers every call; what it calls stands in modules that are not public.
 mod cell;
 mod checks;
+mod ending;
 mod faces;
-mod finish;
 mod friction;
 mod joining;
+mod lent;
 mod points;
+mod rows;
 mod sides;
 mod stages;
-mod table;
 mod update;
 pub mod worked;

@@ -1,29 +1,28 @@
 // The two Gauss points of each cell: their speeds, and the momentum that they carry.
 use crate::cell::depths;
-use crate::sides::either_fast;
+use crate::cell::either_fast;
 use crate::sides::speed_of;
-use crate::table::bed_of;
+use reach::Cell;
+use reach::Reach;
+use reach::bed::Bed;
+use reach::bed::under;
 ghost use mathlib.Core.Path.{_≡_};
-ghost use mathlib.Core.Bool.{false};
-ghost use Prim.Native.Nat.{_+_, _≤_, _<_};
+ghost use Prim.Native.Nat.{_≤_, _<_};
 ghost use lib.ListN.{length};
 ghost use lib.IntN.{pos, _+ℤ_, _-ℤ_, _*ℤ_};
 ghost use lib.Signed.{quotZ};
-ghost use Rattle.whole.specs.Parts.{Within};
-ghost use Rattle.tables.specs.Some.{some};
-ghost use Rattle.tables.specs.Rows.{Written};
+ghost use Rattle.tables.specs.Filling.{FillSays};
 ghost use Rattle.tables.specs.Cells.{asCell, seen};
-ghost use Rattle.rules.specs.Limits.{dryDepth};
-ghost use Rattle.rules.specs.Stage.{share, gauss};
-ghost use Rattle.rules.specs.Refusals.{fastPoints};
-ghost use Rattle.finishing.specs.Held.{asBed, bedAt};
-ghost use Rattle.stage.specs.Held.{Inside, Ranged};
-ghost use Rattle.stage.specs.Around.{Around};
-ghost use Rattle.stage.specs.Rows.{pointsBy, pointRow};
+ghost use Rattle.rules.specs.Limits.{fullest};
+ghost use Rattle.rules.specs.Stage.{share};
+ghost use Rattle.reach.specs.Told.{bedIn};
+ghost use Rattle.reach.specs.Ranges.{UpTo};
+ghost use Rattle.stage.specs.Ranges.{Room, Inside, Ranged, Around, thinFastest};
+ghost use Rattle.stage.specs.Rows.{pointsBy, pointRow, fastPointsAt, momentumAt};
 
 // The part of a slope at a Gauss point, 1/√3 of it.
 fn share_of(x: i64) -> i64
-    requires { ⌜ Within 8388608 x ⌝ }
+    requires { ⌜ UpTo fullest x ⌝ }
     ensures { λ r. ⌜ r ≡ share x ⌝ }
 {
     37837 * x / 65536
@@ -31,8 +30,8 @@ fn share_of(x: i64) -> i64
 
 // The momentum of two points, each with its discharge and its speed.
 fn carried_both(p: i64, u: i64, q: i64, w: i64) -> i64
-    requires { ⌜ Within 8388608 p × Within 6871947673 u ⌝ }
-    requires { ⌜ Within 8388608 q × Within 6871947673 w ⌝ }
+    requires { ⌜ UpTo fullest p × UpTo thinFastest u ⌝ }
+    requires { ⌜ UpTo fullest q × UpTo thinFastest w ⌝ }
     ensures { λ r. ⌜ r ≡ quotZ (p *ℤ u) (pos 4096) +ℤ quotZ (q *ℤ w) (pos 4096) ⌝ }
 {
     p * u / 4096 + q * w / 4096
@@ -51,23 +50,24 @@ fn pair_of(m: i64, d: i64, p: i64, q: i64) -> [i64; 3]
 }
 
 // The two speeds of a cell's Gauss points, and the sum of their momenta.
-fn points_of(b: [i64; 2], x: [i64; 4]) -> [i64; 3]
-    requires { ⌜ Inside (asBed b) (asCell x) ⌝ }
-    ensures { λ r. ⌜ r ≡ pointRow (asBed b) (asCell x) ⌝ }
+fn points_of(b: Bed, x: Cell) -> [i64; 3]
+    requires { ⌜ Inside (bedIn b) (asCell x) ⌝ }
+    ensures { λ r. ⌜ r ≡ pointRow (bedIn b) (asCell x) ⌝ }
 {
     let h = depths(b, x);
     pair_of(h[0], share_of(h[1]), x[2], share_of(x[3]))
 }
 
 // The momentum of every cell's Gauss points into g, and whether some point is too fast.
-pub fn points(t: &[[i64; 4]; 1024], bed: &[i32], n: usize, g: &mut [i64; 1024]) -> bool
-    requires { ⌜ (n ≤ 1024) × (length (now bed) ≡ n + 1) × (length (now g) ≡ 1024) ⌝ }
-    requires { ⌜ Ranged (now bed) n (seen (now t)) ⌝ }
-    ensures { λ r. ⌜ (length (now (g .exit)) ≡ 1024) × (r ≡ some (λ i. fastPoints dryDepth (bedAt (now (bed .entry)) i) (seen (now (t .entry)) i)) n) × (r ≡ false → Written (pos 0) (now (g .exit)) n (λ i. gauss dryDepth (bedAt (now (bed .entry)) i) (seen (now (t .entry)) i))) ⌝ }
+pub fn points(t: &[Cell], bed: &[i32], reach: Reach, g: &mut [i64]) -> bool
+    requires { ⌜ Room reach (now t) × Room reach (now g) ⌝ }
+    requires { ⌜ Ranged (now bed) (reach .n) (seen (now t)) ⌝ }
+    ensures { λ r. ⌜ FillSays (pos 0) (reach .n) (fastPointsAt (now (bed .entry)) (seen (now (t .entry)))) (momentumAt (now (bed .entry)) (seen (now (t .entry)))) r (now (g .exit)) ⌝ }
 {
+    let n = reach.n;
     let mut i: usize = 0;
     while i < n {
-        let p = points_of(bed_of(bed, i), t[i]);
+        let p = points_of(under(bed, i), t[i]);
         if either_fast(p[0], p[1]) {
             return true;
         }

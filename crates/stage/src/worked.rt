@@ -3,26 +3,40 @@ use crate::checks::bad_bed;
 use crate::checks::bad_friction;
 use crate::checks::bad_lengths;
 use crate::checks::bad_numbers;
-use crate::checks::fast_lent;
+use crate::checks::fast;
 use crate::checks::off;
-use crate::checks::off_lent;
-use crate::finish::finish;
+use crate::ending::end;
 use crate::friction::rub;
 use crate::joining::end_volume;
 use crate::joining::join;
+use crate::lent::load;
+use crate::lent::widened;
+use crate::rows::FaceRow;
+use crate::rows::Sides;
 use crate::stages::stage;
-use crate::table::widened;
+use reach::Call;
+use reach::Cell;
+use reach::Given;
+use reach::Reach;
+use reach::limits::CELLS;
+use reach::limits::FACES;
 ghost use mathlib.Core.Path.{_≡_};
 ghost use mathlib.Core.List.{[]};
-ghost use Prim.Native.Nat.{_+_, _*_, _≤_, _<_};
+ghost use Prim.Native.Nat.{_+_, _*_, _≤_};
 ghost use lib.ListN.{getD, length};
 ghost use Rattle.tables.specs.Rows.{Filled};
-ghost use Rattle.tables.specs.Cells.{cellAt, seen};
+ghost use Rattle.tables.specs.Cells.{seen};
 ghost use Rattle.rules.specs.Refusals.{verdict};
-ghost use Rattle.stage.specs.Held.{Ranged, Slows};
-ghost use Rattle.stage.specs.Kept.{FaceRows};
-ghost use Rattle.stage.specs.Says.{Numbers, readyChecks, OneSays, TwoSays, RowsOf};
-ghost use Rattle.stage.specs.Worked.{BothSay, lentBy, WorkedSays};
+ghost use Rattle.reach.specs.Ranges.{Wides};
+ghost use Rattle.stage.specs.Ranges.{InOrder, Room, FaceRoom, Ranged, FaceRows};
+ghost use Rattle.stage.specs.Says.{readyChecks, OneSays, TwoSays, BothSay};
+ghost use Rattle.stage.specs.Worked.{TablesSay, lentBy, WorkedSays};
+
+// A reach of at most so many cells is worked on short tables: they take a sixteenth of the room, and
+// clearing them a sixteenth of the time.
+const SHORT_CELLS: usize = 64;
+
+const SHORT_FACES: usize = SHORT_CELLS + 1;
 
 pub enum Worked {
     // the number of the first check that applies
@@ -31,10 +45,11 @@ pub enum Worked {
     Done(i64, i64),
 }
 
-// Checks 3 to 5 and the friction speeds, in their order; 0 where none applies.
-fn ready(state: &[i32], bed: &[i32], friction: &[u16], n: usize) -> u32
-    requires { ⌜ (n ≤ 1024) × (length (now state) ≡ 4 * n) × (length (now bed) ≡ n + 1) × (length (now friction) ≡ n) ⌝ }
-    ensures { λ r. ⌜ r ≡ verdict (readyChecks n (now (bed .entry)) (now (friction .entry)) (now (state .entry))) ⌝ }
+// Checks 3 to 5 and the friction speeds of the lent state in t, in their order; 0 where none applies.
+fn ready(t: &[Cell], bed: &[i32], friction: &[u16], reach: Reach) -> u32
+    requires { ⌜ Room reach (now t) × (length (now bed) ≡ reach .n + 1) × (length (now friction) ≡ reach .n) ⌝ }
+    requires { ⌜ Wides (reach .n) (seen (now t)) ⌝ }
+    ensures { λ r. ⌜ r ≡ verdict (readyChecks (reach .n) (now (bed .entry)) (now (friction .entry)) (seen (now (t .entry)))) ⌝ }
 {
     if bad_bed(bed) {
         return 3;
@@ -42,139 +57,220 @@ fn ready(state: &[i32], bed: &[i32], friction: &[u16], n: usize) -> u32
     if bad_friction(friction) {
         return 4;
     }
-    if off_lent(state, bed, n) {
+    if off(t, bed, reach) {
         return 5;
     }
-    if fast_lent(state, bed, n) {
+    if fast(t, bed, reach) {
         return 6;
     }
     0
 }
 
-// Stage one from a, finished, into b, with its faces in f.
+// Stage one from the state a after friction, finished, into b, with its faces in f. Of the tables that
+// a stage works on, d has the sides, g the momenta and u the unfinished state.
 fn stage_one(
-    a: &[[i64; 4]; 1024],
+    a: &[Cell],
     bed: &[i32],
-    n: usize,
-    dx: i64,
-    dt: i64,
-    jump: i64,
-    left: u32,
-    right: u32,
-    f: &mut [[i64; 4]; 1025],
-    b: &mut [[i64; 4]; 1024],
+    reach: Reach,
+    call: Call,
+    d: &mut [Sides],
+    g: &mut [i64],
+    f: &mut [FaceRow],
+    u: &mut [Cell],
+    b: &mut [Cell],
 ) -> u32
-    requires { ⌜ (0 < n) × (n ≤ 1024) × (length (now bed) ≡ n + 1) × (length (now f) ≡ 1025) × (length (now b) ≡ 1024) ⌝ }
-    requires { ⌜ Numbers dx dt jump ⌝ }
-    requires { ⌜ Ranged (now bed) n (seen (now a)) ⌝ }
-    ensures { λ r. ⌜ OneSays n dx (now (bed .entry)) dt jump left right (now (a .entry)) r (now (f .exit)) (now (b .exit)) ⌝ }
+    requires { ⌜ InOrder reach call (now bed) ⌝ }
+    requires { ⌜ Room reach (now a) × Room reach (now d) × Room reach (now g) × FaceRoom reach (now f) × Room reach (now u) × Room reach (now b) ⌝ }
+    requires { ⌜ Ranged (now bed) (reach .n) (seen (now a)) ⌝ }
+    ensures { λ k. ⌜ OneSays reach call (now (bed .entry)) (now (a .entry)) k (now (f .exit)) (now (b .exit)) ⌝ }
 {
-    let mut u = [[0i64; 4]; 1024];
-    let k = stage(a, bed, n, dx, dt, left, right, f, &mut u);
+    let k = stage(a, bed, reach, call, d, g, f, u);
     if k != 0 {
         return k;
     }
-    finish(&u, bed, jump, n, b);
-    if off(b, bed, n) {
-        return 8;
-    }
-    0
+    end(u, bed, reach, call, b)
 }
 
-// Stage two from b, joined with a by the faces f and g, and finished, in place of b.
+// Stage two from b, with its faces in h, joined with a by the faces f and h, and finished, in place of b.
 fn stage_two(
-    a: &[[i64; 4]; 1024],
-    b: &mut [[i64; 4]; 1024],
-    f: &[[i64; 4]; 1025],
+    a: &[Cell],
+    f: &[FaceRow],
     bed: &[i32],
-    n: usize,
-    dx: i64,
-    dt: i64,
-    jump: i64,
-    left: u32,
-    right: u32,
-    g: &mut [[i64; 4]; 1025],
+    reach: Reach,
+    call: Call,
+    d: &mut [Sides],
+    g: &mut [i64],
+    h: &mut [FaceRow],
+    u: &mut [Cell],
+    b: &mut [Cell],
 ) -> u32
-    requires { ⌜ (0 < n) × (n ≤ 1024) × (length (now bed) ≡ n + 1) × (length (now g) ≡ 1025) × (length (now b) ≡ 1024) ⌝ }
-    requires { ⌜ Numbers dx dt jump ⌝ }
-    requires { ⌜ Ranged (now bed) n (seen (now a)) × Ranged (now bed) n (seen (now b)) ⌝ }
-    requires { ⌜ FaceRows (now f) n × RowsOf n dx (now bed) dt jump left right (now a) (now f) ⌝ }
-    ensures { λ r. ⌜ TwoSays n dx (now (bed .entry)) dt jump left right (now (a .entry)) (now (b .entry)) r (now (g .exit)) (now (b .exit)) ⌝ }
+    requires { ⌜ InOrder reach call (now bed) ⌝ }
+    requires { ⌜ Room reach (now a) × Room reach (now d) × Room reach (now g) × Room reach (now u) × Room reach (now b) ⌝ }
+    requires { ⌜ FaceRoom reach (now f) × FaceRoom reach (now h) ⌝ }
+    requires { ⌜ Ranged (now bed) (reach .n) (seen (now a)) × Ranged (now bed) (reach .n) (seen (now b)) ⌝ }
+    requires { ⌜ FaceRows (now f) (reach .n) ⌝ }
+    ensures { λ k. ⌜ TwoSays reach call (now (bed .entry)) (now (a .entry)) (now (f .entry)) (now (b .entry)) k (now (h .exit)) (now (b .exit)) ⌝ }
 {
-    let mut u = [[0i64; 4]; 1024];
-    let k = stage(b, bed, n, dx, dt, left, right, g, &mut u);
+    let k = stage(b, bed, reach, call, d, g, h, u);
     if k != 0 {
         return k;
     }
-    join(a, &mut u, f, g, n);
-    finish(&u, bed, jump, n, b);
-    if off(b, bed, n) {
-        return 8;
-    }
-    0
+    join(a, u, f, h, reach);
+    end(u, bed, reach, call, b)
 }
 
-// The first n cells of y, handed out.
-fn hand_out(y: &[[i64; 4]; 1024], n: usize, out: &mut [[i64; 4]])
-    requires { ⌜ (n ≤ 1024) × (n ≤ length (now out)) ⌝ }
-    ensures { λ _. ⌜ Filled [] (now (out .entry)) (now (out .exit)) n (λ i. getD (now (y .entry)) i []) ⌝ }
+// Both stages from the state a after friction: the end state in b, and the faces of the two in f and h.
+fn both_stages(
+    a: &[Cell],
+    bed: &[i32],
+    reach: Reach,
+    call: Call,
+    d: &mut [Sides],
+    g: &mut [i64],
+    f: &mut [FaceRow],
+    h: &mut [FaceRow],
+    u: &mut [Cell],
+    b: &mut [Cell],
+) -> u32
+    requires { ⌜ InOrder reach call (now bed) ⌝ }
+    requires { ⌜ Room reach (now a) × Room reach (now d) × Room reach (now g) × Room reach (now u) × Room reach (now b) ⌝ }
+    requires { ⌜ FaceRoom reach (now f) × FaceRoom reach (now h) ⌝ }
+    requires { ⌜ Ranged (now bed) (reach .n) (seen (now a)) ⌝ }
+    ensures { λ k. ⌜ BothSay reach call (now (bed .entry)) (now (a .entry)) k (now (f .exit)) (now (h .exit)) (now (b .exit)) ⌝ }
 {
+    let k = stage_one(a, bed, reach, call, d, g, f, u, b);
+    if k != 0 {
+        return k;
+    }
+    stage_two(a, f, bed, reach, call, d, g, h, u, b)
+}
+
+// The first n cells of b, handed out.
+fn hand_out(b: &[Cell], reach: Reach, out: &mut [Cell])
+    requires { ⌜ Room reach (now b) × Room reach (now out) ⌝ }
+    ensures { λ _. ⌜ Filled [] (now (out .entry)) (now (out .exit)) (reach .n) (λ i. getD (now (b .entry)) i []) ⌝ }
+{
+    let n = reach.n;
     let mut i: usize = 0;
     while i < n {
-        out[i] = y[i];
+        out[i] = b[i];
         i += 1;
     }
 }
 
-// The two stages of a reach whose tables and numbers are in order.
-fn both_stages(
+// The step of a reach and a call that are in order, on the tables lent for it: a has the lent state and
+// then that after friction, b stage one and then the end state; the others are as both stages have them.
+fn on_tables(
     state: &[i32],
     bed: &[i32],
     friction: &[u16],
-    n: usize,
-    dx: i64,
-    dt: i64,
-    jump: i64,
-    left: u32,
-    right: u32,
-    out: &mut [[i64; 4]],
+    reach: Reach,
+    call: Call,
+    a: &mut [Cell],
+    d: &mut [Sides],
+    g: &mut [i64],
+    f: &mut [FaceRow],
+    h: &mut [FaceRow],
+    u: &mut [Cell],
+    b: &mut [Cell],
+    out: &mut [Cell],
 ) -> Worked
-    requires { ⌜ (0 < n) × (n ≤ 1024) × (length (now state) ≡ 4 * n) × (length (now bed) ≡ n + 1) × (length (now friction) ≡ n) × (n ≤ length (now out)) ⌝ }
-    requires { ⌜ Numbers dx dt jump ⌝ }
-    requires { ⌜ Ranged (now bed) n (cellAt (now state)) × Slows (now friction) (now bed) n (cellAt (now state)) ⌝ }
-    ensures { λ r. ⌜ BothSay n dx (now (bed .entry)) dt jump (now (friction .entry)) left right (now (state .entry)) r (now (out .entry)) (now (out .exit)) ⌝ }
+    requires { ⌜ InOrder reach call (now bed) × (length (now state) ≡ 4 * reach .n) × (length (now friction) ≡ reach .n) ⌝ }
+    requires { ⌜ Room reach (now a) × Room reach (now d) × Room reach (now g) × Room reach (now u) × Room reach (now b) × Room reach (now out) ⌝ }
+    requires { ⌜ FaceRoom reach (now f) × FaceRoom reach (now h) ⌝ }
+    ensures { λ r. ⌜ TablesSay reach call (now (bed .entry)) (now (friction .entry)) (now (state .entry)) r (now (out .entry)) (now (out .exit)) ⌝ }
 {
-    let mut a = [[0i64; 4]; 1024];
-    rub(state, bed, friction, dt, n, &mut a);
-    let mut f = [[0i64; 4]; 1025];
-    let mut b = [[0i64; 4]; 1024];
-    let k = stage_one(&a, bed, n, dx, dt, jump, left, right, &mut f, &mut b);
+    load(state, reach, a);
+    let k = ready(a, bed, friction, reach);
     if k != 0 {
         return Worked::Refused(k);
     }
-    let mut g = [[0i64; 4]; 1025];
-    let m = stage_two(&a, &mut b, &f, bed, n, dx, dt, jump, left, right, &mut g);
+    rub(a, bed, friction, reach, call);
+    let m = both_stages(a, bed, reach, call, d, g, f, h, u, b);
     if m != 0 {
         return Worked::Refused(m);
     }
-    hand_out(&b, n, out);
-    Worked::Done(end_volume(&f, &g, 0), end_volume(&f, &g, n))
+    hand_out(b, reach, out);
+    Worked::Done(end_volume(f, h, 0), end_volume(f, h, reach.n))
+}
+
+// The same on tables made for a short reach, and for a long one.
+fn short_step(
+    state: &[i32],
+    bed: &[i32],
+    friction: &[u16],
+    reach: Reach,
+    call: Call,
+    out: &mut [Cell],
+) -> Worked
+    requires { ⌜ InOrder reach call (now bed) × (length (now state) ≡ 4 * reach .n) × (length (now friction) ≡ reach .n) ⌝ }
+    requires { ⌜ (reach .n ≤ 64) × Room reach (now out) ⌝ }
+    ensures { λ r. ⌜ TablesSay reach call (now (bed .entry)) (now (friction .entry)) (now (state .entry)) r (now (out .entry)) (now (out .exit)) ⌝ }
+{
+    let mut a = [[0i64; 4]; SHORT_CELLS];
+    let mut d = [[0i64; 4]; SHORT_CELLS];
+    let mut g = [0i64; SHORT_CELLS];
+    let mut f = [[0i64; 4]; SHORT_FACES];
+    let mut h = [[0i64; 4]; SHORT_FACES];
+    let mut u = [[0i64; 4]; SHORT_CELLS];
+    let mut b = [[0i64; 4]; SHORT_CELLS];
+    on_tables(
+        state,
+        bed,
+        friction,
+        reach,
+        call,
+        &mut a,
+        &mut d,
+        &mut g,
+        &mut f,
+        &mut h,
+        &mut u,
+        &mut b,
+        out,
+    )
+}
+
+fn long_step(
+    state: &[i32],
+    bed: &[i32],
+    friction: &[u16],
+    reach: Reach,
+    call: Call,
+    out: &mut [Cell],
+) -> Worked
+    requires { ⌜ InOrder reach call (now bed) × (length (now state) ≡ 4 * reach .n) × (length (now friction) ≡ reach .n) ⌝ }
+    requires { ⌜ Room reach (now out) ⌝ }
+    ensures { λ r. ⌜ TablesSay reach call (now (bed .entry)) (now (friction .entry)) (now (state .entry)) r (now (out .entry)) (now (out .exit)) ⌝ }
+{
+    let mut a = [[0i64; 4]; CELLS];
+    let mut d = [[0i64; 4]; CELLS];
+    let mut g = [0i64; CELLS];
+    let mut f = [[0i64; 4]; FACES];
+    let mut h = [[0i64; 4]; FACES];
+    let mut u = [[0i64; 4]; CELLS];
+    let mut b = [[0i64; 4]; CELLS];
+    on_tables(
+        state,
+        bed,
+        friction,
+        reach,
+        call,
+        &mut a,
+        &mut d,
+        &mut g,
+        &mut f,
+        &mut h,
+        &mut u,
+        &mut b,
+        out,
+    )
 }
 
 // One step from the lent state, bed and friction: the refusal's number, or the two end volumes and
 // the new cells in the first n places of `out`. Only an accepted step writes there.
-pub fn work(
-    state: &[i32],
-    bed: &[i32],
-    friction: &[u16],
-    dx: u32,
-    dt: u32,
-    jump: u32,
-    left: u32,
-    right: u32,
-    out: &mut [[i64; 4]],
-) -> Worked
-    ensures { λ r. ⌜ WorkedSays (lentBy (now (state .entry)) (now (bed .entry)) (now (friction .entry)) dx dt jump left right (length (now (out .entry)))) r (now (out .entry)) (now (out .exit)) ⌝ }
+pub fn work(state: &[i32], bed: &[i32], friction: &[u16], given: Given, out: &mut [Cell]) -> Worked
+    ensures { λ r. ⌜ WorkedSays (lentBy (now (state .entry)) (now (bed .entry)) (now (friction .entry)) given (length (now (out .entry)))) r (now (out .entry)) (now (out .exit)) ⌝ }
 {
     let n = friction.len();
     if out.len() < n {
@@ -183,23 +279,21 @@ pub fn work(
     if bad_lengths(state.len(), bed.len(), n) {
         return Worked::Refused(1);
     }
-    if bad_numbers(dx, dt, jump, left, right) {
+    let reach = Reach {
+        n,
+        dx: widened(given.dx),
+    };
+    let call = Call {
+        dt: widened(given.dt),
+        jump: widened(given.jump),
+        left: given.left,
+        right: given.right,
+    };
+    if bad_numbers(reach, call) {
         return Worked::Refused(2);
     }
-    let k = ready(state, bed, friction, n);
-    if k != 0 {
-        return Worked::Refused(k);
+    if n <= SHORT_CELLS {
+        return short_step(state, bed, friction, reach, call, out);
     }
-    both_stages(
-        state,
-        bed,
-        friction,
-        n,
-        widened(dx),
-        widened(dt),
-        widened(jump),
-        left,
-        right,
-        out,
-    )
+    long_step(state, bed, friction, reach, call, out)
 }

@@ -13,9 +13,9 @@ use Rattle.tables.specs.Cells.{asCell}
 use Rattle.rules.specs.Limits.{deepest, fullest}
 use Rattle.rules.specs.Reach.{h0, h1, hl, hr, ql, qr}
 use Rattle.rules.specs.Refusals.{any, outside, past, offCell}
-use Rattle.finishing.specs.Held.{asBed}
-use Rattle.stage.specs.Kept.{h0-size, h1-size}
 use borrow.Author.Needs.{needs}
+use Rattle.reach.specs.Told.{bedIn}
+use Rattle.stage.specs.Laws.CellSizes.{h0-size, h1-size}
 use Rattle.stage.proofs.cell.off_cell.Statement.{statement}
 use Rattle.stage.proofs.cell.off_cell.Tie as tie
 
@@ -35,14 +35,14 @@ late false false false false e = refl
 
 module _ (a : tie.After-off-depths-arg2) where
   -- the two depths as they are read back
-  mean : toZ w64 (ofZ w64 (getD (a .before .before .depths .result) 0 (pos 0))) ≡ h0 (asBed (a .before .before .before .args .b)) (asCell (a .before .before .before .args .t2))
+  mean : toZ w64 (ofZ w64 (getD (a .before .before .depths .result) 0 (pos 0))) ≡ h0 (bedIn (a .before .before .before .args .b)) (asCell (a .before .before .before .args .t2))
   mean = back (a .before .off-depths-arg .given) ∙ ap (λ (l : List ℤ). getD l 0 (pos 0)) (a .before .before .depths .ensures)
 
-  slope : toZ w64 (ofZ w64 (getD (a .before .before .depths .result) 1 (pos 0))) ≡ h1 (asBed (a .before .before .before .args .b)) (asCell (a .before .before .before .args .t2))
+  slope : toZ w64 (ofZ w64 (getD (a .before .before .depths .result) 1 (pos 0))) ≡ h1 (bedIn (a .before .before .before .args .b)) (asCell (a .before .before .before .args .t2))
   slope = back (a .off-depths-arg2 .given) ∙ ap (λ (l : List ℤ). getD l 1 (pos 0)) (a .before .before .depths .ensures)
 
 -- the first pair
-first : (c : tie.After-off-depths) → let s = c .before .before .before .before in let b = asBed (s .args .b) in let x = asCell (s .args .t2) in
+first : (c : tie.After-off-depths) → let s = c .before .before .before .before in let b = bedIn (s .args .b) in let x = asCell (s .args .t2) in
     c .off-depths .result ≡ (outside (pos 0) deepest (hl b x) || outside (pos 0) deepest (hr b x))
 unfolding hl hr
 first c = c .off-depths .ensures ∙ ap₂ (λ (m d : ℤ). outside (pos 0) deepest (m -ℤ d) || outside (pos 0) deepest (m +ℤ d)) (mean (c .before)) (slope (c .before))
@@ -62,7 +62,7 @@ off-depths-requires c κs = let s = c .before .before .before in
 
 returns : tie.Need-returns
 unfolding offCell
-returns c = let s = c .before .before .before .before .before in let b = asBed (s .args .b) in let x = asCell (s .args .t2) in
+returns c = let s = c .before .before .before .before .before in let b = bedIn (s .args .b) in let x = asCell (s .args .t2) in
     early (outside (pos 0) deepest (hl b x)) (outside (pos 0) deepest (hr b x)) (past fullest (ql x)) (past fullest (qr x)) (sym (first (c .before)) ∙ c .if1 .taken)
 
 array-copy-out-off-flows : tie.Need-array-copy-out-off-flows
@@ -77,7 +77,7 @@ off-flows-requires c κs = let s = c .before .before .before .before .before .be
 
 returns-2 : tie.Need-returns-2
 unfolding offCell
-returns-2 c = let e = c .before .before .before in let s = e .before .before .before .before .before in let b = asBed (s .args .b) in let x = asCell (s .args .t2) in
+returns-2 c = let e = c .before .before .before in let s = e .before .before .before .before .before in let b = bedIn (s .args .b) in let x = asCell (s .args .t2) in
     c .off-flows .ensures
     ∙ ap₂ (λ (m d : ℤ). past fullest (m -ℤ d) || past fullest (m +ℤ d)) (back {z = x .q0} (c .before .before .off-flows-arg .given)) (back {z = x .q1} (c .before .off-flows-arg2 .given))
     ∙ late (outside (pos 0) deepest (hl b x)) (outside (pos 0) deepest (hr b x)) (past fullest (ql x)) (past fullest (qr x)) (sym (first (e .before)) ∙ e .if1 .left)

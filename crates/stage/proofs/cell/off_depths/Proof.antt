@@ -13,29 +13,29 @@ abbrev env : tie.Start → List Entry
 env s = entry (s .fits .m) (s .pre .0) ∷ entry (s .fits .s) (s .pre .1) ∷ []
 
 -- what the first test says
-first : (c : tie.After-off-depth) → let s = c .before in c .off-depth .result ≡ outside (pos 0) deepest (s .args .m -ℤ s .args .s)
-first c = c .off-depth .ensures ∙ ap (λ (z : ℤ). outside (pos 0) deepest z) (value (env (c .before)) (v 0 ⊝ v 1) tt)
+first : (c : tie.After-outside) → let s = c .before in c .outside .result ≡ outside (pos 0) deepest (s .args .m -ℤ s .args .s)
+first c = c .outside .ensures ∙ ap (λ (z : ℤ). outside (pos 0) deepest z) (value (env (c .before)) (v 0 ⊝ v 1) tt)
 
-sub-off-depth : tie.Need-sub-off-depth
-sub-off-depth c = need (env c) (v 0 ⊝ v 1) tt
+sub-outside : tie.Need-sub-outside
+sub-outside c = need (env c) (v 0 ⊝ v 1) tt
 
-off-depth-requires : tie.Need-off-depth-requires
-off-depth-requires c κs = search needs
+outside-requires : tie.Need-outside-requires
+outside-requires c κs = search needs
 
 returns : tie.Need-returns
 returns c = let s = c .before .before in
     yes-or (outside (pos 0) deepest (s .args .m -ℤ s .args .s)) (outside (pos 0) deepest (s .args .m +ℤ s .args .s)) (sym (first (c .before)) ∙ c .if1 .taken)
 
-add-off-depth : tie.Need-add-off-depth
-add-off-depth c = need (env (c .before .before)) (v 0 ⊕ v 1) tt
+add-outside : tie.Need-add-outside
+add-outside c = need (env (c .before .before)) (v 0 ⊕ v 1) tt
 
-off-depth-requires-2 : tie.Need-off-depth-requires-2
-off-depth-requires-2 c κs = search needs
+outside-requires-2 : tie.Need-outside-requires-2
+outside-requires-2 c κs = search needs
 
 returns-2 : tie.Need-returns-2
 returns-2 c = let b = c .before in let s = b .before .before in
-    c .off-depth2 .ensures ∙ ap (λ (z : ℤ). outside (pos 0) deepest z) (value (env s) (v 0 ⊕ v 1) tt)
+    c .outside2 .ensures ∙ ap (λ (z : ℤ). outside (pos 0) deepest z) (value (env s) (v 0 ⊕ v 1) tt)
     ∙ no-or (outside (pos 0) deepest (s .args .m -ℤ s .args .s)) (outside (pos 0) deepest (s .args .m +ℤ s .args .s)) (sym (first (b .before)) ∙ b .if1 .left)
 
 pub off-depths-spec : {M : Type 1} → statement M
-off-depths-spec = tie.close (tie.spec sub-off-depth off-depth-requires returns add-off-depth off-depth-requires-2 returns-2)
+off-depths-spec = tie.close (tie.spec sub-outside outside-requires returns add-outside outside-requires-2 returns-2)

@@ -13,29 +13,29 @@ abbrev env : tie.Start → List Entry
 env s = entry (s .fits .m) (s .pre .0) ∷ entry (s .fits .s) (s .pre .1) ∷ []
 
 -- what the first test says
-first : (c : tie.After-off-flow) → let s = c .before in c .off-flow .result ≡ past fullest (s .args .m -ℤ s .args .s)
-first c = c .off-flow .ensures ∙ ap (λ (z : ℤ). past fullest z) (value (env (c .before)) (v 0 ⊝ v 1) tt)
+first : (c : tie.After-past) → let s = c .before in c .past .result ≡ past fullest (s .args .m -ℤ s .args .s)
+first c = c .past .ensures ∙ ap (λ (z : ℤ). past fullest z) (value (env (c .before)) (v 0 ⊝ v 1) tt)
 
-sub-off-flow : tie.Need-sub-off-flow
-sub-off-flow c = need (env c) (v 0 ⊝ v 1) tt
+sub-past : tie.Need-sub-past
+sub-past c = need (env c) (v 0 ⊝ v 1) tt
 
-off-flow-requires : tie.Need-off-flow-requires
-off-flow-requires c κs = search needs
+past-requires : tie.Need-past-requires
+past-requires c κs = search needs
 
 returns : tie.Need-returns
 returns c = let s = c .before .before in
     yes-or (past fullest (s .args .m -ℤ s .args .s)) (past fullest (s .args .m +ℤ s .args .s)) (sym (first (c .before)) ∙ c .if1 .taken)
 
-add-off-flow : tie.Need-add-off-flow
-add-off-flow c = need (env (c .before .before)) (v 0 ⊕ v 1) tt
+add-past : tie.Need-add-past
+add-past c = need (env (c .before .before)) (v 0 ⊕ v 1) tt
 
-off-flow-requires-2 : tie.Need-off-flow-requires-2
-off-flow-requires-2 c κs = search needs
+past-requires-2 : tie.Need-past-requires-2
+past-requires-2 c κs = search needs
 
 returns-2 : tie.Need-returns-2
 returns-2 c = let b = c .before in let s = b .before .before in
-    c .off-flow2 .ensures ∙ ap (λ (z : ℤ). past fullest z) (value (env s) (v 0 ⊕ v 1) tt)
+    c .past2 .ensures ∙ ap (λ (z : ℤ). past fullest z) (value (env s) (v 0 ⊕ v 1) tt)
     ∙ no-or (past fullest (s .args .m -ℤ s .args .s)) (past fullest (s .args .m +ℤ s .args .s)) (sym (first (b .before)) ∙ b .if1 .left)
 
 pub off-flows-spec : {M : Type 1} → statement M
-off-flows-spec = tie.close (tie.spec sub-off-flow off-flow-requires returns add-off-flow off-flow-requires-2 returns-2)
+off-flows-spec = tie.close (tie.spec sub-past past-requires returns add-past past-requires-2 returns-2)

@@ -9,19 +9,19 @@ use Rattle.rules.specs.Limits.{dryDepth, fastest}
 use Rattle.rules.specs.Face.{speed}
 use Rattle.rules.specs.Reach.{Bed, h0}
 use Rattle.rules.specs.Refusals.{past, fastCell}
-use Rattle.finishing.specs.Held.{asBed}
-use Rattle.stage.specs.Kept.{Kept, kept}
+use Rattle.reach.specs.Told.{bedIn}
+use Rattle.stage.specs.Laws.CellSizes.{CellSizes, cell-sizes}
 use Rattle.stage.proofs.checks.fast_cell.Statement.{statement}
 use Rattle.stage.proofs.checks.fast_cell.Tie as tie
 
 abbrev bed : tie.Start → Bed
-bed s = asBed (s .args .b)
+bed s = bedIn (s .args .b)
 
 abbrev cell : tie.Start → Cell
 cell s = asCell (s .args .t2)
 
-keeps : (s : tie.Start) → Kept (bed s) (cell s)
-keeps s = kept (s .pre)
+keeps : (s : tie.Start) → CellSizes (bed s) (cell s)
+keeps s = cell-sizes (s .pre)
 
 depths-requires : tie.Need-depths-requires
 depths-requires c κs = (c .pre .ground, keeps c .wide)
@@ -41,14 +41,14 @@ speed-of-requires c κs =
     rw (back {z = cell s .q0} (c .before .speed-of-arg .given), back64 {z = getD (d .depths .result) 0 (pos 0)} (c .speed-of-arg2 .given) (mean d))
     (m .q0, (m .mean, m .mean-most))
 
-too-fast-requires : tie.Need-too-fast-requires
-too-fast-requires c κs = search needs
+past-requires : tie.Need-past-requires
+past-requires c κs = search needs
 
 returns : tie.Need-returns
 unfolding fastCell
 returns c =
     let u = c .before in let a = u .before in let d = a .before .before in let s = d .before in
-    c .too-fast .ensures ∙ ap (past fastest) (back64 (u .speed-of .ok) (u .speed-of .ensures
+    c .past .ensures ∙ ap (past fastest) (back64 (u .speed-of .ok) (u .speed-of .ensures
     ∙ (λ i. speed dryDepth (back {z = cell s .q0} (a .before .speed-of-arg .given) i) (back64 {z = getD (d .depths .result) 0 (pos 0)} (a .speed-of-arg2 .given) (mean d) i))))
 
 pub fast-cell-spec : {M : Type 1} → statement M
@@ -59,5 +59,5 @@ fast-cell-spec =
     array-copy-out-speed-of
     array-copy-out-speed-of-2
     speed-of-requires
-    too-fast-requires
+    past-requires
     returns)

@@ -1,16 +1,17 @@
 use mathlib.Core.Path.{_≡_, sym, _∙_, subst}
 use mathlib.Core.Bool.{Bool}
-use mathlib.Core.List.{List, []}
+use mathlib.Core.List.{List}
 use Prim.Native.Nat.{ℕ, _≤_, _-_}
 use native.Mathlib.Omega.{arith}
 use borrow.Author.Needs.{needs}
 use denote.Ref.{now}
-use lib.ListN.{getD}
 use lib.IntN.{ℤ}
-use Rattle.tables.specs.Cells.{asCell, seen}
-use Rattle.rules.specs.Refusals.{offCell}
-use Rattle.finishing.specs.Held.{asBed, bedAt, Ground, Rough}
 use Rattle.tables.specs.Scan.{Clear, clear-none, clear-more, found, clear-all}
+use Rattle.tables.specs.Cells.{seen}
+use Rattle.rules.specs.Reach.{Bed}
+use Rattle.rules.specs.Refusals.{offCell}
+use Rattle.reach.specs.Told.{bedAt}
+use Rattle.reach.specs.Ranges.{Ground}
 use Rattle.stage.proofs.checks.off.Statement.{statement}
 use Rattle.stage.proofs.checks.off.Tie as tie
 
@@ -26,48 +27,33 @@ abbrev μ-loop : tie.MeasureT-loop
 loop-holds : tie.Need-loop-holds Inv-loop μ-loop
 loop-holds c = (omega arith, clear-none _)
 
-bed-of-requires : tie.Need-bed-of-requires Inv-loop μ-loop
-bed-of-requires c κs = (omega arith, omega arith)
-
-mul-off-cell : tie.Need-mul-off-cell Inv-loop μ-loop
-mul-off-cell c = search needs
-
-element-copy-out-off-cell : tie.Need-element-copy-out-off-cell Inv-loop μ-loop
-element-copy-out-off-cell c = omega arith
-
 off-cell-requires : tie.Need-off-cell-requires Inv-loop μ-loop
 off-cell-requires c κs =
-    let b = c .before in let a = b .before in let l = a .before in let s = l .before in
-    let x : Rough (bedAt (now (s .args .bed)) (l .loop .i)) (seen (now (s .args .t)) (l .loop .i)) = s .pre .1 (l .loop .i) (a .loop-test .taken) in
-    (subst (λ (k : List ℤ). Ground (asBed k)) (sym (b .bed-of .ensures)) (x .ground), x .wide)
+    let b = c .before in let e = b .before in let l = e .before in let s = l .before in
+    let x = s .pre .1 (l .loop .i) (e .loop-test .taken) in
+    (subst Ground (sym (b .under .ensures)) (x .ground), x .wide)
 
 -- what the test of this turn says
 here : (c : tie.After-off-cell Inv-loop μ-loop) →
-    let l = c .before .before .before .before in bad (now (l .before .args .t)) (now (l .before .args .bed)) (l .loop .i) ≡ c .off-cell .result
+    let l = c .before .before .before .before in let s = l .before in bad (now (s .args .t)) (now (s .args .bed)) (l .loop .i) ≡ c .off-cell .result
 here c =
-    let b = c .before .before in let l = b .before .before in
-    sym (c .off-cell .ensures ∙ (λ x. offCell (asBed (b .bed-of .ensures x)) (asCell (getD (now (l .before .args .t)) (l .loop .i) []))))
+    let b = c .before .before in let l = b .before .before in let s = l .before in
+    sym (c .off-cell .ensures ∙ (λ j. offCell (b .under .ensures j) (seen (now (s .args .t)) (l .loop .i))))
 
 returns : tie.Need-returns Inv-loop μ-loop
 returns c =
-    let b = c .before in let a = b .before .before .before in let s = a .before .before in
-    found (bad (now (s .args .t)) (now (s .args .bed))) (s .args .n) (a .before .loop .i) (a .loop-test .taken) (here b) (c .if1 .taken)
-
-add-i : tie.Need-add-i Inv-loop μ-loop
-add-i c = search needs
-
-loop-less : tie.Need-loop-less Inv-loop μ-loop
-loop-less c = search needs
+    let o = c .before in let e = o .before .before .before in let l = e .before in let s = l .before in
+    found (bad (now (s .args .t)) (now (s .args .bed))) (s .args .reach .n) (l .loop .i) (e .loop-test .taken) (here o) (c .if1 .taken)
 
 loop-again : tie.Need-loop-again Inv-loop μ-loop
 loop-again c =
-    let b = c .before in let l = b .before .before .before .before in let s = l .before in
-    (omega arith, clear-more (bad (now (s .args .t)) (now (s .args .bed))) (l .loop .i) (l .loop .inv .1) (here b) (c .if1 .left))
+    let o = c .before in let l = o .before .before .before .before in let s = l .before in
+    (omega arith, clear-more (bad (now (s .args .t)) (now (s .args .bed))) (l .loop .i) (l .loop .inv .1) (here o) (c .if1 .left))
 
 returns-2 : tie.Need-returns-2 Inv-loop μ-loop
 returns-2 c =
     let l = c .before in let s = l .before in
-    clear-all (bad (now (s .args .t)) (now (s .args .bed))) (s .args .n) (l .loop .i) (c .loop-test .left) (l .loop .inv .1)
+    clear-all (bad (now (s .args .t)) (now (s .args .bed))) (s .args .reach .n) (l .loop .i) (c .loop-test .left) (l .loop .inv .1)
 
 pub off-spec : {M : Type 1} → statement M
 off-spec =
@@ -76,12 +62,12 @@ off-spec =
     Inv-loop
     μ-loop
     loop-holds
-    bed-of-requires
-    mul-off-cell
-    element-copy-out-off-cell
+    (λ c κs. search needs)
+    (λ c. search needs)
+    (λ c. search needs)
     off-cell-requires
     returns
-    add-i
-    loop-less
+    (λ c. search needs)
+    (λ c. search needs)
     loop-again
     returns-2)

@@ -1,54 +1,49 @@
--- Both sides are within the limits, so what the face crate answers, read as a row, is the rule's flux.
+-- Both sides are within the limits, so what the face crate answers is the rule's flux.
 use mathlib.Core.Path.{_≡_, sym, _∙_, ap}
-use mathlib.Core.List.{List, [], _∷_}
-use lib.IntN.{ℤ, pos}
+use lib.IntN.{pos}
 use mir.Facts.{toZ-ofZ}
 use borrow.Author.Needs.{needs}
+use Rattle.whole.specs.Parts.{fit}
 use Rattle.whole.specs.Machine.{back}
 use Rattle.rules.specs.Face.{Flux, face}
+use Rattle.rules.specs.Laws.Sizes.{depth-size}
 use Rattle.speeds.specs.Given.{given}
-use Rattle.face.specs.Given.{side}
 use Rattle.face.specs.Answers.{flux, one-flux}
 use Rattle.face.specs.declared.answer.Carried.{Carried}
 use Rattle.face.specs.declared.answer.Carried.the-variants as carried
 use Rattle.face.proofs.Fits.{face-given}
-use Rattle.stage.specs.Rows.{fluxList}
+use Rattle.stage.specs.Rows.{sideIn}
 use Rattle.stage.proofs.faces.crossing.Statement.{statement}
 use Rattle.stage.proofs.faces.crossing.Tie as tie
 
--- the row that the code makes of an answer
-abbrev rowOf : Carried → List ℤ
-rowOf (carried.Flux f k a s) = f ∷ k ∷ a ∷ s ∷ []
-rowOf carried.Refused = pos 0 ∷ pos 0 ∷ pos 0 ∷ pos 0 ∷ []
+-- the flux that the code makes of an answer
+abbrev made : Carried → Flux
+made (carried.Flux f k a s) = record { F = f; K = k; A = a; S = s }
+made carried.Refused = record { F = pos 0; K = pos 0; A = pos 0; S = pos 0 }
 
-row-is : (r : Carried) (x : Flux) → flux r ≡ given x → rowOf r ≡ fluxList x
+made-is : (r : Carried) (x : Flux) → flux r ≡ given x → made r ≡ x
 unfolding flux
-row-is r x e = ap rowOf (one-flux r (carried.Flux (x .F) (x .K) (x .A) (x .S)) e)
+made-is r x e = ap made (one-flux r (carried.Flux (x .F) (x .K) (x .A) (x .S)) e)
 
-crossed : (c : tie.After-face) → let p = c .before .args in rowOf (c .face .result) ≡ fluxList (face (side (p .hl) (p .ul)) (side (p .hr) (p .ur)))
+-- what the answer makes is what crosses between the two sides
+crossed : (c : tie.After-face) → let s = c .before .before .before .before .before in made (c .face .result) ≡ face (sideIn (s .args .l)) (sideIn (s .args .r))
 crossed c =
-    let s = c .before in let l = side (s .args .hl) (s .args .ul) in let r = side (s .args .hr) (s .args .ur) in
-    row-is (c .face .result) (face l r)
-    ((rw (toZ-ofZ (s .fits .hl), toZ-ofZ (s .fits .ul), toZ-ofZ (s .fits .hr), toZ-ofZ (s .fits .ur)) at (c .face .ensures)) ∙ face-given l r (s .pre .0) (s .pre .1))
-
-face-requires : tie.Need-face-requires
-face-requires c κs = search needs
-
-enum-known-f : tie.Need-enum-known-f
-enum-known-f c = search needs
-
-enum-told : tie.Need-enum-told
-enum-told c = search needs
+    let s = c .before .before .before .before .before in let l = sideIn (s .args .l) in let r = sideIn (s .args .r) in
+    let p = s .pre .0 in let q = s .pre .1 in
+    made-is (c .face .result) (face l r)
+    ((rw (toZ-ofZ (fit (depth-size p) tt), toZ-ofZ (fit (p .speed) tt), toZ-ofZ (fit (depth-size q) tt), toZ-ofZ (fit (q .speed) tt)) at (c .face .ensures))
+    ∙ face-given l r p q)
 
 returns : tie.Need-returns
 returns c =
     let g = c .before .f .given in let z = g .0 in let t = c .known-told .given in
-    (λ j. back {z = z .0} (t .0 .1) j ∷ back {z = z .1 .0} (t .1 .0 .1) j ∷ back {z = z .1 .1 .0} (t .1 .1 .0 .1) j ∷ back {z = z .1 .1 .1 .0} (t .1 .1 .1 .0 .1) j ∷ [])
-    ∙ ap rowOf (sym (g .1))
+    let y = z .1 .1 in let v = t .1 .1 in
+    (λ j. record { F = back {z = z .0} (t .0 .1) j; K = back {z = z .1 .0} (t .1 .0 .1) j; A = back {z = y .0} (v .0 .1) j; S = back {z = y .1 .0} (v .1 .0 .1) j })
+    ∙ ap made (sym (g .1))
     ∙ crossed (c .before .before .before)
 
 returns-2 : tie.Need-returns-2
-returns-2 c = ap rowOf (sym (c .enum-told .given .1)) ∙ crossed (c .before .before)
+returns-2 c = ap made (sym (c .enum-told .given .1)) ∙ crossed (c .before .before)
 
 pub crossing-spec : {M : Type 1} → statement M
-crossing-spec = tie.close (tie.spec face-requires enum-known-f enum-told returns returns-2)
+crossing-spec = tie.close (tie.spec (λ c κs. search needs) (λ c. search needs) (λ c. search needs) returns returns-2)

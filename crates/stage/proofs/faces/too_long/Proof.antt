@@ -3,15 +3,14 @@ use mathlib.Core.List.{List, [], _∷_}
 use mathlib.Core.Path.{ap₂}
 use lib.IntN.{pos}
 use lib.Signed.{ltZ}
-use borrow.Author.Needs.{needs}
-use Rattle.whole.specs.Parts.{fit}
-use Rattle.whole.specs.Machine.{X, v, k, _⊗_, Entry, entry, need, value}
+use Rattle.whole.specs.Machine.{X, v, k, _⊗_, Entry, need, value}
 use Rattle.stage.specs.Rows.{longFlux}
+use Rattle.stage.specs.Laws.UpdateSizes.{sized}
 use Rattle.stage.proofs.faces.too_long.Statement.{statement}
 use Rattle.stage.proofs.faces.too_long.Tie as tie
 
 abbrev env : tie.Start → List Entry
-env s = entry (s .fits .dx) (s .pre .1 .0) ∷ entry (s .fits .dt) (s .pre .1 .1) ∷ entry (fit (s .pre .0 .S) tt) (s .pre .0 .S) ∷ []
+env s = sized (s .pre .1 .dx-in) tt ∷ sized (s .pre .1 .dt-in) tt ∷ sized (s .pre .0 .S) tt ∷ []
 
 abbrev room : X
 room = k (pos 4096) ⊗ v 0
@@ -20,20 +19,17 @@ abbrev way : X
 way = k (pos 2) ⊗ v 1 ⊗ v 2
 
 mul-result : tie.Need-mul-result
-mul-result c = need (env c) room tt
+mul-result c = need (env (c .before .before)) room tt
 
 mul-result-2 : tie.Need-mul-result-2
-mul-result-2 c = need (env c) (k (pos 2) ⊗ v 1) tt
-
-array-copy-out-result : tie.Need-array-copy-out-result
-array-copy-out-result c = search needs
+mul-result-2 c = need (env (c .before .before .before .before)) (k (pos 2) ⊗ v 1) tt
 
 mul-result-3 : tie.Need-mul-result-3
-mul-result-3 c = need (env (c .before)) way tt
+mul-result-3 c = need (env (c .before .before .before .before .before .before)) way tt
 
 returns : tie.Need-returns
 unfolding longFlux
-returns c = let s = c .before in ap₂ ltZ (value (env s) room tt) (value (env s) way tt)
+returns c = let s = c .before .before .before .before .before .before in ap₂ ltZ (value (env s) room tt) (value (env s) way tt)
 
 pub too-long-spec : {M : Type 1} → statement M
-too-long-spec = tie.close (tie.spec mul-result mul-result-2 array-copy-out-result mul-result-3 returns)
+too-long-spec = tie.close (tie.spec mul-result mul-result-2 mul-result-3 returns)

@@ -5,7 +5,7 @@ use borrow.Author.Needs.{needs}
 use Rattle.whole.specs.Machine.{back64}
 use Rattle.rules.specs.Friction.{cube}
 use Rattle.speeds.specs.Given.{given}
-use Rattle.speeds.specs.Answers.{number, told, untold}
+use Rattle.speeds.specs.Answers.{valueOf, told, untold}
 use Rattle.speeds.proofs.Fits.{cube-given}
 use Rattle.stage.proofs.friction.cube_of.Statement.{statement}
 use Rattle.stage.proofs.friction.cube_of.Tie as tie
@@ -13,7 +13,7 @@ use Rattle.stage.proofs.friction.cube_of.Tie as tie
 cube-requires : tie.Need-cube-requires
 cube-requires c κs = search needs
 
-answer : (c : tie.After-cube) → number (c .cube .result) ≡ given (cube (c .before .args .h))
+answer : (c : tie.After-cube) → valueOf (c .cube .result) ≡ given (cube (c .before .args .h))
 answer c =
     let s = c .before in
     (simp (toZ-ofZ, s .fits .h) at (c .cube .ensures)) ∙ cube-given (s .args .h) (s .pre .0) (s .pre .1)

@@ -1,16 +1,17 @@
 -- The product of time step, friction and speed, over that of the depth and its cube-root number: each fits, and the divisor is not nought.
-use mathlib.Core.Path.{_≡_}
+use mathlib.Core.Path.{_≡_, sym, _∙_, subst}
 use mathlib.Core.List.{List, [], _∷_}
-use lib.IntN.{pos}
-use lib.Signed.{_≤ℤ_}
+use lib.IntN.{ℤ, pos, _*ℤ_}
+use lib.Signed.{quotZ, _≤ℤ_, _<ℤ_}
 use mir.Facts.{toZ-ofZ}
 use borrow.Author.Needs.{needs}
-use Rattle.whole.specs.Parts.{Within, b-nonneg, fit, le-trans, lt-le, nat-nonneg}
+use Rattle.whole.specs.Parts.{Within, b-nonneg, le-trans, lt-le, nat-nonneg}
 use Rattle.whole.specs.Choice.{sizeZ, b-size}
 use Rattle.whole.specs.Machine.{X, v, k, _⊗_, _⊘_, Entry, entry, need, value, divisor}
 use Rattle.rules.specs.Friction.{cube, drag}
 use Rattle.rules.specs.Laws.Speeds.{cube-least, cube-most}
-use Rattle.stage.specs.Drag.{wet, wet-size, divisor-pos}
+use Rattle.stage.specs.Laws.UpdateSizes.{sized}
+use Rattle.stage.specs.Laws.FrictionStrength.{wet, wet-size, divisor-pos}
 use Rattle.stage.proofs.friction.drag_of.Statement.{statement}
 use Rattle.stage.proofs.friction.drag_of.Tie as tie
 
@@ -32,17 +33,30 @@ cube-of-requires c κs = simp (toZ-ofZ, c .fits .h) (low c, c .pre .1 .1 .0 .1)
 c-is : (t : tie.After-cube-of) → t .cube-of .result ≡ cube (t .before .args .h)
 c-is t = simp (toZ-ofZ, t .before .fits .h) at (t .cube-of .ensures)
 
-size-of-requires : tie.Need-size-of-requires
-size-of-requires c κs = search needs
-
 s-is : (t : tie.After-size-of) → t .size-of .result ≡ sizeZ (t .before .before .args .u)
 s-is t = simp (toZ-ofZ, t .before .before .fits .u) at (t .size-of .ensures)
 
--- ---- dt, f, |u|, h and c
-abbrev env : tie.Start → List Entry
-env s =
-    let u = b-size (s .args .u) (s .pre .1 .1 .1) in let w = cube-size s in
-    entry (s .fits .dt) (s .pre .0 .1) ∷ entry (s .fits .f) (s .pre .1 .0 .1) ∷ entry (fit u tt) u ∷ entry (s .fits .h) (deep s) ∷ entry (fit w tt) w ∷ []
+-- ---- once the time step has been read: dt, f, |u|, h and c
+module _ (c : tie.After-struct-told) where
+  abbrev size : tie.After-size-of
+  size = c .before .before
+
+  abbrev s : tie.Start
+  s = size .before .before
+
+  size-in : Within 131072 (size .size-of .result)
+  size-in = subst (Within 131072) (sym (s-is size)) (b-size (s .args .u) (s .pre .1 .1 .1))
+
+  cube-in : Within 16384 (size .before .cube-of .result)
+  cube-in = subst (Within 16384) (sym (c-is (size .before))) (cube-size s)
+
+  abbrev env : List Entry
+  env =
+      sized (s .pre .0 .1) tt ∷ entry (s .fits .f) (s .pre .1 .0 .1) ∷ sized size-in tt ∷ entry (s .fits .h) (deep s) ∷ sized cube-in tt ∷ []
+
+  divided : pos 0 <ℤ (pos 390625 *ℤ s .args .h *ℤ size .before .cube-of .result)
+  divided = let h = s .pre .1 .1 .0 in
+      subst (λ (z : ℤ). pos 0 <ℤ (pos 390625 *ℤ s .args .h *ℤ z)) (sym (c-is (size .before))) (divisor-pos (s .args .h) (h .0) (h .1))
 
 abbrev per : X
 per = k (pos 256) ⊗ k (pos 981) ⊗ v 0
@@ -53,48 +67,25 @@ above = per ⊗ (v 1 ⊗ v 1) ⊗ v 2
 abbrev below : X
 below = k (pos 390625) ⊗ v 3 ⊗ v 4
 
-mul-result : tie.Need-mul-result
-mul-result c = search needs
-
-mul-result-2 : tie.Need-mul-result-2
-mul-result-2 c = need (env (c .before .before)) per tt
-
-mul-result-3 : tie.Need-mul-result-3
-mul-result-3 c = need (env (c .before .before)) (v 1 ⊗ v 1) tt
-
-mul-result-4 : tie.Need-mul-result-4
-mul-result-4 c = need (env (c .before .before)) (per ⊗ (v 1 ⊗ v 1)) tt
-
-mul-result-5 : tie.Need-mul-result-5
-mul-result-5 c = rw (s-is c) (need (env (c .before .before)) above tt)
-
-mul-result-6 : tie.Need-mul-result-6
-mul-result-6 c = need (env (c .before .before)) (k (pos 390625) ⊗ v 3) tt
-
-mul-result-7 : tie.Need-mul-result-7
-mul-result-7 c = rw (c-is (c .before)) (need (env (c .before .before)) below tt)
-
-div-result : tie.Need-div-result
-div-result c =
-    let s = c .before .before in
-    rw (s-is c, c-is (c .before)) (divisor (env s) below tt (divisor-pos (s .args .h) (s .pre .1 .1 .0 .0) (s .pre .1 .1 .0 .1)), need (env s) (above ⊘ below) tt)
-
 returns : tie.Need-returns
 unfolding drag
-returns c = rw (s-is c, c-is (c .before)) (value (env (c .before .before)) (above ⊘ below) tt)
+returns c =
+    let a = s c .args in
+    value (env c) (above ⊘ below) tt
+    ∙ (λ j. quotZ (pos 256 *ℤ pos 981 *ℤ a .call .dt *ℤ (a .f *ℤ a .f) *ℤ s-is (size c) j) (pos 390625 *ℤ a .h *ℤ c-is (size c .before) j))
 
 pub drag-of-spec : {M : Type 1} → statement M
 drag-of-spec =
     tie.close
     (tie.spec
     cube-of-requires
-    size-of-requires
-    mul-result
-    mul-result-2
-    mul-result-3
-    mul-result-4
-    mul-result-5
-    mul-result-6
-    mul-result-7
-    div-result
+    (λ c κs. search needs)
+    (λ c. search needs)
+    (λ c. need (env c) per tt)
+    (λ c. need (env c) (v 1 ⊗ v 1) tt)
+    (λ c. need (env c) (per ⊗ (v 1 ⊗ v 1)) tt)
+    (λ c. need (env c) above tt)
+    (λ c. need (env c) (k (pos 390625) ⊗ v 3) tt)
+    (λ c. need (env c) below tt)
+    (λ c. (divisor (env c) below tt (divided c), need (env c) (above ⊘ below) tt))
     returns)

@@ -1,81 +1,55 @@
--- Each turn writes a cell after friction.
-use mathlib.Core.Path.{_≡_, ap, _∙_}
+-- Each turn rubs a cell, which is still the one that was lent.
+use mathlib.Core.Path.{_≡_, sym, _∙_, subst}
+use mathlib.Core.Bool.{false}
 use mathlib.Core.List.{List, []}
 use Prim.Native.Nat.{ℕ, _≤_, _<_, _-_}
 use native.Mathlib.Omega.{arith}
+use borrow.Author.Needs.{needs}
 use denote.Ref.{now}
-use lib.ListN.{getD, length, length-set}
+use lib.ListN.{getD, length}
 use lib.IntN.{ℤ, pos}
-use mir.Syntax.{w64}
-use mir.Val.{toZ}
 use mir.Facts.{toZ-ofZ}
-use Rattle.whole.specs.Parts.{nat-nonneg}
+use Rattle.whole.specs.Parts.{nat-nonneg, fit}
 use Rattle.whole.specs.Machine.{back64}
-use Rattle.tables.specs.Rows.{written-none, written-more}
-use Rattle.tables.specs.Cells.{Cell, asList, cellAt, Holds}
+use Rattle.tables.specs.Rows.{Filled, filled-none, filled-more, filled-all}
+use Rattle.tables.specs.Cells.{Cell, asCell, asList, seen}
 use Rattle.rules.specs.Limits.{dryDepth}
 use Rattle.rules.specs.Step.{rubbedCell}
-use Rattle.finishing.specs.Held.{bedAt}
-use borrow.Author.Needs.{needs}
+use Rattle.reach.specs.declared.Call.{Call}
+use Rattle.reach.specs.Told.{bedAt}
 use Rattle.stage.proofs.friction.rub.Statement.{statement}
 use Rattle.stage.proofs.friction.rub.Tie as tie
 
-abbrev rubbedAt : ℤ → List ℤ → List ℤ → List ℕ → ℕ → Cell
-rubbedAt dt state bed friction k = rubbedCell dt dryDepth (pos (getD friction k 0)) (bedAt bed k) (cellAt state k)
+abbrev rubbedAt : Call → List ℕ → List ℤ → List (List ℤ) → ℕ → Cell
+rubbedAt call friction bed t k = rubbedCell (call .dt) dryDepth (pos (getD friction k 0)) (bedAt bed k) (seen t k)
 
 abbrev Inv-loop : tie.InvT-loop
-Inv-loop state bed friction dt n t₀ i₀ t i = (i ≤ n) × (length t ≡ 1024) × Holds t i (rubbedAt (toZ w64 dt) state bed friction)
+Inv-loop t₀ bed friction call n i₀ t i = (i ≤ n) × Filled [] t₀ t i (λ k. asList (rubbedAt call friction bed t₀ k))
 
 abbrev μ-loop : tie.MeasureT-loop
-μ-loop state bed friction dt n t₀ i₀ t i = n - i
+μ-loop t₀ bed friction call n i₀ t i = n - i
 
 loop-holds : tie.Need-loop-holds Inv-loop μ-loop
-loop-holds c = let s = c .before in (omega arith, s .pre .0 .4, written-none [] (now (s .args .t)) _)
-
-rough-of-requires : tie.Need-rough-of-requires Inv-loop μ-loop
-rough-of-requires c κs = omega arith
-
-bed-of-requires : tie.Need-bed-of-requires Inv-loop μ-loop
-bed-of-requires c κs = omega arith
-
-cell-of-requires : tie.Need-cell-of-requires Inv-loop μ-loop
-cell-of-requires c κs = omega arith
+loop-holds c = let s = c .before in (omega arith, filled-none [] (now (s .args .t)) _)
 
 rubbed-cell-requires : tie.Need-rubbed-cell-requires Inv-loop μ-loop
 rubbed-cell-requires c κs =
-    let b = c .before in let r = b .before in let e = r .before in let l = e .before in let s = l .before .before in
-    let w = s .pre .1 .1 .1 (l .loop .i) (e .loop-test .taken) in
-    rw (toZ-ofZ (s .fits .dt), back64 (r .rough-of .ok) (r .rough-of .ensures), b .bed-of .ensures, c .cell-of .ensures .0)
-    (s .pre .1 .0, ((nat-nonneg (getD (now (s .args .friction)) (l .loop .i) 0), record { abs = w .rough }), (s .pre .1 .1 .0 (l .loop .i) (e .loop-test .taken), w .speed)))
-
-mul-t13 : tie.Need-mul-t13 Inv-loop μ-loop
-mul-t13 c = search needs
-
-element-set-from-t : tie.Need-element-set-from-t Inv-loop μ-loop
-element-set-from-t c = omega arith
-
-add-i : tie.Need-add-i Inv-loop μ-loop
-add-i c = search needs
-
-loop-less : tie.Need-loop-less Inv-loop μ-loop
-loop-less c = search needs
+    let b = c .before in let r = b .before in let e = r .before in let l = e .before in let s = l .before .before in let i = l .loop .i in
+    let w = s .pre .1 .1 .1 i (e .loop-test .taken) in
+    rw (back64 (r .rough-of .ok) (r .rough-of .ensures), b .under .ensures, l .loop .inv .1 .above i (omega arith))
+    ((s .pre .1 .0 .dt-pos, s .pre .1 .0 .dt-in), ((nat-nonneg (getD (now (s .args .friction)) i 0), record { abs = w .rough }), (s .pre .1 .1 .0 i (e .loop-test .taken), w .speed)))
 
 loop-again : tie.Need-loop-again Inv-loop μ-loop
 loop-again c =
-    let k = c .before in let b = k .before in let r = b .before in let l = r .before .before in
-    let room : l .loop .i < length (l .loop .t) = omega arith in (
+    let a = c .before in let b = a .before in let r = b .before in let l = r .before .before in let s = l .before .before in let i = l .loop .i in
+    let room : i < length (l .loop .t) = omega (arith, l .loop .inv .1 .size) in (
       omega arith,
-      simp length-set (l .loop .inv .1),
-      written-more [] (l .loop .t) (l .loop .i) _ _ room (l .loop .inv .2)
-          (rw (back64 (r .rough-of .ok) (r .rough-of .ensures), b .bed-of .ensures, k .cell-of .ensures .0) at (c .rubbed-cell .ensures)),
+      filled-more [] (now (s .args .t)) (l .loop .t) i _ _ room (l .loop .inv .1)
+          (rw (back64 (r .rough-of .ok) (r .rough-of .ensures), b .under .ensures, l .loop .inv .1 .above i (omega arith)) at (c .rubbed-cell .ensures)),
     )
 
 returns : tie.Need-returns Inv-loop μ-loop
-returns c =
-    let l = c .before .loop in
-    let s = c .before .before .before in
-    let same = toZ-ofZ (s .fits .dt) in
-    (l .inv .1, λ k h. l .inv .2 k (omega arith) ∙ ap (λ (z : ℤ). asList (rubbedAt z (now (s .args .state)) (now (s .args .bed)) (now (s .args .friction)) k)) same)
+returns c = let l = c .before .loop in filled-all [] _ (l .t) (l .i) _ _ (omega arith) (l .inv .1)
 
 pub rub-spec : {M : Type 1} → statement M
 rub-spec =
@@ -84,13 +58,15 @@ rub-spec =
     Inv-loop
     μ-loop
     loop-holds
-    rough-of-requires
-    bed-of-requires
-    cell-of-requires
+    (λ c κs. omega arith)
+    (λ c κs. search needs)
+    (λ c. search needs)
+    (λ c. search needs)
     rubbed-cell-requires
-    mul-t13
-    element-set-from-t
-    add-i
-    loop-less
+    (λ c. search needs)
+    (λ c. search needs)
+    (λ c. search needs)
+    (λ c. search needs)
     loop-again
+    (λ c. c .before .loop .inv .1 .size)
     returns)

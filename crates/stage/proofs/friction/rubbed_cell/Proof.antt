@@ -16,16 +16,16 @@ use Rattle.rules.specs.Friction.{drag, slowed}
 use Rattle.rules.specs.Reach.{Bed, h0}
 use Rattle.rules.specs.Step.{rub, rubbedCell}
 use Rattle.rules.specs.Refusals.{fastCell}
-use Rattle.finishing.specs.Held.{asBed}
 use Rattle.tables.specs.Cells.{of-four}
 use Rattle.whole.specs.Choice.{within-past}
-use Rattle.stage.specs.Kept.{kept}
-use Rattle.stage.specs.Drag.{drag-least, drag-most}
+use Rattle.reach.specs.Told.{bedIn}
+use Rattle.stage.specs.Laws.CellSizes.{cell-sizes}
+use Rattle.stage.specs.Laws.FrictionStrength.{drag-least, drag-most}
 use Rattle.stage.proofs.friction.rubbed_cell.Statement.{statement}
 use Rattle.stage.proofs.friction.rubbed_cell.Tie as tie
 
 depths-requires : tie.Need-depths-requires
-depths-requires c κs = (c .pre .1 .1 .0 .ground, kept (c .pre .1 .1 .0) .wide)
+depths-requires c κs = (c .pre .1 .1 .0 .ground, cell-sizes (c .pre .1 .1 .0) .wide)
 
 array-copy-out-if1 : tie.Need-array-copy-out-if1
 array-copy-out-if1 c = search needs
@@ -42,22 +42,22 @@ rub-wet dt d f b x q e = rw e
 returns : tie.Need-returns
 unfolding rubbedCell
 returns c =
-    let a = c .before in let d = a .before in let s = d .before in let b = asBed (s .args .b) in let x = asCell (s .args .t4) in
+    let a = c .before in let d = a .before in let s = d .before in let b = bedIn (s .args .b) in let x = asCell (s .args .t4) in
     let e : leZ (h0 b x) dryDepth ≡ true = rw (back (a .if12 .given), d .depths .ensures) at (c .if1 .taken) in
     of-four (s .args .t4) (s .good .1 .1 .1 .0 .1 .0 .1)
-    ∙ (λ i. x .e0 ∷ x .e1 ∷ sym (rub-dry (s .args .dt) dryDepth (s .args .f) b x (x .q0) e) i ∷ sym (rub-dry (s .args .dt) dryDepth (s .args .f) b x (x .q1) e) i ∷ [])
+    ∙ (λ i. x .e0 ∷ x .e1 ∷ sym (rub-dry (s .args .call .dt) dryDepth (s .args .f) b x (x .q0) e) i ∷ sym (rub-dry (s .args .call .dt) dryDepth (s .args .f) b x (x .q1) e) i ∷ [])
 
 -- ---- water that moves
 module _ (s : tie.Start) where
   bed : Bed
-  bed = asBed (s .args .b)
+  bed = bedIn (s .args .b)
 
   cell : Cell
   cell = asCell (s .args .t4)
 
   -- how strongly friction acts
   strong : ℤ
-  strong = drag (s .args .dt) (s .args .f) (h0 bed cell) (speed dryDepth (cell .q0) (h0 bed cell))
+  strong = drag (s .args .call .dt) (s .args .f) (h0 bed cell) (speed dryDepth (cell .q0) (h0 bed cell))
 
 wet : (c : tie.Else1) → let s = c .before .before .before in leZ (h0 (bed s) (cell s)) dryDepth ≡ false
 unfolding bed cell
@@ -72,29 +72,29 @@ array-copy-out-strength-2 c = search needs
 strength-requires : tie.Need-strength-requires
 unfolding bed cell fastCell
 strength-requires c κs =
-    let a = c .before in let e = a .before in let d = e .before .before in let s = d .before in let m = kept (s .pre .1 .1 .0) in
-    rw (toZ-ofZ (s .fits .dt), toZ-ofZ (s .fits .f), back (a .strength-arg .given), back (c .strength-arg2 .given), d .depths .ensures)
+    let a = c .before in let e = a .before in let d = e .before .before in let s = d .before in let m = cell-sizes (s .pre .1 .1 .0) in
+    rw (toZ-ofZ (s .fits .f), back (a .strength-arg .given), back (c .strength-arg2 .given), d .depths .ensures)
     (s .pre .0, (s .pre .1 .0, (m .q0, ((le-no (h0 (bed s) (cell s)) dryDepth (wet e), m .mean-most), s .pre .1 .1 .1))))
 
 x-is : (c : tie.After-strength) → c .strength .result ≡ strong (c .before .before .before .before .before .before)
 unfolding bed cell strong
 x-is c =
     let b = c .before in let a = b .before in let d = a .before .before .before in let s = d .before in
-    rw (toZ-ofZ (s .fits .dt), toZ-ofZ (s .fits .f), back (b .strength-arg2 .given), back (a .strength-arg .given), d .depths .ensures) at (c .strength .ensures)
+    rw (toZ-ofZ (s .fits .f), back (b .strength-arg2 .given), back (a .strength-arg .given), d .depths .ensures) at (c .strength .ensures)
 
 x-size : (c : tie.After-strength) → let s = c .before .before .before .before .before .before in (pos 0 ≤ℤ strong s) × Within 10786209068 (strong s)
 unfolding bed cell strong fastCell
 x-size c =
-    let e = c .before .before .before in let s = e .before .before .before in let m = kept (s .pre .1 .1 .0) in let p = s .args in
+    let e = c .before .before .before in let s = e .before .before .before in let m = cell-sizes (s .pre .1 .1 .0) in let p = s .args in
     let h = h0 (bed s) (cell s) in let u = speed dryDepth (cell s .q0) h in
     let low : dryDepth <ℤ h = le-no h dryDepth (wet e) in (
-      drag-least h low (m .mean-most) (p .dt) (p .f) u (s .pre .0 .0) (s .pre .1 .0 .0),
-      drag-most h low (m .mean-most) (p .dt) (p .f) u (s .pre .0 .1) (s .pre .1 .0 .1) (within-past 131072 u (s .pre .1 .1 .1)),
+      drag-least h low (m .mean-most) (p .call .dt) (p .f) u (s .pre .0 .0) (s .pre .1 .0 .0),
+      drag-most h low (m .mean-most) (p .call .dt) (p .f) u (s .pre .0 .1) (s .pre .1 .0 .1) (within-past 131072 u (s .pre .1 .1 .1)),
     )
 
 slowed-cell-requires : tie.Need-slowed-cell-requires
 slowed-cell-requires c κs =
-    let m = kept (c .before .before .before .before .before .before .pre .1 .1 .0) in
+    let m = cell-sizes (c .before .before .before .before .before .before .pre .1 .1 .0) in
     rw (back64 (c .strength .ok) (x-is c)) (x-size c, (m .q0, m .q1))
 
 returns-2 : tie.Need-returns-2
@@ -104,8 +104,8 @@ returns-2 c =
     (rw (back64 (t .strength .ok) (x-is t)) at (c .slowed-cell .ensures))
     ∙ (λ i. cell s .e0
     ∷ cell s .e1
-    ∷ sym (rub-wet (p .dt) dryDepth (p .f) (bed s) (cell s) (cell s .q0) (wet e)) i
-    ∷ sym (rub-wet (p .dt) dryDepth (p .f) (bed s) (cell s) (cell s .q1) (wet e)) i
+    ∷ sym (rub-wet (p .call .dt) dryDepth (p .f) (bed s) (cell s) (cell s .q0) (wet e)) i
+    ∷ sym (rub-wet (p .call .dt) dryDepth (p .f) (bed s) (cell s) (cell s .q1) (wet e)) i
     ∷ [])
 
 pub rubbed-cell-spec : {M : Type 1} → statement M

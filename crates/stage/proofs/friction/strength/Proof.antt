@@ -6,7 +6,7 @@ use Rattle.whole.specs.Machine.{back64}
 use Rattle.rules.specs.Limits.{dryDepth}
 use Rattle.rules.specs.Face.{speed}
 use Rattle.whole.specs.Choice.{within-past}
-use Rattle.stage.specs.Drag.{wet}
+use Rattle.stage.specs.Laws.FrictionStrength.{wet}
 use Rattle.stage.proofs.friction.strength.Statement.{statement}
 use Rattle.stage.proofs.friction.strength.Tie as tie
 
@@ -21,12 +21,12 @@ u-is c = simp (toZ-ofZ, c .before .fits .q, c .before .fits .h) at (c .speed-of 
 drag-of-requires : tie.Need-drag-of-requires
 drag-of-requires c κs =
     let s = c .before in let p = s .pre .1 .1 in
-    simp (toZ-ofZ, s .fits .dt, s .fits .f, s .fits .h, back64 (c .speed-of .ok) (u-is c)) (s .pre .0, (s .pre .1 .0, (p .1 .0, within-past 131072 _ (p .1 .1))))
+    simp (toZ-ofZ, s .fits .f, s .fits .h, back64 (c .speed-of .ok) (u-is c)) (s .pre .0, (s .pre .1 .0, (p .1 .0, within-past 131072 _ (p .1 .1))))
 
 returns : tie.Need-returns
 returns c =
     let t = c .before in let s = t .before in
-    back64 (c .drag-of .ok) (simp (toZ-ofZ, s .fits .dt, s .fits .f, s .fits .h, back64 (t .speed-of .ok) (u-is t)) at (c .drag-of .ensures))
+    back64 (c .drag-of .ok) (simp (toZ-ofZ, s .fits .f, s .fits .h, back64 (t .speed-of .ok) (u-is t)) at (c .drag-of .ensures))
 
 pub strength-spec : {M : Type 1} → statement M
 strength-spec = tie.close (tie.spec speed-of-requires drag-of-requires returns)

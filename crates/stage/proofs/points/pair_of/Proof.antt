@@ -8,7 +8,7 @@ use Rattle.rules.specs.Limits.{dryDepth}
 use Rattle.rules.specs.Face.{speed}
 use Rattle.rules.specs.Stage.{carried}
 use Rattle.rules.specs.Laws.Speeds.{speed-size}
-use Rattle.stage.specs.Around.{left-fits, right-fits, ql-fits, qr-fits}
+use Rattle.stage.specs.Laws.Around.{left-fits, right-fits, ql-fits, qr-fits}
 use Rattle.stage.proofs.points.pair_of.Statement.{statement}
 use Rattle.stage.proofs.points.pair_of.Tie as tie
 

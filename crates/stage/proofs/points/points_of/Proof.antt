@@ -5,15 +5,15 @@ use Rattle.whole.specs.Machine.{back, back64}
 use Rattle.tables.specs.Cells.{asCell}
 use Rattle.rules.specs.Reach.{h1}
 use Rattle.rules.specs.Stage.{share, gauss}
-use Rattle.finishing.specs.Held.{asBed}
-use Rattle.stage.specs.Rows.{pointRow}
-use Rattle.stage.specs.Kept.{kept}
 use borrow.Author.Needs.{needs}
+use Rattle.reach.specs.Told.{bedIn}
+use Rattle.stage.specs.Laws.CellSizes.{cell-sizes}
+use Rattle.stage.specs.Rows.{pointRow}
 use Rattle.stage.proofs.points.points_of.Statement.{statement}
 use Rattle.stage.proofs.points.points_of.Tie as tie
 
 depths-requires : tie.Need-depths-requires
-depths-requires c κs = (c .pre .ground, kept (c .pre) .wide)
+depths-requires c κs = (c .pre .ground, cell-sizes (c .pre) .wide)
 
 array-copy-out-pair-of : tie.Need-array-copy-out-pair-of
 array-copy-out-pair-of c = search needs
@@ -24,10 +24,10 @@ array-copy-out-share-of c = search needs
 share-of-requires : tie.Need-share-of-requires
 share-of-requires c κs =
     let d = c .before .before in
-    rw (back (c .share-of-arg .given), d .depths .ensures) (b-up 8388608 (kept (d .before .pre) .slope) tt)
+    rw (back (c .share-of-arg .given), d .depths .ensures) (b-up 8388608 (cell-sizes (d .before .pre) .slope) tt)
 
 -- the share of the depth's slope, and of the discharge's
-depth-share : (c : tie.After-share-of) → let s = c .before .before .before .before in c .share-of .result ≡ share (h1 (asBed (s .args .b)) (asCell (s .args .t2)))
+depth-share : (c : tie.After-share-of) → let s = c .before .before .before .before in c .share-of .result ≡ share (h1 (bedIn (s .args .b)) (asCell (s .args .t2)))
 depth-share c = let a = c .before in rw (back (a .share-of-arg .given), a .before .before .depths .ensures) at (c .share-of .ensures)
 
 array-copy-out-pair-of-2 : tie.Need-array-copy-out-pair-of-2
@@ -39,7 +39,7 @@ array-copy-out-share-of-2 c = search needs
 share-of-requires-2 : tie.Need-share-of-requires-2
 share-of-requires-2 c κs =
     let s = c .before .before .before .before .before .before in
-    rw (back (c .share-of-arg2 .given)) (kept (s .pre) .q1)
+    rw (back (c .share-of-arg2 .given)) (cell-sizes (s .pre) .q1)
 
 flow-share : (c : tie.After-share-of2) → let s = c .before .before .before .before .before .before .before in c .share-of2 .result ≡ share (asCell (s .args .t2) .q1)
 flow-share c = rw (back (c .before .share-of-arg2 .given)) at (c .share-of2 .ensures)
@@ -47,7 +47,7 @@ flow-share c = rw (back (c .before .share-of-arg2 .given)) at (c .share-of2 .ens
 pair-of-requires : tie.Need-pair-of-requires
 pair-of-requires c κs =
     let a2 = c .before .before in let f = a2 .before in let a1 = f .before .before in let d = a1 .before in let s = d .before in
-    let m = kept (s .pre) in
+    let m = cell-sizes (s .pre) in
     rw (back (a1 .pair-of-arg .given), back64 (f .share-of .ok) (depth-share f), back (a2 .pair-of-arg2 .given), back64 (c .share-of2 .ok) (flow-share c), d .depths .ensures)
     (record { left = m .before; left-most = m .before-most; right = m .behind; right-most = m .behind-most; ql = m .flow-before; qr = m .flow-behind })
 

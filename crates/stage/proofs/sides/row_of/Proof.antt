@@ -10,7 +10,7 @@ use Rattle.whole.specs.Machine.{back64}
 use Rattle.rules.specs.Limits.{dryDepth}
 use Rattle.rules.specs.Face.{speed}
 use Rattle.rules.specs.Reach.{short}
-use Rattle.stage.specs.Around.{left-size, right-size, left-fits, right-fits, ql-fits, qr-fits}
+use Rattle.stage.specs.Laws.Around.{left-size, right-size, left-fits, right-fits, ql-fits, qr-fits}
 use Rattle.stage.proofs.sides.row_of.Statement.{statement}
 use Rattle.stage.proofs.sides.row_of.Tie as tie
 

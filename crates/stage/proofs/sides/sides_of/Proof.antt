@@ -1,13 +1,13 @@
 -- The sides of a cell are those of its two depths and its two discharges.
 use Rattle.whole.specs.Machine.{back}
 use Rattle.rules.specs.Reach.{hl, hr, depthL, depthR, sideL, sideR}
-use Rattle.stage.specs.Kept.{kept}
 use borrow.Author.Needs.{needs}
+use Rattle.stage.specs.Laws.CellSizes.{cell-sizes}
 use Rattle.stage.proofs.sides.sides_of.Statement.{statement}
 use Rattle.stage.proofs.sides.sides_of.Tie as tie
 
 depths-requires : tie.Need-depths-requires
-depths-requires c κs = (c .pre .ground, kept (c .pre) .wide)
+depths-requires c κs = (c .pre .ground, cell-sizes (c .pre) .wide)
 
 array-copy-out-row-of : tie.Need-array-copy-out-row-of
 array-copy-out-row-of c = search needs
@@ -25,7 +25,7 @@ row-of-requires : tie.Need-row-of-requires
 unfolding hl hr
 row-of-requires c κs =
     let a4 = c in let a3 = a4 .before in let a2 = a3 .before in let a1 = a2 .before in let d = a1 .before in let s = d .before in
-    let m = kept (s .pre) in
+    let m = cell-sizes (s .pre) in
     rw (back (a1 .row-of-arg .given), back (a2 .row-of-arg2 .given), back (a3 .row-of-arg3 .given), back (a4 .row-of-arg4 .given), d .depths .ensures)
     (record { left = m .left; left-most = m .left-most; right = m .right; right-most = m .right-most; ql = m .ql; qr = m .qr })
 

@@ -6,7 +6,7 @@ use Rattle.whole.specs.Machine.{back64}
 use Rattle.rules.specs.Limits.{dryDepth}
 use Rattle.rules.specs.Face.{speed}
 use Rattle.speeds.specs.Given.{given}
-use Rattle.speeds.specs.Answers.{number, told, untold}
+use Rattle.speeds.specs.Answers.{valueOf, told, untold}
 use Rattle.speeds.proofs.Fits.{speed-given}
 use Rattle.stage.proofs.sides.speed_of.Statement.{statement}
 use Rattle.stage.proofs.sides.speed_of.Tie as tie
@@ -14,7 +14,7 @@ use Rattle.stage.proofs.sides.speed_of.Tie as tie
 speed-requires : tie.Need-speed-requires
 speed-requires c κs = search needs
 
-answer : (c : tie.After-speed) → number (c .speed .result) ≡ given (speed dryDepth (c .before .args .q) (c .before .args .h))
+answer : (c : tie.After-speed) → valueOf (c .speed .result) ≡ given (speed dryDepth (c .before .args .q) (c .before .args .h))
 answer c =
     let s = c .before in
     (simp (toZ-ofZ, s .fits .q, s .fits .h) at (c .speed .ensures)) ∙ speed-given (s .args .q) (s .args .h) (s .pre .0) (s .pre .1 .0) (s .pre .1 .1)

@@ -1,131 +1,135 @@
--- The four loops in a row are the stage of the rules, with its checks.
-use mathlib.Core.Path.{_≡_, sym, ap, _∙_}
-use mathlib.Core.List.{[]}
+-- A stage answers by the first of its checks, and where it passed them its faces and its cells are the rule's.
+use mathlib.Core.Path.{_≡_, sym, _∙_}
 use mathlib.Core.Bool.{false}
-use Prim.Native.Nat.{suc}
+use mathlib.Core.List.{List}
 use native.Mathlib.Omega.{arith}
-use lib.ListN.{length}
-use mir.Facts.{toZ-ofZ}
-use denote.Ref.{now}
-use Rattle.tables.specs.Some.{some}
-use Rattle.tables.specs.Rows.{Written}
-use Rattle.tables.specs.Cells.{asList, seen}
-use Rattle.rules.specs.Limits.{dryDepth}
-use Rattle.rules.specs.Stage.{faceAt}
-use Rattle.rules.specs.Refusals.{fastPoints}
-use Rattle.finishing.specs.Held.{bedAt}
-use Rattle.finishing.specs.Narrow.{reachBy}
-use Rattle.stage.specs.Narrow.{callBy}
-use Rattle.stage.specs.Rows.{Sounds, fastSides, faceRow, longFlux, crossAt}
-use Rattle.stage.specs.Small.{sounds}
-use Rattle.stage.specs.Staged.{says-fast, says-points, says-long, says-none, rows-are, momenta, cells-are, smalls}
-use Rattle.stage.specs.Crossings.{face-rows}
-use Rattle.stage.specs.Kept.{FaceRows, Momenta}
 use borrow.Author.Needs.{needs}
+use denote.Ref.{now}
+use lib.IntN.{ℤ}
+use Rattle.tables.specs.Some.{some}
+use Rattle.tables.specs.Cells.{seen}
+use Rattle.rules.specs.Reach.{State}
+use Rattle.stage.specs.Rows.{fastSides, fastPointsAt}
+use Rattle.stage.specs.Laws.StateSizes.{sounds}
+use Rattle.stage.specs.Laws.OneStage.{momenta, says-fast, says-points, says-long, says-none, stage-done, rows-sized}
 use Rattle.stage.proofs.stages.stage.Statement.{statement}
 use Rattle.stage.proofs.stages.stage.Tie as tie
 
--- what the passed test of the sides says
-slow-sides : (c : tie.Else1) → let s = c .before .before .before in some (fastSides (now (s .args .bed)) (seen (now (s .args .t)))) (s .args .n) ≡ false
-slow-sides c = sym (c .before .sides .ensures .1) ∙ c .if1 .left
+abbrev state : tie.Start → State
+state s = seen (now (s .args .t))
 
-sound : (c : tie.Else1) → let s = c .before .before .before in Sounds (c .before .sides .last .1 .1 .1 .0) (s .args .n)
-sound c = let s = c .before .before .before in
-    sounds (s .args .n) (now (s .args .bed)) (seen (now (s .args .t))) (s .pre .1 .1) (slow-sides c) (c .before .sides .last .1 .1 .1 .0) (c .before .sides .ensures .2 (c .if1 .left))
+-- ---- what is known past each test
+module _ (e : tie.Else1) where
+  abbrev worked : tie.After-sides
+  worked = e .before .before
 
--- what the faces say, of the length and the time step themselves
-crossed : (c : tie.After-faces) → let e1 = c .before .before .before .before .before .before in let s = e1 .before .before .before in
-    let d = e1 .before .sides .last .1 .1 .1 .0 in let n = s .args .n in
-    (length (c .faces .last .1 .1 .1 .1 .1 .1 .0) ≡ 1025) × (c .faces .result ≡ some (λ i. longFlux (s .args .dx) (s .args .dt) (crossAt n (s .args .left) (s .args .right) d i)) (suc n))
-    × (c .faces .result ≡ false → Written [] (c .faces .last .1 .1 .1 .1 .1 .1 .0) (suc n) (λ i. faceRow (s .args .dx) (s .args .dt) (crossAt n (s .args .left) (s .args .right) d i)))
-crossed c = let s = c .before .before .before .before .before .before .before .before .before in simp (toZ-ofZ (s .fits .dx), toZ-ofZ (s .fits .dt)) at (c .faces .ensures)
+  abbrev start : tie.Start
+  start = worked .before .before
 
--- and of the points
-slow-points : (c : tie.Else2) → let s = c .before .before .before .before .before .before in
-    some (λ i. fastPoints dryDepth (bedAt (now (s .args .bed)) i) (seen (now (s .args .t)) i)) (s .args .n) ≡ false
-slow-points c = sym (c .before .points .ensures .1) ∙ c .if2 .left
+  -- the table of the sides
+  abbrev d : List (List ℤ)
+  d = worked .sides .last .1 .1 .1 .0
 
-rows : (c : tie.Else3) → let fa = c .before in let e1 = fa .before .before .before .before .before .before in let s = e1 .before .before .before in
-    Written [] (fa .faces .last .1 .1 .1 .1 .1 .1 .0) (suc (s .args .n)) (λ i. faceRow (s .args .dx) (s .args .dt) (faceAt (reachBy (s .args .n) (s .args .dx) (now (s .args .bed))) (callBy (s .args .dt) (s .args .left) (s .args .right)) (seen (now (s .args .t))) i))
-rows c = let fa = c .before in let e1 = fa .before .before .before .before .before .before in let s = e1 .before .before .before in
-    rows-are (s .args .n) (s .args .dx) (s .args .dt) (now (s .args .bed)) (s .args .left) (s .args .right) (seen (now (s .args .t))) (s .pre .0 .0) (e1 .before .sides .last .1 .1 .1 .0) (e1 .before .sides .ensures .2 (e1 .if1 .left)) (fa .faces .last .1 .1 .1 .1 .1 .1 .0) (crossed fa .2 (c .if3 .left))
+  slow-sides : some (fastSides (now (start .args .bed)) (state start)) (start .args .reach .n) ≡ false
+  slow-sides = sym (worked .sides .ensures .stops) ∙ e .if1 .left
 
-sized : (c : tie.Else3) → let fa = c .before in let s = fa .before .before .before .before .before .before .before .before .before in FaceRows (fa .faces .last .1 .1 .1 .1 .1 .1 .0) (s .args .n)
-sized c = let fa = c .before in let e1 = fa .before .before .before .before .before .before in let s = e1 .before .before .before in
-    face-rows (s .args .n) (s .args .left) (s .args .right) (e1 .before .sides .last .1 .1 .1 .0) (s .args .dx) (s .args .dt) (fa .faces .last .1 .1 .1 .1 .1 .1 .0) (s .pre .1 .0 .2) (s .pre .0 .0) (sound e1) (crossed fa .2 (c .if3 .left))
+module _ (e : tie.Else2) where
+  abbrev pointed : tie.After-points
+  pointed = e .before .before
 
-carried : (c : tie.Else2) → let s = c .before .before .before .before .before .before in Momenta (c .before .points .last .1 .1 .1 .0) (s .args .n)
-carried c = let s = c .before .before .before .before .before .before in
-    momenta (s .args .n) (s .args .dx) (s .args .dt) (now (s .args .bed)) (s .args .left) (s .args .right) (seen (now (s .args .t))) (s .pre .0 .0) (s .pre .1 .1) (slow-points c) (c .before .points .last .1 .1 .1 .0) (c .before .points .ensures .2 (c .if2 .left))
+  abbrev sided : tie.Else1
+  sided = pointed .before .before
 
-sides-requires : tie.Need-sides-requires
-sides-requires c κs = search needs
+  -- the table of the momenta
+  abbrev g : List ℤ
+  g = pointed .points .last .1 .1 .1 .0
+
+  slow-points : some (fastPointsAt (now (start sided .args .bed)) (state (start sided))) (start sided .args .reach .n) ≡ false
+  slow-points = sym (pointed .points .ensures .stops) ∙ e .if2 .left
 
 returns : tie.Need-returns
-returns c = let s = c .before .before .before in
-    record {
-      number = says-fast (s .args .n) (s .args .dx) (s .args .dt) (now (s .args .bed)) (s .args .left) (s .args .right) (seen (now (s .args .t))) (s .pre .0 .0) (sym (c .before .sides .ensures .1) ∙ c .if1 .taken);
-      f-size = s .pre .0 .3;
-      u-size = c .before .sides .ensures .0;
-      rows = λ e. let z : ⊥ = omega arith in absurd z;
-      sized = λ e. let z : ⊥ = omega arith in absurd z;
-      cells = λ e. let z : ⊥ = omega arith in absurd z;
-      small = λ e. let z : ⊥ = omega arith in absurd z;
+returns c ρ =
+    let w = c .before .before in let s = w .before .before in let a = s .args in record {
+      number = says-fast (a .reach) (a .call) (now (a .bed)) (state s) ρ (s .pre .0 .0) (sym (w .sides .ensures .stops) ∙ c .if1 .taken);
+      done = λ z. let y : ⊥ = omega arith in absurd y;
     }
 
-points-requires : tie.Need-points-requires
-points-requires c κs = search needs
-
 returns-2 : tie.Need-returns-2
-returns-2 c = let e1 = c .before .before .before in let s = e1 .before .before .before in
-    record {
-      number = says-points (s .args .n) (s .args .dx) (s .args .dt) (now (s .args .bed)) (s .args .left) (s .args .right) (seen (now (s .args .t))) (s .pre .0 .0) (slow-sides e1) (sym (c .before .points .ensures .1) ∙ c .if2 .taken);
-      f-size = s .pre .0 .3;
-      u-size = e1 .before .sides .ensures .0;
-      rows = λ e. let z : ⊥ = omega arith in absurd z;
-      sized = λ e. let z : ⊥ = omega arith in absurd z;
-      cells = λ e. let z : ⊥ = omega arith in absurd z;
-      small = λ e. let z : ⊥ = omega arith in absurd z;
+returns-2 c ρ =
+    let p = c .before .before in let e = p .before .before in let s = start e in let a = s .args in record {
+      number = says-points (a .reach) (a .call) (now (a .bed)) (state s) ρ (s .pre .0 .0) (slow-sides e) (sym (p .points .ensures .stops) ∙ c .if2 .taken);
+      done = λ z. let y : ⊥ = omega arith in absurd y;
     }
 
 faces-requires : tie.Need-faces-requires
-faces-requires c κs = let e1 = c .before .before .before .before .before in let s = e1 .before .before .before in
-    rw (toZ-ofZ (s .fits .dx), toZ-ofZ (s .fits .dt)) ((s .pre .0 .0, s .pre .0 .1, s .pre .0 .3), (s .pre .1 .0, sound e1))
+faces-requires c κs =
+    let e = sided (c .before .before) in let s = start e in let a = s .args in (
+      (s .pre .0 .0, omega arith, omega arith),
+      (s .pre .1 .1 .0, sounds (a .reach .n) (now (a .bed)) (state s) (s .pre .1 .1 .1) (slow-sides e) (d e) (worked e .sides .ensures .filled (e .if1 .left))),
+    )
 
 returns-3 : tie.Need-returns-3
-returns-3 c = let fa = c .before in let e2 = fa .before .before .before in let e1 = e2 .before .before .before in let s = e1 .before .before .before in
-    record {
-      number = says-long (s .args .n) (s .args .dx) (s .args .dt) (now (s .args .bed)) (s .args .left) (s .args .right) (seen (now (s .args .t))) (s .pre .0 .0)
-          (e1 .before .sides .last .1 .1 .1 .0) (e1 .before .sides .ensures .2 (e1 .if1 .left)) (slow-sides e1) (slow-points e2) (sym (crossed fa .1) ∙ c .if3 .taken);
-      f-size = crossed fa .0;
-      u-size = e1 .before .sides .ensures .0;
-      rows = λ e. let z : ⊥ = omega arith in absurd z;
-      sized = λ e. let z : ⊥ = omega arith in absurd z;
-      cells = λ e. let z : ⊥ = omega arith in absurd z;
-      small = λ e. let z : ⊥ = omega arith in absurd z;
+returns-3 c ρ =
+    let f = c .before .before in let h = f .before .before .before in let e = sided h in let s = start e in let a = s .args in record {
+      number = says-long (a .reach) (a .call) (now (a .bed)) (state s) ρ (s .pre .0 .0) (d e) (worked e .sides .ensures .filled (e .if1 .left)) (slow-sides e) (slow-points h)
+          (sym (f .faces .ensures .stops) ∙ c .if3 .taken);
+      done = λ z. let y : ⊥ = omega arith in absurd y;
     }
+
+-- ---- a stage that passed its three checks
+module _ (t : tie.Else3) where
+  abbrev faced : tie.After-faces
+  faced = t .before .before
+
+  abbrev passed : tie.Else2
+  passed = faced .before .before .before
+
+  -- the table of the faces
+  abbrev f : List (List ℤ)
+  f = faced .faces .last .1 .1 .1 .0
 
 update-requires : tie.Need-update-requires
 update-requires c κs =
-    let e3 = c .before .before .before in let e2 = e3 .before .before .before .before in let e1 = e2 .before .before .before in let s = e1 .before .before .before in
-    rw (toZ-ofZ (s .fits .dx), toZ-ofZ (s .fits .dt)) ((s .pre .0 .1, s .pre .0 .2, e1 .before .sides .ensures .0), (s .pre .1 .1, (sized e3, (carried e2, s .pre .1 .0))))
+    let t = c .before .before .before in let h = passed t in let e = sided h in let s = start e in let a = s .args in
+    let filled = worked e .sides .ensures .filled (e .if1 .left) in (
+      (omega arith, omega arith, omega arith, omega arith),
+      (
+        s .pre .1 .1 .1,
+        (
+          rows-sized (a .reach) (a .call) (now (a .bed)) (state s) (s .pre .0 .0) (s .pre .1 .1 .1) (s .pre .1 .1 .0) (slow-sides e) (d e) (f t) filled (faced t .faces .ensures .filled (t .if3 .left)),
+          (momenta (a .reach) (a .call) (now (a .bed)) (state s) (s .pre .1 .1 .1) (slow-points h) (g h) (pointed h .points .ensures .filled (h .if2 .left)), s .pre .1 .1 .0),
+        ),
+      ),
+    )
 
 returns-4 : tie.Need-returns-4
-returns-4 c =
-    let e3 = c .before .before .before .before in let fa = e3 .before in let e2 = fa .before .before .before in let e1 = e2 .before .before .before in let s = e1 .before .before .before in
-    let n = s .args .n in let bed = now (s .args .bed) in let st = seen (now (s .args .t)) in
-    let g = e2 .before .points .last .1 .1 .1 .0 in let wg = e2 .before .points .ensures .2 (e2 .if2 .left) in
-    let u = simp (toZ-ofZ (s .fits .dx), toZ-ofZ (s .fits .dt)) at (c .update .ensures) in
-    record {
-      number = says-none n (s .args .dx) (s .args .dt) bed (s .args .left) (s .args .right) st (s .pre .0 .0)
-          (e1 .before .sides .last .1 .1 .1 .0) (e1 .before .sides .ensures .2 (e1 .if1 .left)) (slow-sides e1) (slow-points e2) (sym (crossed fa .1) ∙ e3 .if3 .left);
-      f-size = crossed fa .0;
-      u-size = u .0;
-      rows = λ e. rows e3;
-      sized = λ e. sized e3;
-      cells = λ e i l. u .1 i l ∙ ap asList (cells-are n (s .args .dx) (s .args .dt) bed (s .args .left) (s .args .right) st (s .pre .0 .0) (fa .faces .last .1 .1 .1 .1 .1 .1 .0) g (rows e3) wg i l);
-      small = λ e. smalls n (s .args .dx) (s .args .dt) bed (s .args .left) (s .args .right) st (s .pre .0 .0) (s .pre .1 .0 .0) (s .pre .1 .0 .2) (s .pre .1 .1) (fa .faces .last .1 .1 .1 .1 .1 .1 .0) g (sized e3) (carried e2) (rows e3) wg;
+returns-4 c ρ =
+    let u = c .before in let t = u .before .before .before .before in let h = passed t in let e = sided h in let s = start e in let a = s .args in
+    let filled = worked e .sides .ensures .filled (e .if1 .left) in record {
+      number = says-none (a .reach) (a .call) (now (a .bed)) (state s) ρ (s .pre .0 .0) (d e) filled (slow-sides e) (slow-points h) (sym (faced t .faces .ensures .stops) ∙ t .if3 .left);
+      done = λ z. stage-done (a .reach) (a .call) (now (a .bed)) (state s) ρ (s .pre .0 .0) (d e) filled (slow-sides e) (slow-points h) (s .pre .1 .1 .1) (s .pre .1 .1 .0) (f t) (g h)
+          (faced t .faces .ensures .filled (t .if3 .left)) (pointed h .points .ensures .filled (h .if2 .left)) _ (u .update .ensures);
     }
 
 pub stage-spec : {M : Type 1} → statement M
-stage-spec = tie.close (tie.spec sides-requires returns points-requires returns-2 faces-requires returns-3 update-requires returns-4)
+stage-spec =
+    tie.close
+    (tie.spec
+    (λ c κs. search needs)
+    (λ c. search needs)
+    returns
+    (λ c κs. search needs)
+    (λ c. search needs)
+    (λ c. search needs)
+    returns-2
+    faces-requires
+    (λ c. search needs)
+    (λ c. search needs)
+    (λ c. search needs)
+    returns-3
+    update-requires
+    (λ c. search needs)
+    (λ c. search needs)
+    (λ c. search needs)
+    (λ c. search needs)
+    returns-4)

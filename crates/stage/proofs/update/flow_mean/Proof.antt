@@ -5,14 +5,14 @@ use lib.IntN.{ℤ, _+ℤ_}
 use mir.Facts.{toZ-ofZ}
 use borrow.Author.Needs.{needs}
 use Rattle.whole.specs.Parts.{Within}
-use Rattle.whole.specs.Machine.{X, v, _⊕_, _⊝_, _⊗_, _⊘_, Entry, entry, ideal, need, value, divisor}
-use Rattle.stage.specs.Kept.{thrust}
-use Rattle.stage.specs.Lines.{sized, thrust-size}
+use Rattle.whole.specs.Machine.{X, v, _⊕_, _⊝_, _⊗_, _⊘_, Entry, ideal, need, value, divisor}
+use Rattle.stage.specs.Laws.UpdateSizes.{sized, thrust-size}
+use Rattle.stage.specs.Rows.{thrust}
 use Rattle.stage.proofs.update.flow_mean.Statement.{statement}
 use Rattle.stage.proofs.update.flow_mean.Tie as tie
 
 abbrev env : tie.Start → List Entry
-env s = sized (s .pre .0 .0) tt ∷ sized (s .pre .1 .0 .0 .A) tt ∷ sized (s .pre .1 .0 .1 .A) tt ∷ entry (s .fits .dx) (s .pre .1 .1 .1) ∷ entry (s .fits .dt) (s .pre .1 .1 .2) ∷ []
+env s = sized (s .pre .0 .0) tt ∷ sized (s .pre .1 .0 .0 .A) tt ∷ sized (s .pre .1 .0 .1 .A) tt ∷ sized (s .pre .1 .1 .dx-in) tt ∷ sized (s .pre .1 .1 .dt-in) tt ∷ []
 
 abbrev carried : X
 carried = (v 1 ⊝ v 2) ⊗ v 4 ⊘ v 3
@@ -30,31 +30,31 @@ sub-result : tie.Need-sub-result
 sub-result c = need (env (c .before .before .before)) (v 1 ⊝ v 2) tt
 
 mul-result : tie.Need-mul-result
-mul-result c = need (env (c .before .before .before)) ((v 1 ⊝ v 2) ⊗ v 4) tt
+mul-result c = need (env (c .before .before .before .before .before)) ((v 1 ⊝ v 2) ⊗ v 4) tt
 
 div-result : tie.Need-div-result
-div-result c = let s = c .before .before .before in (divisor (env s) (v 3) tt (s .pre .1 .1 .0), need (env s) carried tt)
+div-result c = let s = c .before .before .before .before .before .before .before in (divisor (env s) (v 3) tt (s .pre .1 .1 .dx-pos), need (env s) carried tt)
 
 add-result : tie.Need-add-result
-add-result c = need (env (c .before .before .before)) (v 0 ⊕ carried) tt
+add-result c = need (env (c .before .before .before .before .before .before .before)) (v 0 ⊕ carried) tt
 
 thrust-of-requires : tie.Need-thrust-of-requires
 thrust-of-requires c κs =
-    let s = c .before .before .before in
-    rw (toZ-ofZ (s .fits .e), toZ-ofZ (s .fits .dx), toZ-ofZ (s .fits .dt)) (s .pre .0 .1, s .pre .1 .1)
+    let s = c .before .before .before .before .before .before .before in
+    rw (toZ-ofZ (s .fits .e)) (s .pre .0 .1, s .pre .1 .1)
 
 -- what the call gave
 abbrev start : tie.After-thrust-of → tie.Start
-start c = c .before .before .before .before
+start c = c .before .before .before .before .before .before .before .before
 
-moved : (c : tie.After-thrust-of) → c .thrust-of .result ≡ thrust (start c .args .e) (start c .args .dx) (start c .args .dt)
-moved c = let s = start c in rw (toZ-ofZ (s .fits .e), toZ-ofZ (s .fits .dx), toZ-ofZ (s .fits .dt)) at (c .thrust-of .ensures)
+moved : (c : tie.After-thrust-of) → c .thrust-of .result ≡ thrust (start c .args .e) (start c .args .reach .dx) (start c .args .call .dt)
+moved c = let s = start c in rw (toZ-ofZ (s .fits .e)) at (c .thrust-of .ensures)
 
 moved-size : (c : tie.After-thrust-of) → Within 9810000000000 (c .thrust-of .result)
-moved-size c = let s = start c in subst (Within 9810000000000) (sym (moved c)) (thrust-size _ _ _ (s .pre .0 .1) (s .pre .1 .1 .0) (s .pre .1 .1 .2))
+moved-size c = let s = start c in subst (Within 9810000000000) (sym (moved c)) (thrust-size _ _ _ (s .pre .0 .1) (s .pre .1 .1 .dx-pos) (s .pre .1 .1 .dt-in))
 
 abbrev after : tie.After-thrust-of → List Entry
-after c = let s = start c in sized (s .pre .0 .0) tt ∷ sized (s .pre .1 .0 .0 .A) tt ∷ sized (s .pre .1 .0 .1 .A) tt ∷ entry (s .fits .dx) (s .pre .1 .1 .1) ∷ entry (s .fits .dt) (s .pre .1 .1 .2) ∷ sized (moved-size c) tt ∷ []
+after c = let s = start c in sized (s .pre .0 .0) tt ∷ sized (s .pre .1 .0 .0 .A) tt ∷ sized (s .pre .1 .0 .1 .A) tt ∷ sized (s .pre .1 .1 .dx-in) tt ∷ sized (s .pre .1 .1 .dt-in) tt ∷ sized (moved-size c) tt ∷ []
 
 add-result-2 : tie.Need-add-result-2
 add-result-2 c = need (after c) (v 0 ⊕ carried ⊕ v 5) tt

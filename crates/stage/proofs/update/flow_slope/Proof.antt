@@ -7,8 +7,8 @@ use mir.Facts.{toZ-ofZ}
 use borrow.Author.Needs.{needs}
 use Rattle.whole.specs.Parts.{Within, b-up}
 use Rattle.whole.specs.Machine.{X, v, _⊕_, _⊝_, Entry, entry, ideal, got, need, value}
-use Rattle.stage.specs.Kept.{slopeOf, thrust}
-use Rattle.stage.specs.Lines.{sized, slope-size, thrust-size}
+use Rattle.stage.specs.Laws.UpdateSizes.{sized, slope-size, thrust-size}
+use Rattle.stage.specs.Rows.{slopeOf, thrust}
 use Rattle.stage.proofs.update.flow_slope.Statement.{statement}
 use Rattle.stage.proofs.update.flow_slope.Tie as tie
 
@@ -39,17 +39,17 @@ sub-slope-change c = need (env (c .before .before .before)) change tt
 slope-change-requires : tie.Need-slope-change-requires
 slope-change-requires c κs =
     let s = c .before .before .before in
-    rw (value (env s) change tt, toZ-ofZ (s .fits .dx), toZ-ofZ (s .fits .dt)) (change-size s, (s .pre .1 .1 .0, s .pre .1 .1 .2))
+    rw (value (env s) change tt) (change-size s, s .pre .1 .1)
 
 -- what the first call gave
 abbrev start : tie.After-slope-change → tie.Start
 start c = c .before .before .before .before
 
-changed : (c : tie.After-slope-change) → c .slope-change .result ≡ slopeOf (ideal (env (start c)) change) (start c .args .dx) (start c .args .dt)
-changed c = let s = start c in rw (value (env s) change tt, toZ-ofZ (s .fits .dx), toZ-ofZ (s .fits .dt)) at (c .slope-change .ensures)
+changed : (c : tie.After-slope-change) → c .slope-change .result ≡ slopeOf (ideal (env (start c)) change) (start c .args .reach .dx) (start c .args .call .dt)
+changed c = let s = start c in rw (value (env s) change tt) at (c .slope-change .ensures)
 
 changed-size : (c : tie.After-slope-change) → Within 53647899623424 (c .slope-change .result)
-changed-size c = subst (Within 53647899623424) (sym (changed c)) (slope-size _ _ _ (change-size (start c)) (start c .pre .1 .1 .2))
+changed-size c = subst (Within 53647899623424) (sym (changed c)) (slope-size _ _ _ (change-size (start c)) (start c .pre .1 .1 .dt-in))
 
 sub-result : tie.Need-sub-result
 sub-result c = need (sized (start c .pre .0 .0) tt ∷ sized (changed-size c) tt ∷ []) (v 0 ⊝ v 1) tt
@@ -57,14 +57,14 @@ sub-result c = need (sized (start c .pre .0 .0) tt ∷ sized (changed-size c) tt
 thrust-of-requires : tie.Need-thrust-of-requires
 thrust-of-requires c κs =
     let s = start c in
-    rw (toZ-ofZ (s .fits .d), toZ-ofZ (s .fits .dx), toZ-ofZ (s .fits .dt)) (s .pre .0 .2, s .pre .1 .1)
+    rw (toZ-ofZ (s .fits .d)) (s .pre .0 .2, s .pre .1 .1)
 
 -- what the second gave
-moved : (c : tie.After-thrust-of) → let s = start (c .before) in c .thrust-of .result ≡ thrust (s .args .d) (s .args .dx) (s .args .dt)
-moved c = let s = start (c .before) in rw (toZ-ofZ (s .fits .d), toZ-ofZ (s .fits .dx), toZ-ofZ (s .fits .dt)) at (c .thrust-of .ensures)
+moved : (c : tie.After-thrust-of) → let s = start (c .before) in c .thrust-of .result ≡ thrust (s .args .d) (s .args .reach .dx) (s .args .call .dt)
+moved c = let s = start (c .before) in rw (toZ-ofZ (s .fits .d)) at (c .thrust-of .ensures)
 
 moved-size : (c : tie.After-thrust-of) → Within 9810000000000 (c .thrust-of .result)
-moved-size c = let s = start (c .before) in subst (Within 9810000000000) (sym (moved c)) (thrust-size _ _ _ (s .pre .0 .2) (s .pre .1 .1 .0) (s .pre .1 .1 .2))
+moved-size c = let s = start (c .before) in subst (Within 9810000000000) (sym (moved c)) (thrust-size _ _ _ (s .pre .0 .2) (s .pre .1 .1 .dx-pos) (s .pre .1 .1 .dt-in))
 
 abbrev after : tie.After-thrust-of → List Entry
 after c = sized (start (c .before) .pre .0 .0) tt ∷ sized (changed-size (c .before)) tt ∷ sized (moved-size c) tt ∷ []

@@ -3,12 +3,11 @@ use mathlib.Core.Path.{_≡_, _∙_, ap, sym, subst}
 use mathlib.Core.List.{List, [], _∷_}
 use lib.ListN.{getD}
 use lib.IntN.{ℤ, pos, _-ℤ_}
-use mir.Facts.{toZ-ofZ}
 use borrow.Author.Needs.{needs}
 use Rattle.whole.specs.Parts.{Within, b-up}
 use Rattle.whole.specs.Machine.{X, v, k, _⊕_, _⊝_, _⊗_, Entry, ideal, got, need, value}
-use Rattle.stage.specs.Kept.{slopeOf}
-use Rattle.stage.specs.Lines.{sized, slope-size}
+use Rattle.stage.specs.Laws.UpdateSizes.{sized, slope-size}
+use Rattle.stage.specs.Rows.{slopeOf}
 use Rattle.stage.proofs.update.level_slope.Statement.{statement}
 use Rattle.stage.proofs.update.level_slope.Tie as tie
 
@@ -45,17 +44,17 @@ sub-slope-change c = need (env (c .before .before .before .before)) change tt
 slope-change-requires : tie.Need-slope-change-requires
 slope-change-requires c κs =
     let s = c .before .before .before .before in
-    rw (value (env s) change tt, toZ-ofZ (s .fits .dx), toZ-ofZ (s .fits .dt)) (change-size s, (s .pre .1 .1 .0, s .pre .1 .1 .2))
+    rw (value (env s) change tt) (change-size s, s .pre .1 .1)
 
 -- what the call gave
 abbrev start : tie.After-slope-change → tie.Start
 start c = c .before .before .before .before .before
 
-changed : (c : tie.After-slope-change) → c .slope-change .result ≡ slopeOf (ideal (env (start c)) change) (start c .args .dx) (start c .args .dt)
-changed c = let s = start c in rw (value (env s) change tt, toZ-ofZ (s .fits .dx), toZ-ofZ (s .fits .dt)) at (c .slope-change .ensures)
+changed : (c : tie.After-slope-change) → c .slope-change .result ≡ slopeOf (ideal (env (start c)) change) (start c .args .reach .dx) (start c .args .call .dt)
+changed c = let s = start c in rw (value (env s) change tt) at (c .slope-change .ensures)
 
 changed-size : (c : tie.After-slope-change) → Within 53647899623424 (c .slope-change .result)
-changed-size c = subst (Within 53647899623424) (sym (changed c)) (slope-size _ _ _ (change-size (start c)) (start c .pre .1 .1 .2))
+changed-size c = subst (Within 53647899623424) (sym (changed c)) (slope-size _ _ _ (change-size (start c)) (start c .pre .1 .1 .dt-in))
 
 abbrev after : tie.After-slope-change → List Entry
 after c = sized (start c .pre .0 .0) tt ∷ sized (changed-size c) tt ∷ []

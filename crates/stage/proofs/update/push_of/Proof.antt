@@ -5,8 +5,8 @@ use lib.IntN.{_+ℤ_, _-ℤ_, _*ℤ_}
 use Rattle.whole.specs.Parts.{Within, b-up}
 use Rattle.whole.specs.Machine.{X, v, _⊕_, _⊝_, _⊗_, Entry, got, need, value}
 use Rattle.rules.specs.Reach.{short}
+use Rattle.stage.specs.Laws.UpdateSizes.{sized, and-then, left-short, right-short}
 use Rattle.stage.specs.Rows.{pushOf}
-use Rattle.stage.specs.Lines.{sized, and-then, left-short, right-short}
 use Rattle.stage.proofs.update.push_of.Statement.{statement}
 use Rattle.stage.proofs.update.push_of.Tie as tie
 

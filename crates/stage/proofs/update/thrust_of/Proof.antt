@@ -2,13 +2,13 @@
 use mathlib.Core.List.{List, [], _∷_}
 use lib.IntN.{pos}
 use Rattle.whole.specs.Machine.{X, v, k, _⊗_, _⊘_, Entry, entry, need, value, divisor}
-use Rattle.stage.specs.Kept.{thrust}
-use Rattle.stage.specs.Lines.{wide-pos}
+use Rattle.stage.specs.Laws.UpdateSizes.{wide-pos, sized}
+use Rattle.stage.specs.Rows.{thrust}
 use Rattle.stage.proofs.update.thrust_of.Statement.{statement}
 use Rattle.stage.proofs.update.thrust_of.Tie as tie
 
 abbrev env : tie.Start → List Entry
-env s = entry (s .fits .e) (s .pre .0) ∷ entry (s .fits .dx) (s .pre .1 .1) ∷ entry (s .fits .dt) (s .pre .1 .2) ∷ []
+env s = entry (s .fits .e) (s .pre .0) ∷ sized (s .pre .1 .dx-in) tt ∷ sized (s .pre .1 .dt-in) tt ∷ []
 
 abbrev above : X
 above = k (pos 981) ⊗ v 0 ⊗ v 2
@@ -20,17 +20,17 @@ mul-result : tie.Need-mul-result
 mul-result c = need (env c) (k (pos 981) ⊗ v 0) tt
 
 mul-result-2 : tie.Need-mul-result-2
-mul-result-2 c = need (env c) above tt
+mul-result-2 c = need (env (c .before .before)) above tt
 
 mul-result-3 : tie.Need-mul-result-3
-mul-result-3 c = need (env c) below tt
+mul-result-3 c = need (env (c .before .before .before .before)) below tt
 
 div-result : tie.Need-div-result
-div-result c = (divisor (env c) below tt (wide-pos (c .args .dx) (c .pre .1 .0)), need (env c) (above ⊘ below) tt)
+div-result c = let s = c .before .before .before .before in (divisor (env s) below tt (wide-pos (s .args .reach .dx) (s .pre .1 .dx-pos)), need (env s) (above ⊘ below) tt)
 
 returns : tie.Need-returns
 unfolding thrust
-returns c = value (env c) (above ⊘ below) tt
+returns c = value (env (c .before .before .before .before)) (above ⊘ below) tt
 
 pub thrust-of-spec : {M : Type 1} → statement M
 thrust-of-spec = tie.close (tie.spec mul-result mul-result-2 mul-result-3 div-result returns)

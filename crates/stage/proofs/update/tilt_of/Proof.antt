@@ -3,8 +3,8 @@ use mathlib.Core.List.{List, []}
 use lib.Dec.{lit<}
 use lib.IntN.{pos}
 use Rattle.whole.specs.Machine.{X, v, k, _⊕_, _⊝_, _⊗_, _⊘_, Entry, need, value}
+use Rattle.stage.specs.Laws.UpdateSizes.{and-then}
 use Rattle.stage.specs.Rows.{tiltOf}
-use Rattle.stage.specs.Lines.{and-then}
 use Rattle.stage.proofs.update.tilt_of.Statement.{statement}
 use Rattle.stage.proofs.update.tilt_of.Tie as tie
 

@@ -1,79 +1,95 @@
--- The four checks speak in their order, each over the whole reach.
-use mathlib.Core.Path.{_≡_, sym, ap, _∙_}
-use mathlib.Core.Bool.{false}
+-- The four checks in their order; each is known to have been passed where the next one is made.
+use mathlib.Core.Path.{_≡_, sym, _∙_, ap}
+use mathlib.Core.Bool.{Bool, false}
+use mathlib.Core.List.{List}
 use Prim.Native.Nat.{ℕ, suc}
-use native.Mathlib.Numerals.{add-one}
-use lib.ListN.{getD}
-use lib.IntN.{pos}
-use denote.Ref.{now}
-use Rattle.tables.specs.Some.{some}
-use Rattle.tables.specs.Cells.{cellAt}
-use Rattle.rules.specs.Limits.{dryDepth}
-use Rattle.rules.specs.Refusals.{badBed, badRough, offCell, fastCell}
-use Rattle.finishing.specs.Held.{bedAt}
-use Rattle.stage.specs.Readied.{three, four, five, six, none, grounds, ranged}
+use native.Mathlib.Omega.{arith}
 use borrow.Author.Needs.{needs}
+use denote.Ref.{now}
+use lib.ListN.{getD, length}
+use lib.IntN.{pos}
+use Rattle.tables.specs.Some.{some}
+use Rattle.tables.specs.Cells.{seen}
+use Rattle.rules.specs.Refusals.{badBed, badRough, Check}
+use Rattle.rules.specs.Laws.Verdicts.{stops-at, none-stops}
+use Rattle.reach.specs.Ranges.{Grounds}
+use Rattle.stage.specs.Says.{readyChecks}
+use Rattle.stage.specs.Laws.LentChecks.{grounds, ranged}
 use Rattle.stage.proofs.worked.ready.Statement.{statement}
 use Rattle.stage.proofs.worked.ready.Tie as tie
 
--- the first two tests, of n + 1 bed values and n friction values
-beds : (c : tie.After-bad-bed) → let s = c .before .before in c .bad-bed .result ≡ some (λ i. badBed (getD (now (s .args .bed)) i (pos 0))) (suc (s .args .n))
-beds c = let s = c .before .before in c .bad-bed .ensures ∙ ap (λ (m : ℕ). some (λ i. badBed (getD (now (s .args .bed)) i (pos 0))) m) (s .pre .2 ∙ add-one (s .args .n))
+-- the checks of a start
+abbrev list : tie.Start → List Check
+list s = readyChecks (s .args .reach .n) (now (s .args .bed)) (now (s .args .friction)) (seen (now (s .args .t)))
 
-roughs : (c : tie.After-bad-friction) → let s = c .before .before .before .before in c .bad-friction .result ≡ some (λ i. badRough (pos (getD (now (s .args .friction)) i 0))) (s .args .n)
-roughs c = let s = c .before .before .before .before in c .bad-friction .ensures ∙ ap (λ (m : ℕ). some (λ i. badRough (pos (getD (now (s .args .friction)) i 0))) m) (s .pre .3)
+-- ---- the tests of the lent tables, which go over as many values as there are
+bed-test : (c : tie.After-bad-bed) → let s = c .before .before in some (λ i. badBed (getD (now (s .args .bed)) i (pos 0))) (suc (s .args .reach .n)) ≡ c .bad-bed .result
+bed-test c = let s = c .before .before in let e : suc (s .args .reach .n) ≡ length (now (s .args .bed)) = omega (arith, s .pre .0) in
+    ap (some (λ i. badBed (getD (now (s .args .bed)) i (pos 0)))) e ∙ sym (c .bad-bed .ensures)
 
--- passed
-flat : (c : tie.Else1) → let s = c .before .before .before in some (λ i. badBed (getD (now (s .args .bed)) i (pos 0))) (suc (s .args .n)) ≡ false
-flat c = sym (beds (c .before)) ∙ c .if1 .left
+rough-test : (c : tie.After-bad-friction) → let s = c .before .before .before .before in
+    some (λ i. badRough (pos (getD (now (s .args .friction)) i 0))) (s .args .reach .n) ≡ c .bad-friction .result
+rough-test c = let s = c .before .before .before .before in let e : s .args .reach .n ≡ length (now (s .args .friction)) = omega (arith, s .pre .0) in
+    ap (some (λ i. badRough (pos (getD (now (s .args .friction)) i 0)))) e ∙ sym (c .bad-friction .ensures)
 
-smooth : (c : tie.Else2) → let s = c .before .before .before .before .before in some (λ i. badRough (pos (getD (now (s .args .friction)) i 0))) (s .args .n) ≡ false
-smooth c = sym (roughs (c .before)) ∙ c .if2 .left
+-- ---- past each of them
+module _ (c : tie.Else1) where
+  abbrev one : tie.Start
+  one = c .before .before .before
 
-bad-bed-requires : tie.Need-bad-bed-requires
-bad-bed-requires c κs = search needs
+  bed-passed : some (λ i. badBed (getD (now (one .args .bed)) i (pos 0))) (suc (one .args .reach .n)) ≡ false
+  bed-passed = bed-test (c .before) ∙ c .if1 .left
+
+  ground : Grounds (now (one .args .bed)) (one .args .reach .n)
+  ground = grounds (one .args .reach .n) (now (one .args .bed)) bed-passed
+
+module _ (c : tie.Else2) where
+  abbrev two : tie.Else1
+  two = c .before .before
+
+  rough-passed : some (λ i. badRough (pos (getD (now (one two .args .friction)) i 0))) (one two .args .reach .n) ≡ false
+  rough-passed = rough-test (c .before) ∙ c .if2 .left
 
 returns : tie.Need-returns
-returns c = let s = c .before .before .before in let n = s .args .n in let bed = now (s .args .bed) in let fr = now (s .args .friction) in let st = now (s .args .state) in
-    three (some (λ i. badBed (getD bed i (pos 0))) (suc n)) (some (λ i. badRough (pos (getD fr i 0))) n) (some (λ i. offCell (bedAt bed i) (cellAt st i)) n) (some (λ i. fastCell dryDepth (bedAt bed i) (cellAt st i)) n) (sym (beds (c .before)) ∙ c .if1 .taken)
-
-bad-friction-requires : tie.Need-bad-friction-requires
-bad-friction-requires c κs = search needs
+returns c = let s = c .before .before .before in stops-at (list s) 0 tt (bed-test (c .before) ∙ c .if1 .taken)
 
 returns-2 : tie.Need-returns-2
-returns-2 c = let s = c .before .before .before .before .before in let n = s .args .n in let bed = now (s .args .bed) in let fr = now (s .args .friction) in let st = now (s .args .state) in
-    four (some (λ i. badBed (getD bed i (pos 0))) (suc n)) (some (λ i. badRough (pos (getD fr i 0))) n) (some (λ i. offCell (bedAt bed i) (cellAt st i)) n) (some (λ i. fastCell dryDepth (bedAt bed i) (cellAt st i)) n) (flat (c .before .before)) (sym (roughs (c .before)) ∙ c .if2 .taken)
+returns-2 c = let e = c .before .before in stops-at (list (one e)) 1 (bed-passed e, tt) (rough-test (c .before) ∙ c .if2 .taken)
 
-off-lent-requires : tie.Need-off-lent-requires
-off-lent-requires c κs = let s = c .before .before .before .before .before in
-    ((s .pre .0, s .pre .1, s .pre .2), grounds (s .args .n) (now (s .args .bed)) (flat (c .before .before)))
+off-requires : tie.Need-off-requires
+off-requires c κs = let s = one (two c) in (s .pre .0 .0, λ i l. record { ground = ground (two c) i l; wide = s .pre .1 i l })
 
 returns-3 : tie.Need-returns-3
-returns-3 c = let e2 = c .before .before in let s = e2 .before .before .before .before .before in let n = s .args .n in let bed = now (s .args .bed) in let fr = now (s .args .friction) in let st = now (s .args .state) in
-    five (some (λ i. badBed (getD bed i (pos 0))) (suc n)) (some (λ i. badRough (pos (getD fr i 0))) n) (some (λ i. offCell (bedAt bed i) (cellAt st i)) n) (some (λ i. fastCell dryDepth (bedAt bed i) (cellAt st i)) n) (flat (e2 .before .before)) (smooth e2) (sym (c .before .off-lent .ensures) ∙ c .if3 .taken)
+returns-3 c = let e = c .before .before in let d = two e in
+    stops-at (list (one d)) 2 (bed-passed d, (rough-passed e, tt)) (sym (c .before .off .ensures) ∙ c .if3 .taken)
 
-fast-lent-requires : tie.Need-fast-lent-requires
-fast-lent-requires c κs = let e2 = c .before .before in let s = e2 .before .before .before .before .before in
-    ((s .pre .0, s .pre .1, s .pre .2), ranged (s .args .n) (now (s .args .bed)) (cellAt (now (s .args .state))) (grounds (s .args .n) (now (s .args .bed)) (flat (e2 .before .before))) (sym (c .before .off-lent .ensures) ∙ c .if3 .left))
+-- ---- in range
+module _ (c : tie.Else3) where
+  abbrev three : tie.Else2
+  three = c .before .before
+
+fast-requires : tie.Need-fast-requires
+fast-requires c κs = let d = two (three c) in let s = one d in
+    (s .pre .0 .0, ranged (s .args .reach .n) (now (s .args .bed)) (seen (now (s .args .t))) (ground d) (sym (c .before .off .ensures) ∙ c .if3 .left))
 
 returns-4 : tie.Need-returns-4
-returns-4 c = let e3 = c .before .before in let e2 = e3 .before .before in let s = e2 .before .before .before .before .before in let n = s .args .n in let bed = now (s .args .bed) in let fr = now (s .args .friction) in let st = now (s .args .state) in
-    six (some (λ i. badBed (getD bed i (pos 0))) (suc n)) (some (λ i. badRough (pos (getD fr i 0))) n) (some (λ i. offCell (bedAt bed i) (cellAt st i)) n) (some (λ i. fastCell dryDepth (bedAt bed i) (cellAt st i)) n) (flat (e2 .before .before)) (smooth e2) (sym (e3 .before .off-lent .ensures) ∙ e3 .if3 .left) (sym (c .before .fast-lent .ensures) ∙ c .if4 .taken)
+returns-4 c = let g = c .before .before in let e = three g in let d = two e in
+    stops-at (list (one d)) 3 (bed-passed d, (rough-passed e, (sym (g .before .off .ensures) ∙ g .if3 .left, tt))) (sym (c .before .fast .ensures) ∙ c .if4 .taken)
 
 returns-5 : tie.Need-returns-5
-returns-5 c = let e3 = c .before .before in let e2 = e3 .before .before in let s = e2 .before .before .before .before .before in let n = s .args .n in let bed = now (s .args .bed) in let fr = now (s .args .friction) in let st = now (s .args .state) in
-    none (some (λ i. badBed (getD bed i (pos 0))) (suc n)) (some (λ i. badRough (pos (getD fr i 0))) n) (some (λ i. offCell (bedAt bed i) (cellAt st i)) n) (some (λ i. fastCell dryDepth (bedAt bed i) (cellAt st i)) n) (flat (e2 .before .before)) (smooth e2) (sym (e3 .before .off-lent .ensures) ∙ e3 .if3 .left) (sym (c .before .fast-lent .ensures) ∙ c .if4 .left)
+returns-5 c = let g = c .before .before in let e = three g in let d = two e in
+    none-stops (list (one d)) (bed-passed d, (rough-passed e, (sym (g .before .off .ensures) ∙ g .if3 .left, (sym (c .before .fast .ensures) ∙ c .if4 .left, tt))))
 
 pub ready-spec : {M : Type 1} → statement M
 ready-spec =
     tie.close
     (tie.spec
-    bad-bed-requires
+    (λ c κs. search needs)
     returns
-    bad-friction-requires
+    (λ c κs. search needs)
     returns-2
-    off-lent-requires
+    off-requires
     returns-3
-    fast-lent-requires
+    fast-requires
     returns-4
     returns-5)

@@ -1,99 +1,148 @@
--- The checks in their order, then the two stages.
+-- The lengths and the numbers are checked in their order; the step on tables says the rest.
 use mathlib.Core.Path.{_≡_, refl, sym, _∙_}
 use mathlib.Core.Bool.{false}
-use Prim.Native.Nat.{_*_}
+use mathlib.Core.List.{_++_}
+use mir.Syntax.{w64}
+use mir.Val.{toZ, ofZ}
+use Prim.Native.Nat.{ℕ, _*_}
 use native.Mathlib.Omega.{arith}
-use lib.ListN.{length}
-use Rattle.whole.specs.Machine.{back64}
-use denote.Ref.{now}
-use Rattle.rules.specs.Refusals.{verdict}
-use Rattle.rules.specs.Laws.Lengths.{Fitted, fitted}
-use Rattle.rules.specs.Lent.{misfit}
-use Rattle.stage.specs.Narrow.{badNumbers}
-use Rattle.stage.specs.Says.{readyChecks}
-use Rattle.stage.specs.Fitted.{numbers, short-number, length-number, call-number, lent-number, step-says, lent-ranged, lent-slow}
 use borrow.Author.Needs.{needs}
+use denote.Ref.{now}
+use lib.ListN.{getD, length}
+use lib.IntN.{ℤ, pos}
+use Rattle.whole.specs.Machine.{back64}
+use Rattle.rules.specs.Lent.{misfit, number, stateOf, reachOf, callOf}
+use Rattle.rules.specs.Refusals.{verdict, badCall}
+use Rattle.rules.specs.Laws.Lengths.{Fitted, fitted}
+use Rattle.reach.specs.Ranges.{Numbers}
+use Rattle.reach.specs.Told.{reachIn, callOn}
+use Rattle.stage.specs.Says.{readyChecks, bothChecks}
+use Rattle.stage.specs.Worked.{lentBy}
+use Rattle.stage.specs.Laws.LentNumber.{numbers, reachBy, callBy, short-number, length-number, call-number, later-checks}
 use Rattle.stage.proofs.worked.work.Statement.{statement}
 use Rattle.stage.proofs.worked.work.Tie as tie
 
 -- ---- what passed
-lengths : (c : tie.Else2) → let s = c .before .before .before .before in misfit (length (now (s .args .state))) (4 * length (now (s .args .friction))) (length (now (s .args .bed))) (length (now (s .args .friction))) ≡ false
-lengths c = sym (c .before .bad-lengths .ensures) ∙ c .if2 .left
+module _ (c : tie.Else2) where
+  abbrev s : tie.Start
+  s = c .before .before .before .before
 
-fits : (c : tie.Else2) → let s = c .before .before .before .before in Fitted (length (now (s .args .state))) (4 * length (now (s .args .friction))) (length (now (s .args .bed))) (length (now (s .args .friction)))
-fits c = let s = c .before .before .before .before in fitted (length (now (s .args .state))) (4 * length (now (s .args .friction))) (length (now (s .args .bed))) (length (now (s .args .friction))) (lengths c)
+  lengths : misfit (length (now (s .args .state))) (4 * length (now (s .args .friction))) (length (now (s .args .bed))) (length (now (s .args .friction))) ≡ false
+  lengths = sym (c .before .bad-lengths .ensures) ∙ c .if2 .left
 
-called : (c : tie.Else3) → let s = c .before .before .before .before .before .before in badNumbers (s .args .dx) (s .args .dt) (s .args .jump) (s .args .left) (s .args .right) ≡ false
-called c = sym (c .before .bad-numbers .ensures) ∙ c .if3 .left
-
-readied : (c : tie.Else4) → let s = c .before .before .before .before .before .before .before .before in 0 ≡ verdict (readyChecks (length (now (s .args .friction))) (now (s .args .bed)) (now (s .args .friction)) (now (s .args .state)))
-readied c = sym (c .if4 .left) ∙ c .before .ready .ensures
+  fits : Fitted (length (now (s .args .state))) (4 * length (now (s .args .friction))) (length (now (s .args .bed))) (length (now (s .args .friction)))
+  fits = fitted (length (now (s .args .state))) (4 * length (now (s .args .friction))) (length (now (s .args .bed))) (length (now (s .args .friction))) lengths
 
 returns : tie.Need-returns
-returns c = let s = c .before .before in (sym (short-number (now (s .args .state)) (now (s .args .bed)) (now (s .args .friction)) (s .args .dx) (s .args .dt) (s .args .jump) (s .args .left) (s .args .right) (length (now (s .args .out))) (c .if1 .taken)), omega arith, refl)
-
-bad-lengths-requires : tie.Need-bad-lengths-requires
-bad-lengths-requires c κs = search needs
+returns c = let p = c .before .before .args in record {
+  number = sym (short-number (now (p .state)) (now (p .bed)) (now (p .friction)) (p .given) (length (now (p .out))) (c .if1 .taken));
+  some = omega arith;
+  kept = refl;
+}
 
 returns-2 : tie.Need-returns-2
-returns-2 c = let s = c .before .before .before .before in (sym (length-number (now (s .args .state)) (now (s .args .bed)) (now (s .args .friction)) (s .args .dx) (s .args .dt) (s .args .jump) (s .args .left) (s .args .right) (length (now (s .args .out))) (omega (arith, c .before .before .if1 .left)) (sym (c .before .bad-lengths .ensures) ∙ c .if2 .taken)), omega arith, refl)
+returns-2 c = let p = c .before .before .before .before .args in record {
+  number = sym (length-number (now (p .state)) (now (p .bed)) (now (p .friction)) (p .given) (length (now (p .out))) (omega (arith, c .before .before .if1 .left)) (sym (c .before .bad-lengths .ensures) ∙ c .if2 .taken));
+  some = omega arith;
+  kept = refl;
+}
 
-bad-numbers-requires : tie.Need-bad-numbers-requires
-bad-numbers-requires c κs = search needs
+-- ---- the numbers of the call, widened
+module _ (c : tie.After-bad-numbers) where
+  abbrev w3 : tie.After-widened3
+  w3 = c .before
+
+  abbrev w2 : tie.After-widened2
+  w2 = w3 .before
+
+  abbrev w1 : tie.After-widened
+  w1 = w2 .before
+
+  abbrev fit : tie.Else2
+  fit = w1 .before
+
+  abbrev rough : ℕ → ℤ
+  rough i = pos (getD (now (s fit .args .friction)) i 0)
+
+  judged : let p = s fit .args in
+      c .bad-numbers .result ≡ badCall (reachIn (reachBy (length (now (p .friction))) (p .given)) (now (p .bed))) (callOn (callBy (p .given)) rough)
+  judged = simp (back64 (w1 .widened .ok) (w1 .widened .ensures), back64 (w2 .widened2 .ok) (w2 .widened2 .ensures), back64 (w3 .widened3 .ok) (w3 .widened3 .ensures))
+      at (c .bad-numbers .ensures (now (s fit .args .bed)) rough)
 
 returns-3 : tie.Need-returns-3
-returns-3 c = let e2 = c .before .before in let s = e2 .before .before .before .before in (sym (call-number (now (s .args .state)) (now (s .args .bed)) (now (s .args .friction)) (s .args .dx) (s .args .dt) (s .args .jump) (s .args .left) (s .args .right) (length (now (s .args .out))) (omega (arith, e2 .before .before .if1 .left)) (lengths e2) (sym (c .before .bad-numbers .ensures) ∙ c .if3 .taken)), omega arith, refl)
+returns-3 c =
+    let m = c .before in let e = fit m in let p = s e .args in
+    record {
+      number = sym (call-number (now (p .state)) (now (p .bed)) (now (p .friction)) (p .given) (length (now (p .out)))
+          (omega (arith, e .before .before .if1 .left)) (lengths e) (sym (judged m) ∙ c .if3 .taken));
+      some = omega arith;
+      kept = refl;
+    }
 
-ready-requires : tie.Need-ready-requires
-ready-requires c κs = let f = fits (c .before .before) in (f .most, f .now, f .beds, refl)
+-- ---- a call in order
+module _ (e : tie.Else3) where
+  abbrev m : tie.After-bad-numbers
+  m = e .before
 
-returns-4 : tie.Need-returns-4
-returns-4 c = let e3 = c .before .before in let e2 = e3 .before .before in let s = e2 .before .before .before .before in
-    (sym (lent-number (now (s .args .state)) (now (s .args .bed)) (now (s .args .friction)) (s .args .dx) (s .args .dt) (s .args .jump) (s .args .left) (s .args .right) (length (now (s .args .out))) (omega (arith, e2 .before .before .if1 .left)) (lengths e2) (called e3) (c .before .ready .result) (c .before .ready .ensures) (c .if4 .taken)), omega (arith, c .if4 .taken), refl)
+  abbrev start : tie.Start
+  start = s (fit m)
 
-widened-requires : tie.Need-widened-requires
-widened-requires c κs = search needs
+  in-range : Numbers (record { n = length (now (start .args .friction)); dx = toZ w64 (ofZ w64 (w1 m .widened .result)) })
+      (record {
+        dt = toZ w64 (ofZ w64 (w2 m .widened2 .result));
+        jump = toZ w64 (ofZ w64 (w3 m .widened3 .result));
+        left = start .args .given .left;
+        right = start .args .given .right;
+      })
+  in-range = numbers _ _ (now (start .args .bed)) (rough m) (sym (m .bad-numbers .ensures (now (start .args .bed)) (rough m)) ∙ e .if3 .left)
 
-widened-requires-2 : tie.Need-widened-requires-2
-widened-requires-2 c κs = search needs
+  later : let p = start .args in let a = lentBy (now (p .state)) (now (p .bed)) (now (p .friction)) (p .given) (length (now (p .out))) in
+      number a ≡ verdict (readyChecks (length (now (p .friction))) (now (p .bed)) (now (p .friction)) (stateOf a) ++ bothChecks (reachOf a) (callOf a) (stateOf a))
+  later = let p = start .args in
+      later-checks (now (p .state)) (now (p .bed)) (now (p .friction)) (p .given) (length (now (p .out)))
+      (omega (arith, fit m .before .before .if1 .left)) (lengths (fit m)) (sym (judged m) ∙ e .if3 .left)
 
-widened-requires-3 : tie.Need-widened-requires-3
-widened-requires-3 c κs = search needs
-
-both-stages-requires : tie.Need-both-stages-requires
-both-stages-requires c κs =
-    let w2 = c .before in let w1 = w2 .before in let w0 = w1 .before in let e4 = w0 .before in let e3 = e4 .before .before in let e2 = e3 .before .before in let s = e2 .before .before .before .before in let f = fits e2 in
-    rw (back64 (w0 .widened .ok) (w0 .widened .ensures), back64 (w1 .widened2 .ok) (w1 .widened2 .ensures), back64 (w2 .widened3 .ok) (w2 .widened3 .ensures)) (
-      (f .some, f .most, f .now, f .beds, refl, omega (arith, e2 .before .before .if1 .left)),
-      (
-        numbers (s .args .dx) (s .args .dt) (s .args .jump) (s .args .left) (s .args .right) (called e3),
-        (lent-ranged (length (now (s .args .friction))) (now (s .args .state)) (now (s .args .bed)) (now (s .args .friction)) (readied e4), lent-slow (length (now (s .args .friction))) (now (s .args .state)) (now (s .args .bed)) (now (s .args .friction)) (readied e4)),
-      ),
+short-step-requires : tie.Need-short-step-requires
+short-step-requires c κs =
+    let e = c .before .before in let f = fits (fit (m e)) in (
+      (record { some = f .some; most = f .most; beds = f .beds; numbers = in-range e }, f .now, refl),
+      (c .before .if4 .taken, omega (arith, fit (m e) .before .before .if1 .left)),
     )
 
-same-length : tie.Need-same-length
-same-length c = search needs
+returns-4 : tie.Need-returns-4
+returns-4 c =
+    let e = c .before .before .before .before in let m = e .before in
+    rw (later e) (simp (back64 (w1 m .widened .ok) (w1 m .widened .ensures), back64 (w2 m .widened2 .ok) (w2 m .widened2 .ensures), back64 (w3 m .widened3 .ok) (w3 m .widened3 .ensures))
+    at (c .before .short-step .ensures))
+
+long-step-requires : tie.Need-long-step-requires
+long-step-requires c κs =
+    let e = c .before .before in let f = fits (fit (m e)) in (
+      (record { some = f .some; most = f .most; beds = f .beds; numbers = in-range e }, f .now, refl),
+      omega (arith, fit (m e) .before .before .if1 .left),
+    )
 
 returns-5 : tie.Need-returns-5
 returns-5 c =
-    let b = c .before in let w2 = b .before .before in let w1 = w2 .before in let w0 = w1 .before in let e4 = w0 .before in let e3 = e4 .before .before in let e2 = e3 .before .before in let s = e2 .before .before .before .before in
-    step-says (now (s .args .state)) (now (s .args .bed)) (now (s .args .friction)) (s .args .dx) (s .args .dt) (s .args .jump) (s .args .left) (s .args .right) (length (now (s .args .out))) (omega (arith, e2 .before .before .if1 .left)) (lengths e2) (called e3) (readied e4) (b .both-stages .result) (now (s .args .out)) (b .both-stages .last .1 .1 .1 .1 .1 .1 .1 .1 .1 .0)
-    (simp (back64 (w0 .widened .ok) (w0 .widened .ensures), back64 (w1 .widened2 .ok) (w1 .widened2 .ensures), back64 (w2 .widened3 .ok) (w2 .widened3 .ensures)) at (b .both-stages .ensures))
+    let e = c .before .before .before .before in let m = e .before in
+    rw (later e) (simp (back64 (w1 m .widened .ok) (w1 m .widened .ensures), back64 (w2 m .widened2 .ok) (w2 m .widened2 .ensures), back64 (w3 m .widened3 .ok) (w3 m .widened3 .ensures))
+    at (c .before .long-step .ensures))
 
 pub work-spec : {M : Type 1} → statement M
 work-spec =
     tie.close
     (tie.spec
     returns
-    bad-lengths-requires
+    (λ c κs. search needs)
     returns-2
-    bad-numbers-requires
+    (λ c κs. search needs)
+    (λ c κs. search needs)
+    (λ c κs. search needs)
+    (λ c κs. search needs)
     returns-3
-    ready-requires
+    short-step-requires
+    (λ c. search needs)
     returns-4
-    widened-requires
-    widened-requires-2
-    widened-requires-3
-    both-stages-requires
-    same-length
+    long-step-requires
+    (λ c. search needs)
     returns-5)

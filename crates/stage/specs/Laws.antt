@@ -1,0 +1,16 @@
+-- Why the numbers of a stage fit, and why what its functions answer is the rule's.
+pub mod CellSizes
+pub mod Around
+pub mod FrictionStrength
+pub mod FrictionRange
+pub mod UpdateSizes
+pub mod Faces
+pub mod RowsAreRules
+pub mod StateSizes
+pub mod OneStage
+pub mod EndOfStage
+pub mod TwoStages
+pub mod LentChecks
+pub mod LentNumber
+pub mod OnTables
+pub mod OneAnswer

@@ -1,0 +1,68 @@
+-- Friction leaves a cell in range: it takes from a discharge and never turns or adds to it.
+-- Assumes nothing.
+use mathlib.Core.Path.{_≡_, _∙_, ap}
+use Prim.Native.Nat.{ℕ, suc, _*_, _/_, _≤_}
+use native.Mathlib.Nat as NatL
+use native.Mathlib.Omega.{arith}
+use lib.IntN.{ℤ, pos, negsuc, natAbs, _+ℤ_, _*ℤ_}
+use lib.Signed.{leZ, _≤ℤ_}
+use Rattle.whole.specs.Flags.{cond-ind}
+use Rattle.whole.specs.Parts.{b-add, b-sub, b-lit, abs-mul, lt-le, le-lt-trans, le-lit, nat-nonneg}
+use Rattle.whole.specs.Difference.{mul-nonneg}
+use Rattle.whole.specs.Quotient.{abs-quot, quot-nonneg, share-le}
+use Rattle.whole.specs.Tests.{le-no}
+use Rattle.whole.specs.Choice.{sizeZ, size-nonneg, not-beyond}
+use Rattle.tables.specs.Cells.{Cell}
+use Rattle.rules.specs.Limits.{dryDepth}
+use Rattle.rules.specs.Face.{speed}
+use Rattle.rules.specs.Friction.{cube, drag, slowed}
+use Rattle.rules.specs.Reach.{Bed, ql, qr, h0, h1, hl, hr}
+use Rattle.rules.specs.Step.{rub, rubbedCell}
+use Rattle.stage.specs.Ranges.{Inside}
+use Rattle.stage.specs.Laws.CellSizes.{cell-sizes, reach, in-range, range-in}
+
+-- the strength of friction is not below nought
+drag-nonneg : (dt f h u : ℤ) → pos 0 ≤ℤ dt → pos 0 ≤ℤ h → pos 0 ≤ℤ drag dt f h u
+unfolding drag cube
+drag-nonneg dt f h u p q =
+    quot-nonneg (pos 256 *ℤ pos 981 *ℤ dt *ℤ (f *ℤ f) *ℤ sizeZ u) (pos 390625 *ℤ h *ℤ cube h)
+    (mul-nonneg (pos 256 *ℤ pos 981 *ℤ dt *ℤ (f *ℤ f)) (sizeZ u) (mul-nonneg (pos 256 *ℤ pos 981 *ℤ dt) (f *ℤ f) (mul-nonneg (pos 251136) dt (le-lit (pos 0) (pos 251136) tt) p) (square f)) (size-nonneg u))
+    (mul-nonneg (pos 390625 *ℤ h) (cube h) (mul-nonneg (pos 390625) h (le-lit (pos 0) (pos 390625) tt) q) (nat-nonneg _))
+  where
+    square : (f : ℤ) → pos 0 ≤ℤ (f *ℤ f)
+    square (pos n) = mul-nonneg (pos n) (pos n) (nat-nonneg n) (nat-nonneg n)
+    square (negsuc n) = nat-nonneg (suc n * suc n)
+
+-- what it leaves is no larger
+slowed-size : (x q : ℤ) → pos 0 ≤ℤ x → natAbs (slowed x q) ≤ natAbs q
+unfolding slowed
+slowed-size x q p =
+    let a = pos 65536 +ℤ x in let b = pos 65536 +ℤ pos 2 *ℤ x in
+    NatL.le-trans (NatL.le-of-eq (abs-quot (q *ℤ a) b ∙ ap (λ (m : ℕ). m / natAbs b) (abs-mul q a))) (share-le (natAbs q) (natAbs a) (natAbs b) (below x p))
+  where
+    below : (x : ℤ) → pos 0 ≤ℤ x → natAbs (pos 65536 +ℤ x) ≤ natAbs (pos 65536 +ℤ pos 2 *ℤ x)
+    below (pos n) h = omega arith
+    below (negsuc n) h = absurd (h .le)
+
+rub-size : (dt f : ℤ) (b : Bed) (x : Cell) (q : ℤ) → pos 0 ≤ℤ dt → natAbs (rub dt dryDepth f b x q) ≤ natAbs q
+unfolding rub
+rub-size dt f b x q p = let h = h0 b x in let d = drag dt f h (speed dryDepth (x .q0) h) in
+    cond-ind (leZ h dryDepth) q (slowed d q) (λ z. natAbs z ≤ natAbs q) (λ e. omega arith)
+    (λ e. slowed-size d q (drag-nonneg dt f h (speed dryDepth (x .q0) h) p (lt-le (le-lt-trans (le-lit (pos 0) dryDepth tt) (le-no h dryDepth e)))))
+
+pub rubbed-inside : (dt f : ℤ) (b : Bed) (x : Cell) → pos 0 ≤ℤ dt → Inside b x → Inside b (rubbedCell dt dryDepth f b x)
+unfolding rubbedCell hl hr h0 h1
+rubbed-inside dt f b x p i =
+    let k = cell-sizes i in let g = in-range b x (i .range) in let y = rubbedCell dt dryDepth f b x in
+    let w = reach (x .q0) (x .q1) (k .ql) (k .qr) in
+    let u : natAbs (y .q0) ≤ natAbs (x .q0) = rub-size dt f b x (x .q0) p in
+    let v : natAbs (y .q1) ≤ natAbs (x .q1) = rub-size dt f b x (x .q1) p in
+    record {
+      ground = i .ground;
+      range = range-in b y (record {
+        left = g .left;
+        right = g .right;
+        ql = not-beyond 8388608 (ql y) (record { abs = omega (arith, b-sub (b-lit (y .q0)) (b-lit (y .q1)) .abs) });
+        qr = not-beyond 8388608 (qr y) (record { abs = omega (arith, b-add (b-lit (y .q0)) (b-lit (y .q1)) .abs) });
+      });
+    }

@@ -1,0 +1,64 @@
+-- What a lent state that passed the checks before the stages is.
+-- Assumes nothing.
+use mathlib.Core.Path.{_≡_, ap}
+use mathlib.Core.Bool.{Bool, false, not}
+use mathlib.Core.List.{List, [], _∷_}
+use Prim.Native.Nat.{ℕ, suc, _%_, _<_}
+use native.Mathlib.Omega.{arith}
+use lib.Dec.{eqb}
+use lib.ListN.{getD}
+use lib.IntN.{ℤ, pos, natAbs}
+use lib.Signed.{ltZ}
+use Rattle.whole.specs.Flags.{or-l, or-r}
+use Rattle.whole.specs.Parts.{Within, b-nonneg}
+use Rattle.whole.specs.Tests.{lt-no}
+use Rattle.tables.specs.Some.{some, some-none, some-same}
+use Rattle.rules.specs.Limits.{highestBed, dryDepth}
+use Rattle.rules.specs.Reach.{State}
+use Rattle.rules.specs.Refusals.{outside, badBed, badRough, offCell, fastCell, chk, verdict}
+use Rattle.rules.specs.Laws.Verdicts.{cleared, checkAt, clear-at}
+use Rattle.reach.specs.Told.{bedAt}
+use Rattle.reach.specs.Ranges.{Grounds}
+use Rattle.stage.specs.Ranges.{Ranged, Slows}
+use Rattle.stage.specs.Says.{readyChecks}
+
+-- ---- what a passed check gives
+between : (m : ℕ) (z : ℤ) → outside (pos 0) (pos m) z ≡ false → Within m z
+between m z e = b-nonneg (lt-no z (pos 0) (or-l (ltZ z (pos 0)) (ltZ (pos m) z) e)) (lt-no (pos m) z (or-r (ltZ z (pos 0)) (ltZ (pos m) z) e))
+
+pub grounds : (n : ℕ) (bed : List ℤ) → some (λ i. badBed (getD bed i (pos 0))) (suc n) ≡ false → Grounds bed n
+unfolding badBed
+grounds n bed e i l = record { zl = value i (omega arith); zr = value (suc i) (omega arith) }
+  where
+    value : (j : ℕ) → j < suc n → Within 1048576 (getD bed j (pos 0))
+    value j m = let z = getD bed j (pos 0) in
+        between 1048576 z (or-l (outside (pos 0) highestBed z) (not (eqb (natAbs z % 2) 0)) (some-none (λ i. badBed (getD bed i (pos 0))) (suc n) e j m))
+
+pub ranged : (n : ℕ) (bed : List ℤ) (s : State) → Grounds bed n → some (λ i. offCell (bedAt bed i) (s i)) n ≡ false → Ranged bed n s
+ranged n bed s g e i l = record { ground = g i l; range = some-none (λ i. offCell (bedAt bed i) (s i)) n e i l }
+
+slows : (n : ℕ) (bed : List ℤ) (friction : List ℕ) (s : State) → some (λ i. badRough (pos (getD friction i 0))) n ≡ false
+    → some (λ i. fastCell dryDepth (bedAt bed i) (s i)) n ≡ false → Slows friction bed n s
+unfolding badRough
+slows n bed friction s e f i l = record {
+  rough = let w = between 200 (pos (getD friction i 0)) (some-none (λ i. badRough (pos (getD friction i 0))) n e i l) in w .abs;
+  speed = some-none (λ i. fastCell dryDepth (bedAt bed i) (s i)) n f i l;
+}
+
+-- ---- a lent state that is ready
+module _ (n : ℕ) (bed : List ℤ) (friction : List ℕ) (s : State) (f : 0 ≡ verdict (readyChecks n bed friction s)) where
+  passed : (i : ℕ) → checkAt (readyChecks n bed friction s) i .bad ≡ false
+  passed = clear-at (readyChecks n bed friction s) (cleared (readyChecks n bed friction s) tt f)
+
+  pub lent-ranged : Ranged bed n s
+  lent-ranged = ranged n bed s (grounds n bed (passed 0)) (passed 2)
+
+  pub lent-slow : Slows friction bed n s
+  lent-slow = slows n bed friction s (passed 1) (passed 3)
+
+-- states that agree in the reach pass the same checks
+pub ready-same : (n : ℕ) (bed : List ℤ) (friction : List ℕ) (s t : State) → ((i : ℕ) → i < n → s i ≡ t i) → readyChecks n bed friction s ≡ readyChecks n bed friction t
+ready-same n bed friction s t e =
+    let a = some-same (λ i. offCell (bedAt bed i) (s i)) (λ i. offCell (bedAt bed i) (t i)) n (λ i l. ap (offCell (bedAt bed i)) (e i l)) in
+    let b = some-same (λ i. fastCell dryDepth (bedAt bed i) (s i)) (λ i. fastCell dryDepth (bedAt bed i) (t i)) n (λ i l. ap (fastCell dryDepth (bedAt bed i)) (e i l)) in
+    λ k. chk 3 (some (λ i. badBed (getD bed i (pos 0))) (suc n)) ∷ chk 4 (some (λ i. badRough (pos (getD friction i 0))) n) ∷ chk 5 (a k) ∷ chk 6 (b k) ∷ []

@@ -1,0 +1,132 @@
+-- How large the numbers of a step's states can be: sides and faces of a state in range, the unfinished states, the finished ones.
+-- Assumes nothing.
+use mathlib.Core.Path.{_≡_, sym, subst}
+use mathlib.Core.Bool.{false, cond, _||_}
+use mathlib.Core.List.{List, []}
+use Prim.Native.Nat.{ℕ, suc, _<_}
+use native.Mathlib.Omega.{arith}
+use lib.ListN.{getD}
+use lib.IntN.{ℤ, pos}
+use lib.Signed.{leZ, _≤ℤ_}
+use Rattle.whole.specs.Flags.{cond-ind, or-l, or-r}
+use Rattle.whole.specs.Parts.{Within, b-add, b-sub, b-mul, b-lit, b-up}
+use Rattle.whole.specs.Quotient.{b-quot-by}
+use Rattle.whole.specs.Choice.{within-past}
+use Rattle.tables.specs.Some.{some, some-none}
+use Rattle.tables.specs.Rows.{Written}
+use Rattle.tables.specs.Cells.{Cell, asCell, seen, Holds}
+use Rattle.rules.specs.Limits.{dryDepth, deepest, fastest}
+use Rattle.rules.specs.Face.{speed}
+use Rattle.rules.specs.Reach.{Reach, Call, State, Bed, z0, z1, h0, h1, ql, qr, depthL, depthR, sideL, sideR}
+use Rattle.rules.specs.Stage.{carried, gauss, flowBefore, flowBehind, depthBefore, depthBehind, stage}
+use Rattle.rules.specs.Finishing.{marked, limited, limit, beyond, cut, dried}
+use Rattle.rules.specs.Step.{half, joinedCell}
+use Rattle.rules.specs.Refusals.{past, fastSide, fastPoints}
+use Rattle.rules.specs.Laws.Positive.{depthL-is, depthR-is}
+use Rattle.rules.specs.Laws.Sizes.{Sound}
+use Rattle.reach.specs.Told.{bedAt}
+use Rattle.reach.specs.Ranges.{UpTo, widest, Ground, Wide}
+use Rattle.finishing.specs.Laws.Sizes.{limited-size, clip-size}
+use Rattle.stage.specs.Rows.{sidesAt, fastSides, Sounds, volumeOf, joinAt}
+use Rattle.stage.specs.Ranges.{widestLevel, mostMomentum, Small, Smalls, Inside, Ranged, Row, FaceRows}
+use Rattle.stage.specs.Says.{StageDone, JoinSays}
+use Rattle.stage.specs.Laws.CellSizes.{cell-sizes}
+use Rattle.stage.specs.Laws.RowsAreRules.{left-in, right-in}
+
+-- ---- sides that passed check 6
+sound-left : {b : Bed} {x : Cell} → Inside b x → fastSide (sideL dryDepth b x) ≡ false → Sound (sideL dryDepth b x)
+unfolding sideL
+sound-left {b} {x} i e = let q = cell-sizes i in
+    record {
+      least = subst (λ (z : ℤ). pos 0 ≤ℤ z) (sym (depthL-is b x (q .left))) (q .left);
+      most = subst (λ (z : ℤ). z ≤ℤ deepest) (sym (depthL-is b x (q .left))) (q .left-most);
+      speed = within-past 131072 (speed dryDepth (ql x) (depthL b x)) e;
+    }
+
+sound-right : {b : Bed} {x : Cell} → Inside b x → fastSide (sideR dryDepth b x) ≡ false → Sound (sideR dryDepth b x)
+unfolding sideR
+sound-right {b} {x} i e = let q = cell-sizes i in
+    record {
+      least = subst (λ (z : ℤ). pos 0 ≤ℤ z) (sym (depthR-is b x (q .right))) (q .right);
+      most = subst (λ (z : ℤ). z ≤ℤ deepest) (sym (depthR-is b x (q .right))) (q .right-most);
+      speed = within-past 131072 (speed dryDepth (qr x) (depthR b x)) e;
+    }
+
+module _ (n : ℕ) (bed : List ℤ) (s : State) (inside : Ranged bed n s) (e : some (fastSides bed s) n ≡ false) where
+  -- neither side of cell i is too fast
+  slow : (i : ℕ) → i < n → (fastSide (sideL dryDepth (bedAt bed i) (s i)) || fastSide (sideR dryDepth (bedAt bed i) (s i))) ≡ false
+  unfolding fastSides
+  slow i l = some-none (fastSides bed s) n e i l
+
+  pub sounds : (d : List (List ℤ)) → Written [] d n (sidesAt bed s) → Sounds d n
+  sounds d w i l =
+      let x = sideL dryDepth (bedAt bed i) (s i) in let y = sideR dryDepth (bedAt bed i) (s i) in (
+        subst Sound (sym (left-in n bed s d w i l)) (sound-left (inside i l) (or-l (fastSide x) (fastSide y) (slow i l))),
+        subst Sound (sym (right-in n bed s d w i l)) (sound-right (inside i l) (or-r (fastSide x) (fastSide y) (slow i l))),
+      )
+
+-- ---- Gauss points that passed check 6
+pub gauss-size : (b : Bed) (x : Cell) → Inside b x → fastPoints dryDepth b x ≡ false → UpTo mostMomentum (gauss dryDepth b x)
+unfolding gauss carried fastPoints
+gauss-size b x i e =
+    let q = cell-sizes i in
+    let u = speed dryDepth (flowBefore x) (depthBefore b x) in let w = speed dryDepth (flowBehind x) (depthBehind b x) in
+    let u-in = within-past 131072 u (or-l (past fastest u) (past fastest w) e) in
+    let w-in = within-past 131072 w (or-r (past fastest u) (past fastest w) e) in
+    b-up 1073741824 (b-add (b-quot-by (pos 4096) (b-mul (q .flow-before) u-in)) (b-quot-by (pos 4096) (b-mul (q .flow-behind) w-in))) tt
+
+-- ---- unfinished states
+pub small-wide : {x : Cell} → Small x → Wide x
+small-wide w = record { e0 = b-up 70368744177664 (w .e0) tt; e1 = b-up 70368744177664 (w .e1) tt; q0 = w .q0; q1 = w .q1 }
+
+pub inside-small : {b : Bed} {x : Cell} → Inside b x → Small x
+inside-small i = let q = cell-sizes i in
+    record { e0 = b-up 2199023255552 (q .e0) tt; e1 = b-up 2199023255552 (q .e1) tt; q0 = b-up 70368744177664 (q .q0) tt; q1 = b-up 70368744177664 (q .q1) tt }
+
+pub joined-small : {b : Bed} (x y : Cell) (f g h k : List ℤ) → Inside b x → Small y → Row f → Row g → Row h → Row k
+    → Small (joinedCell x y (half (volumeOf f) (volumeOf g)) (half (volumeOf h) (volumeOf k)))
+unfolding joinedCell half
+joined-small x y f g h k i w p q r s =
+    let z = cell-sizes i in let v = inside-small i in
+    let wl = b-quot-by (pos 2) (b-add (p .vol) (q .vol)) in let wr = b-quot-by (pos 2) (b-add (r .vol) (s .vol)) in
+    record {
+      e0 = b-up 2199023255552 (b-sub (b-add (z .e0) wl) wr) tt;
+      e1 = b-up 2199023255552 (b-quot-by (pos 2) (b-add (v .e1) (w .e1))) tt;
+      q0 = b-up 70368744177664 (b-quot-by (pos 2) (b-add (v .q0) (w .q0))) tt;
+      q1 = b-up 70368744177664 (b-quot-by (pos 2) (b-add (v .q1) (w .q1))) tt;
+    }
+
+-- in tables: one that shows a small state, and what the volumes of the faces join
+shown-small : (n : ℕ) (s : State) (u : List (List ℤ)) → Holds u n s → Smalls n s → Smalls n (seen u)
+shown-small n s u h w i l = subst (λ (m : List ℤ). Small (asCell m)) (sym (h i l)) (w i l)
+
+pub done-small : {r : Reach} {c : Call} {s : State} {f u : List (List ℤ)} → StageDone r c s f u → Smalls (r .n) (seen u)
+done-small {r} {c} {s} {f} {u} d = shown-small (r .n) (stage r c s) u (d .cells) (d .small)
+
+pub join-small : {n : ℕ} {a y : State} {f h j : List (List ℤ)} (bed : List ℤ) → JoinSays n a y f h j → Ranged bed n a → Smalls n y → FaceRows f n → FaceRows h n
+    → Smalls n (seen j)
+join-small {n} {a} {y} {f} {h} {j} bed d ra w p q = shown-small n (joinAt a y f h) j (d .cells)
+    (λ i l. joined-small (a i) (y i) (getD f i []) (getD h i []) (getD f (suc i) []) (getD h (suc i) []) (ra i l) (w i l)
+    (p i (omega arith)) (q i (omega arith)) (p (suc i) (omega arith)) (q (suc i) (omega arith)))
+
+-- ---- finished states
+pub finish-wide : (r : Reach) (c : Call) (s : State) (i : ℕ) (b : Bed) → Ground b → Small (s i) → Wide (dried (c .dry) b (cut b (limit r c s i)))
+unfolding dried cut limit h0 h1 z0 z1
+finish-wide r c s i b g w =
+    let y = limit r c s i in let m = h0 b y in let d = h1 b y in
+    let e1 : UpTo widestLevel (y .e1) = slope (λ j. s j .e0) (s i .e1) (w .e1) in
+    let q1 : UpTo widest (y .q1) = slope (λ j. s j .q0) (s i .q1) (w .q1) in
+    let z0 = b-quot-by (pos 2) (b-add (g .zl) (g .zr)) in let z1 = b-quot-by (pos 2) (b-sub (g .zr) (g .zl)) in
+    let mid : Within 2199024304128 m = b-sub (w .e0) (b-up 1048576 z0 tt) in
+    let tilt : Within 2199024304128 d = b-sub e1 (b-up 1048576 z1 tt) in
+    let nought : UpTo widest (pos 0) = b-up 70368744177664 (b-lit (pos 0)) tt in
+    record {
+      e0 = b-up 70368744177664 (w .e0) tt;
+      e1 = b-up 70368744177664 (b-add (clip-size m d mid tilt) z1) tt;
+      q0 = cond-ind (leZ m (c .dry)) (pos 0) (s i .q0) (UpTo widest) (λ e. nought) (λ e. w .q0);
+      q1 = cond-ind (leZ m (c .dry)) (pos 0) (cond (beyond m d) (pos 0) (y .q1)) (UpTo widest) (λ e. nought)
+          (λ e. cond-ind (beyond m d) (pos 0) (y .q1) (UpTo widest) (λ k. nought) (λ k. q1));
+    }
+  where
+    slope : {A : ℕ} (m : ℕ → ℤ) (x : ℤ) → Within A x → Within A (cond (marked r c s i) (limited r m i x) x)
+    slope {A} m x h = cond-ind (marked r c s i) (limited r m i x) x (Within A) (λ e. limited-size r m i x h) (λ e. h)

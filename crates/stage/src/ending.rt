@@ -1,0 +1,29 @@
+// The end of a stage: its state is finished, and its range is checked.
+use crate::checks::off;
+use reach::Call;
+use reach::Cell;
+use reach::Reach;
+ghost use mathlib.Core.Path.{_≡_};
+ghost use Prim.Native.Nat.{ℕ, _+_, _≤_};
+ghost use lib.ListN.{length};
+ghost use lib.IntN.{ℤ};
+ghost use Rattle.tables.specs.Cells.{seen};
+ghost use Rattle.reach.specs.Told.{reachIn, callOn};
+ghost use Rattle.reach.specs.Ranges.{Numbers, Grounds};
+ghost use Rattle.stage.specs.Ranges.{Room, Smalls};
+ghost use Rattle.stage.specs.Says.{EndSays};
+
+// The unfinished state u, finished, into b: 8 where that is out of range, else 0.
+pub fn end(u: &[Cell], bed: &[i32], reach: Reach, call: Call, b: &mut [Cell]) -> u32
+    requires { ⌜ (reach .n ≤ 1024) × (length (now bed) ≡ reach .n + 1) × Room reach (now u) × Room reach (now b) ⌝ }
+    requires { ⌜ Numbers reach call ⌝ }
+    requires { ⌜ Grounds (now bed) (reach .n) × Smalls (reach .n) (seen (now u)) ⌝ }
+    ensures { λ k. ⌜ ((ρ : ℕ → ℤ) → EndSays (reachIn reach (now (bed .entry))) (callOn call ρ) (seen (now (u .entry))) k (now (b .exit))) ⌝ }
+{
+    // true, as what a stage leaves is never too large to be finished
+    let _done = finishing::finish(u, bed, reach, call, b);
+    if off(b, bed, reach) {
+        return 8;
+    }
+    0
+}
