@@ -8,6 +8,7 @@ use reach::Reach;
 use reach::bed::Bed;
 use reach::bed::under;
 use reach::limits::DRY_DEPTH;
+use reach::size::size;
 use speeds::answer::Whole;
 ghost use mathlib.Core.Path.{_≡_};
 ghost use mathlib.Core.Bool.{false};
@@ -16,7 +17,6 @@ ghost use Prim.Native.Nat.{_≤_, _<_};
 ghost use lib.ListN.{getD, length};
 ghost use lib.IntN.{pos};
 ghost use lib.Signed.{_≤ℤ_, _<ℤ_};
-ghost use Rattle.whole.specs.Choice.{sizeZ};
 ghost use Rattle.tables.specs.Rows.{Filled};
 ghost use Rattle.tables.specs.Cells.{asCell, asList, seen};
 ghost use Rattle.rules.specs.Limits.{dryDepth, deepest, fullest, fastest, roughest, longestStep};
@@ -39,14 +39,6 @@ fn cube_of(h: i64) -> i64
     }
 }
 
-// The size of a speed.
-fn size_of(u: i64) -> i64
-    requires { ⌜ UpTo fastest u ⌝ }
-    ensures { λ r. ⌜ r ≡ sizeZ u ⌝ }
-{
-    if u < 0 { -u } else { u }
-}
-
 // x: how strongly friction acts, in 1/65536. Its product is the largest of the step, and fits only
 // because the speed has been checked.
 fn drag_of(call: Call, f: i64, h: i64, u: i64) -> i64
@@ -57,7 +49,7 @@ fn drag_of(call: Call, f: i64, h: i64, u: i64) -> i64
     ensures { λ r. ⌜ r ≡ drag (call .dt) f h u ⌝ }
 {
     let c = cube_of(h);
-    let s = size_of(u);
+    let s = size(u);
     256 * 981 * call.dt * (f * f) * s / (390625 * h * c)
 }
 

@@ -7,9 +7,10 @@ use mir.Facts.{toZ-ofZ}
 use borrow.Author.Needs.{needs}
 use Rattle.whole.specs.Parts.{Within, b-nonneg, le-trans, lt-le, nat-nonneg}
 use Rattle.whole.specs.Choice.{sizeZ, b-size}
-use Rattle.whole.specs.Machine.{X, v, k, _⊗_, _⊘_, Entry, entry, need, value, divisor}
+use Rattle.whole.specs.Machine.{X, v, k, _⊗_, _⊘_, Entry, entry, need, value, divisor, g-var}
 use Rattle.rules.specs.Friction.{cube, drag}
 use Rattle.rules.specs.Laws.Speeds.{cube-least, cube-most}
+use Rattle.reach.specs.Size.{sized as size-got}
 use Rattle.stage.specs.Laws.UpdateSizes.{sized}
 use Rattle.stage.specs.Laws.FrictionStrength.{wet, wet-size, divisor-pos}
 use Rattle.stage.proofs.friction.drag_of.Statement.{statement}
@@ -33,18 +34,18 @@ cube-of-requires c κs = simp (toZ-ofZ, c .fits .h) (low c, c .pre .1 .1 .0 .1)
 c-is : (t : tie.After-cube-of) → t .cube-of .result ≡ cube (t .before .args .h)
 c-is t = simp (toZ-ofZ, t .before .fits .h) at (t .cube-of .ensures)
 
-s-is : (t : tie.After-size-of) → t .size-of .result ≡ sizeZ (t .before .before .args .u)
-s-is t = simp (toZ-ofZ, t .before .before .fits .u) at (t .size-of .ensures)
+s-is : (t : tie.After-size) → t .size .result ≡ sizeZ (t .before .before .args .u)
+s-is t = let s = t .before .before in size-got (g-var (s .fits .u) (s .pre .1 .1 .1)) (t .size .ensures) tt
 
 -- ---- once the time step has been read: dt, f, |u|, h and c
 module _ (c : tie.After-struct-told) where
-  abbrev size : tie.After-size-of
+  abbrev size : tie.After-size
   size = c .before .before
 
   abbrev s : tie.Start
   s = size .before .before
 
-  size-in : Within 131072 (size .size-of .result)
+  size-in : Within 131072 (size .size .result)
   size-in = subst (Within 131072) (sym (s-is size)) (b-size (s .args .u) (s .pre .1 .1 .1))
 
   cube-in : Within 16384 (size .before .cube-of .result)
