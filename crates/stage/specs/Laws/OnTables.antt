@@ -19,7 +19,7 @@ use Rattle.reach.specs.declared.Call.{Call as ToldCall}
 use Rattle.reach.specs.Told.{reachIn, callOn, bedAt}
 use Rattle.stage.specs.Rows.{volumeAt}
 use Rattle.stage.specs.Ranges.{Inside, Ranged, Slows}
-use Rattle.stage.specs.Says.{readyChecks, bothChecks, LoadSays, Shows, StepSays}
+use Rattle.stage.specs.Says.{readyChecks, bothChecks, Shows, StepSays}
 use Rattle.stage.specs.Worked.{Volume, TablesSay}
 use Rattle.stage.specs.declared.worked.Worked.the-variants.{Refused, Done}
 use Rattle.stage.specs.Laws.CellSizes.{volume-size}
@@ -27,66 +27,77 @@ use Rattle.stage.specs.Laws.FrictionRange.{rubbed-inside}
 use Rattle.stage.specs.Laws.LentChecks.{lent-ranged, lent-slow, ready-same}
 use Rattle.stage.specs.Laws.TwoStages.{volume-is}
 
-module _ (reach : ToldReach) (call : ToldCall) (bed : List ℤ) (friction : List ℕ) (state : List ℤ) where
+-- the state lent for a step, as the table a has it, and the number k of the checks before the stages
+pub record Lent (reach : ToldReach) (call : ToldCall) (bed : List ℤ) (friction : List ℕ) (state : List ℤ) (a : List (List ℤ)) (k : ℕ) : Type 0 where
+  pub cells : Holds a (reach .n) (cellAt state)
+  pub number : k ≡ verdict (readyChecks (reach .n) bed friction (seen a))
+
+module _
+    {reach : ToldReach} {call : ToldCall} {bed : List ℤ} {friction : List ℕ} {state : List ℤ} {a : List (List ℤ)} {k : ℕ}
+    (lent : Lent reach call bed friction state a k) where
   abbrev n : ℕ
   n = reach .n
 
   abbrev r : Reach
   r = reachIn reach bed
 
+  abbrev rough : ℕ → ℤ
+  rough i = pos (getD friction i 0)
+
   abbrev c : Call
-  c = callOn call (λ i. pos (getD friction i 0))
+  c = callOn call rough
 
   abbrev s : State
   s = cellAt state
 
-  -- ---- a has the lent state, and k is the number of its checks
-  module _ (was a : List (List ℤ)) (load : LoadSays n state was a) (k : ℕ) (e : k ≡ verdict (readyChecks n bed friction (seen a))) where
-    h : Holds a n s
-    h = load .cells .below
+  number : k ≡ verdict (readyChecks n bed friction s)
+  number = lent .number ∙ ap verdict (ready-same n bed friction (seen a) s (λ i l. ap asCell (lent .cells i l)))
 
-    number : k ≡ verdict (readyChecks n bed friction s)
-    number = e ∙ ap verdict (ready-same n bed friction (seen a) s (λ i l. ap asCell (h i l)))
+  pub ready-stops : (k ≡ 0 → ⊥) → (old : List (List ℤ)) → TablesSay reach call bed friction state (Refused k) old old
+  ready-stops z old = record {
+    number = stopped (readyChecks n bed friction s) (bothChecks r c s) k number z;
+    some = omega (arith, z);
+    kept = λ i. old;
+  }
 
-    pub ready-stops : (k ≡ 0 → ⊥) → (old : List (List ℤ)) → TablesSay reach call bed friction state (Refused k) old old
-    ready-stops z old = record { number = stopped (readyChecks n bed friction s) (bothChecks r c s) k number z; some = omega (arith, z); kept = λ i. old }
+  module _ (z : k ≡ 0) where
+    pub loaded-ranged : Ranged bed n (seen a)
+    loaded-ranged = lent-ranged n bed friction (seen a) (sym z ∙ lent .number)
 
-    module _ (z : k ≡ 0) where
-      pub loaded-ranged : Ranged bed n (seen a)
-      loaded-ranged = lent-ranged n bed friction (seen a) (sym z ∙ e)
+    pub loaded-slow : Slows friction bed n (seen a)
+    loaded-slow = lent-slow n bed friction (seen a) (sym z ∙ lent .number)
 
-      pub loaded-slow : Slows friction bed n (seen a)
-      loaded-slow = lent-slow n bed friction (seen a) (sym z ∙ e)
+    -- t has it after friction
+    module _ {t : List (List ℤ)} (f : Filled [] a t n (λ i. asList (rubbedCell (call .dt) dryDepth (rough i) (bedAt bed i) (seen a i)))) where
+      pub rubbed-shown : Shows r t (rubbed r c s)
+      unfolding rubbed
+      rubbed-shown i l =
+          ap asCell (f .below i l) ∙ (λ j. rubbedCell (call .dt) dryDepth (rough i) (bedAt bed i) (asCell (lent .cells i l j)))
 
-      -- t has it after friction
-      module _ (t : List (List ℤ)) (f : Filled [] a t n (λ i. asList (rubbedCell (call .dt) dryDepth (pos (getD friction i 0)) (bedAt bed i) (seen a i)))) where
-        pub rubbed-shown : Shows r t (rubbed r c s)
-        unfolding rubbed
-        rubbed-shown i l = ap asCell (f .below i l) ∙ (λ j. rubbedCell (call .dt) dryDepth (pos (getD friction i 0)) (bedAt bed i) (asCell (h i l j)))
+      pub rubbed-ranged : pos 0 ≤ℤ call .dt → Ranged bed n (seen t)
+      rubbed-ranged p i l = subst (λ (m : List ℤ). Inside (bedAt bed i) (asCell m)) (sym (f .below i l))
+          (rubbed-inside (call .dt) (rough i) (bedAt bed i) (seen a i) p (loaded-ranged i l))
 
-        pub rubbed-ranged : pos 0 ≤ℤ call .dt → Ranged bed n (seen t)
-        rubbed-ranged p i l = subst (λ (m : List ℤ). Inside (bedAt bed i) (asCell m)) (sym (f .below i l))
-            (rubbed-inside (call .dt) (pos (getD friction i 0)) (bedAt bed i) (seen a i) p (loaded-ranged i l))
+    -- ---- both stages have answered m
+    module _ (o : 0 < n) {m : ℕ} {f x b : List (List ℤ)} (both : StepSays r c s m f x b) where
+      both-number : m ≡ verdict (readyChecks n bed friction s ++ bothChecks r c s)
+      both-number = both .number ∙ went-on (readyChecks n bed friction s) (bothChecks r c s) tt (sym z ∙ number)
 
-      -- ---- both stages have answered m
-      module _ (o : 0 < n) (m : ℕ) (f x b : List (List ℤ)) (both : StepSays r c s m f x b) where
-        both-number : m ≡ verdict (readyChecks n bed friction s ++ bothChecks r c s)
-        both-number = both .number ∙ went-on (readyChecks n bed friction s) (bothChecks r c s) tt (sym z ∙ number)
+      pub both-stops : (m ≡ 0 → ⊥) → (old : List (List ℤ)) → TablesSay reach call bed friction state (Refused m) old old
+      both-stops y old = record { number = both-number; some = omega (arith, y); kept = λ i. old }
 
-        pub both-stops : (m ≡ 0 → ⊥) → (old : List (List ℤ)) → TablesSay reach call bed friction state (Refused m) old old
-        both-stops y old = record { number = both-number; some = omega (arith, y); kept = λ i. old }
+      module _ (y : m ≡ 0) where
+        volume-in : (i : ℕ) → i < suc n → Volume (volumeAt f x i)
+        volume-in i l = let d = both .done y in volume-size (d .one .sized i l .vol) (d .two .sized i l .vol)
 
-        module _ (y : m ≡ 0) where
-          volume-in : (i : ℕ) → i < suc n → Volume (volumeAt f x i)
-          volume-in i l = let d = both .done y in volume-size (d .one .sized i l .vol) (d .two .sized i l .vol)
-
-          pub both-done : (old new : List (List ℤ)) (w v : ℤ) → Filled [] old new n (λ i. getD b i []) → w ≡ volumeAt f x 0 → v ≡ volumeAt f x n
-              → TablesSay reach call bed friction state (Done w v) old new
-          both-done old new w v filled p q = let d = both .done y in record {
-            none = sym both-number ∙ y;
-            left = p ∙ volume-is r c o s f x b d 0 (omega arith);
-            right = q ∙ volume-is r c o s f x b d n (omega arith);
-            cells = record { size = filled .size; below = λ i l. filled .below i l ∙ d .cells i l; above = filled .above };
-            left-in = subst Volume (sym p) (volume-in 0 (omega arith));
-            right-in = subst Volume (sym q) (volume-in n (omega arith));
-          }
+        pub both-done : {old new : List (List ℤ)} {w v : ℤ} → Filled [] old new n (λ i. getD b i [])
+            → w ≡ volumeAt f x 0 → v ≡ volumeAt f x n
+            → TablesSay reach call bed friction state (Done w v) old new
+        both-done filled p q = let d = both .done y in record {
+          none = sym both-number ∙ y;
+          left = p ∙ volume-is r c o s f x b d 0 (omega arith);
+          right = q ∙ volume-is r c o s f x b d n (omega arith);
+          cells = record { size = filled .size; below = λ i l. filled .below i l ∙ d .cells i l; above = filled .above };
+          left-in = subst Volume (sym p) (volume-in 0 (omega arith));
+          right-in = subst Volume (sym q) (volume-in n (omega arith));
+        }

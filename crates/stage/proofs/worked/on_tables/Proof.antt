@@ -7,10 +7,10 @@ use lib.IntN.{ℤ, pos}
 use Prim.Native.Nat.{ℕ}
 use Rattle.whole.specs.Machine.{back64}
 use Rattle.tables.specs.Cells.{cellAt}
-use Rattle.rules.specs.Step as rules
+use Rattle.rules.specs.Reach.{Reach, Call, State}
 use Rattle.reach.specs.Told.{reachIn, callOn}
-use Rattle.stage.specs.Says.{Shows}
-use Rattle.stage.specs.Laws.OnTables.{ready-stops, loaded-ranged, loaded-slow, rubbed-shown, rubbed-ranged, both-stops, both-done}
+use Rattle.stage.specs.Says.{StepSays}
+use Rattle.stage.specs.Laws.OnTables.{Lent, ready-stops, loaded-ranged, loaded-slow, rubbed-shown, rubbed-ranged, both-stops, both-done}
 use Rattle.stage.proofs.worked.on_tables.Statement.{statement}
 use Rattle.stage.proofs.worked.on_tables.Tie as tie
 
@@ -22,10 +22,11 @@ module _ (w : tie.After-ready) where
   abbrev s : tie.Start
   s = loaded .before .before .before
 
+  lent : let p = s .args in Lent (p .reach) (p .call) (now (p .bed)) (now (p .friction)) (now (p .state)) (loaded .load .last .1 .1 .0) (w .ready .result)
+  lent = record { cells = loaded .load .ensures .cells .below; number = w .ready .ensures }
+
 returns : tie.Need-returns
-returns c =
-    let w = c .before in let p = s w .args in
-    ready-stops (p .reach) (p .call) (now (p .bed)) (now (p .friction)) (now (p .state)) _ _ (loaded w .load .ensures) _ (w .ready .ensures) (c .if1 .taken) _
+returns c = ready-stops (lent (c .before)) (c .if1 .taken) _
 
 ready-requires : tie.Need-ready-requires
 ready-requires c κs =
@@ -33,17 +34,10 @@ ready-requires c κs =
     ((omega arith, b .pre .0 .0 .beds, b .pre .0 .2), l .load .ensures .wide)
 
 rub-requires : tie.Need-rub-requires
-rub-requires c κs =
-    let e = c .before in let w = e .before in let b = s w in let p = b .args in (
-      (omega arith, omega arith),
-      (
-        b .pre .0 .0 .numbers,
-        (
-          loaded-ranged (p .reach) (p .call) (now (p .bed)) (now (p .friction)) (now (p .state)) _ _ (loaded w .load .ensures) _ (w .ready .ensures) (e .if1 .left),
-          loaded-slow (p .reach) (p .call) (now (p .bed)) (now (p .friction)) (now (p .state)) _ _ (loaded w .load .ensures) _ (w .ready .ensures) (e .if1 .left),
-        ),
-      ),
-    )
+rub-requires c κs = let e = c .before in let w = e .before in let b = s w in (
+  (omega arith, omega arith),
+  (b .pre .0 .0 .numbers, (loaded-ranged (lent w) (e .if1 .left), loaded-slow (lent w) (e .if1 .left))),
+)
 
 -- ---- after friction
 module _ (t : tie.After-rub) where
@@ -55,14 +49,13 @@ module _ (t : tie.After-rub) where
 
 both-stages-requires : tie.Need-both-stages-requires
 both-stages-requires c κs =
-    let t = c .before .before .before .before .before .before .before .before in let w = checked t in let b = s w in let p = b .args in (
+    let t = c .before .before .before .before .before .before .before .before in let w = checked t in let b = s w in (
       b .pre .0 .0,
       (
         (omega arith, omega arith, omega arith, omega arith, omega arith),
         (
           (omega arith, omega arith),
-          rubbed-ranged (p .reach) (p .call) (now (p .bed)) (now (p .friction)) (now (p .state)) _ _ (loaded w .load .ensures) _ (w .ready .ensures) (passed t .if1 .left)
-              _ (t .rub .ensures) (b .pre .0 .0 .numbers .dt-pos),
+          rubbed-ranged (lent w) (passed t .if1 .left) (t .rub .ensures) (b .pre .0 .0 .numbers .dt-pos),
         ),
       ),
     )
@@ -79,17 +72,24 @@ module _ (m : tie.After-both-stages) where
   abbrev rough : ℕ → ℤ
   rough i = pos (getD (now (start .args .friction)) i 0)
 
-  shown : Shows (reachIn (start .args .reach) (now (start .args .bed))) (rubbed .rub .last .0)
-      (rules.rubbed (reachIn (start .args .reach) (now (start .args .bed))) (callOn (start .args .call) rough) (cellAt (now (start .args .state))))
-  shown = let w = checked rubbed in let p = start .args in
-      rubbed-shown (p .reach) (p .call) (now (p .bed)) (now (p .friction)) (now (p .state)) _ _ (loaded w .load .ensures) _ (w .ready .ensures)
-      (passed rubbed .if1 .left) _ (rubbed .rub .ensures)
+  abbrev reach : Reach
+  reach = reachIn (start .args .reach) (now (start .args .bed))
+
+  abbrev call : Call
+  call = callOn (start .args .call) rough
+
+  abbrev state : State
+  state = cellAt (now (start .args .state))
+
+  -- of the tables that both stages are lent, those of the faces and of the end state
+  both : let tables = m .both-stages .last .1 .1 .1 in let faces = tables .1 .1 .1 in let end = faces .1 .1 .1 in
+      StepSays reach call state (m .both-stages .result) (faces .0) (faces .1 .0) (end .0)
+  both = m .both-stages .ensures rough state (rubbed-shown (lent (checked rubbed)) (passed rubbed .if1 .left) (rubbed .rub .ensures))
 
 returns-2 : tie.Need-returns-2
 returns-2 c =
-    let m = c .before .before .before .before .before .before .before in let t = rubbed m in let w = checked t in let p = start m .args in
-    both-stops (p .reach) (p .call) (now (p .bed)) (now (p .friction)) (now (p .state)) _ _ (loaded w .load .ensures) _ (w .ready .ensures) (passed t .if1 .left)
-    (start m .pre .0 .0 .some) _ _ _ _ (m .both-stages .ensures (rough m) (cellAt (now (p .state))) (shown m)) (c .if2 .taken) _
+    let m = c .before .before .before .before .before .before .before in let t = rubbed m in
+    both-stops (lent (checked t)) (passed t .if1 .left) (start m .pre .0 .0 .some) (both m) (c .if2 .taken) _
 
 -- ---- what is handed out
 module _ (e : tie.Else2) where
@@ -103,15 +103,18 @@ hand-out-requires c κs =
 
 end-volume-requires : tie.Need-end-volume-requires
 end-volume-requires c κs =
-    let e = c .before .before .before .before .before .before in let m = made e in
-    let d = m .both-stages .ensures (rough m) (cellAt (now (start m .args .state))) (shown m) .done (e .if2 .left) in
-    ((omega (arith, m .both-stages .kept, start m .pre .1 .1), omega (arith, m .both-stages .kept, start m .pre .1 .1)), (d .one .sized 0 (omega arith), d .two .sized 0 (omega arith)))
+    let e = c .before .before .before .before .before .before in let m = made e in let d = both m .done (e .if2 .left) in (
+      (omega (arith, m .both-stages .kept, start m .pre .1 .1), omega (arith, m .both-stages .kept, start m .pre .1 .1)),
+      (d .one .sized 0 (omega arith), d .two .sized 0 (omega arith)),
+    )
 
 end-volume-requires-2 : tie.Need-end-volume-requires-2
 end-volume-requires-2 c κs =
-    let e = c .before .before .before .before .before .before .before .before .before in let m = made e in let n = start m .args .reach .n in
-    let d = m .both-stages .ensures (rough m) (cellAt (now (start m .args .state))) (shown m) .done (e .if2 .left) in
-    ((omega (arith, m .both-stages .kept, start m .pre .1 .1), omega (arith, m .both-stages .kept, start m .pre .1 .1)), (d .one .sized n (omega arith), d .two .sized n (omega arith)))
+    let e = c .before .before .before .before .before .before .before .before .before in let m = made e in
+    let n = start m .args .reach .n in let d = both m .done (e .if2 .left) in (
+      (omega (arith, m .both-stages .kept, start m .pre .1 .1), omega (arith, m .both-stages .kept, start m .pre .1 .1)),
+      (d .one .sized n (omega arith), d .two .sized n (omega arith)),
+    )
 
 -- ---- the end
 module _ (c : tie.After-end-volume2) where
@@ -123,10 +126,8 @@ module _ (c : tie.After-end-volume2) where
 
 returns-3 : tie.Need-returns-3
 returns-3 c =
-    let v = c .before .before .before in let h = v .before .before .before .before in let e = h .before .before .before in let m = made e in
-    let t = rubbed m in let w = checked t in let p = start m .args in
-    both-done (p .reach) (p .call) (now (p .bed)) (now (p .friction)) (now (p .state)) _ _ (loaded w .load .ensures) _ (w .ready .ensures) (passed t .if1 .left)
-    (start m .pre .0 .0 .some) _ _ _ _ (m .both-stages .ensures (rough m) (cellAt (now (p .state))) (shown m)) (e .if2 .left) _ _ _ _ (h .hand-out .ensures)
+    let v = c .before .before .before in let e = last c in let m = made e in let t = rubbed m in
+    both-done (lent (checked t)) (passed t .if1 .left) (start m .pre .0 .0 .some) (both m) (e .if2 .left) (handed c .hand-out .ensures)
     (back64 (v .end-volume .ok) (v .end-volume .ensures)) (back64 (c .end-volume2 .ok) (c .end-volume2 .ensures))
 
 pub on-tables-spec : {M : Type 1} → statement M

@@ -4,14 +4,14 @@ use mathlib.Core.Bool.{false}
 use mathlib.Core.List.{_++_}
 use mir.Syntax.{w64}
 use mir.Val.{toZ, ofZ}
-use Prim.Native.Nat.{ℕ, _*_}
+use Prim.Native.Nat.{ℕ, _*_, _≤_}
 use native.Mathlib.Omega.{arith}
 use borrow.Author.Needs.{needs}
 use denote.Ref.{now}
 use lib.ListN.{getD, length}
 use lib.IntN.{ℤ, pos}
 use Rattle.whole.specs.Machine.{back64}
-use Rattle.rules.specs.Lent.{misfit, number, stateOf, reachOf, callOf}
+use Rattle.rules.specs.Lent.{Lent, misfit, number, stateOf, reachOf, callOf}
 use Rattle.rules.specs.Refusals.{verdict, badCall}
 use Rattle.rules.specs.Laws.Lengths.{Fitted, fitted}
 use Rattle.reach.specs.Ranges.{Numbers}
@@ -22,27 +22,44 @@ use Rattle.stage.specs.Laws.LentNumber.{numbers, reachBy, callBy, short-
 use Rattle.stage.proofs.worked.work.Statement.{statement}
 use Rattle.stage.proofs.worked.work.Tie as tie
 
--- ---- what passed
+-- ---- the lengths
+module _ (s : tie.Start) where
+  abbrev states : ℕ
+  states = length (now (s .args .state))
+
+  abbrev beds : ℕ
+  beds = length (now (s .args .bed))
+
+  abbrev n : ℕ
+  n = length (now (s .args .friction))
+
+  abbrev room : ℕ
+  room = length (now (s .args .out))
+
 module _ (c : tie.Else2) where
   abbrev s : tie.Start
   s = c .before .before .before .before
 
-  lengths : misfit (length (now (s .args .state))) (4 * length (now (s .args .friction))) (length (now (s .args .bed))) (length (now (s .args .friction))) ≡ false
+  lengths : misfit (states s) (4 * n s) (beds s) (n s) ≡ false
   lengths = sym (c .before .bad-lengths .ensures) ∙ c .if2 .left
 
-  fits : Fitted (length (now (s .args .state))) (4 * length (now (s .args .friction))) (length (now (s .args .bed))) (length (now (s .args .friction)))
-  fits = fitted (length (now (s .args .state))) (4 * length (now (s .args .friction))) (length (now (s .args .bed))) (length (now (s .args .friction))) lengths
+  fits : Fitted (states s) (4 * n s) (beds s) (n s)
+  fits = fitted (states s) (4 * n s) (beds s) (n s) lengths
+
+  roomy : n s ≤ room s
+  roomy = omega (arith, c .before .before .if1 .left)
 
 returns : tie.Need-returns
-returns c = let p = c .before .before .args in record {
-  number = sym (short-number (now (p .state)) (now (p .bed)) (now (p .friction)) (p .given) (length (now (p .out))) (c .if1 .taken));
+returns c = let b = c .before .before in let p = b .args in record {
+  number = sym (short-number (now (p .state)) (now (p .bed)) (now (p .friction)) (p .given) (room b) (c .if1 .taken));
   some = omega arith;
   kept = refl;
 }
 
 returns-2 : tie.Need-returns-2
-returns-2 c = let p = c .before .before .before .before .args in record {
-  number = sym (length-number (now (p .state)) (now (p .bed)) (now (p .friction)) (p .given) (length (now (p .out))) (omega (arith, c .before .before .if1 .left)) (sym (c .before .bad-lengths .ensures) ∙ c .if2 .taken));
+returns-2 c = let b = c .before .before .before .before in let p = b .args in record {
+  number = sym (length-number (now (p .state)) (now (p .bed)) (now (p .friction)) (p .given) (room b)
+      (omega (arith, c .before .before .if1 .left)) (sym (c .before .bad-lengths .ensures) ∙ c .if2 .taken));
   some = omega arith;
   kept = refl;
 }
@@ -61,23 +78,29 @@ module _ (c : tie.After-bad-numbers) where
   abbrev fit : tie.Else2
   fit = w1 .before
 
+  dx-is : toZ w64 (ofZ w64 (w1 .widened .result)) ≡ pos (s fit .args .given .dx)
+  dx-is = back64 (w1 .widened .ok) (w1 .widened .ensures)
+
+  dt-is : toZ w64 (ofZ w64 (w2 .widened2 .result)) ≡ pos (s fit .args .given .dt)
+  dt-is = back64 (w2 .widened2 .ok) (w2 .widened2 .ensures)
+
+  jump-is : toZ w64 (ofZ w64 (w3 .widened3 .result)) ≡ pos (s fit .args .given .jump)
+  jump-is = back64 (w3 .widened3 .ok) (w3 .widened3 .ensures)
+
   abbrev rough : ℕ → ℤ
   rough i = pos (getD (now (s fit .args .friction)) i 0)
 
   judged : let p = s fit .args in
-      c .bad-numbers .result ≡ badCall (reachIn (reachBy (length (now (p .friction))) (p .given)) (now (p .bed))) (callOn (callBy (p .given)) rough)
-  judged = simp (back64 (w1 .widened .ok) (w1 .widened .ensures), back64 (w2 .widened2 .ok) (w2 .widened2 .ensures), back64 (w3 .widened3 .ok) (w3 .widened3 .ensures))
-      at (c .bad-numbers .ensures (now (s fit .args .bed)) rough)
+      c .bad-numbers .result ≡ badCall (reachIn (reachBy (n (s fit)) (p .given)) (now (p .bed))) (callOn (callBy (p .given)) rough)
+  judged = simp (dx-is, dt-is, jump-is) at (c .bad-numbers .ensures (now (s fit .args .bed)) rough)
 
 returns-3 : tie.Need-returns-3
-returns-3 c =
-    let m = c .before in let e = fit m in let p = s e .args in
-    record {
-      number = sym (call-number (now (p .state)) (now (p .bed)) (now (p .friction)) (p .given) (length (now (p .out)))
-          (omega (arith, e .before .before .if1 .left)) (lengths e) (sym (judged m) ∙ c .if3 .taken));
-      some = omega arith;
-      kept = refl;
-    }
+returns-3 c = let m = c .before in let e = fit m in let p = s e .args in record {
+  number = sym (call-number (now (p .state)) (now (p .bed)) (now (p .friction)) (p .given) (room (s e))
+      (roomy e) (lengths e) (sym (judged m) ∙ c .if3 .taken));
+  some = omega arith;
+  kept = refl;
+}
 
 -- ---- a call in order
 module _ (e : tie.Else3) where
@@ -87,46 +110,46 @@ module _ (e : tie.Else3) where
   abbrev start : tie.Start
   start = s (fit m)
 
-  in-range : Numbers (record { n = length (now (start .args .friction)); dx = toZ w64 (ofZ w64 (w1 m .widened .result)) })
+  in-range : Numbers (record { n = n start; dx = toZ w64 (ofZ w64 (w1 m .widened .result)) })
       (record {
         dt = toZ w64 (ofZ w64 (w2 m .widened2 .result));
         jump = toZ w64 (ofZ w64 (w3 m .widened3 .result));
         left = start .args .given .left;
         right = start .args .given .right;
       })
-  in-range = numbers _ _ (now (start .args .bed)) (rough m) (sym (m .bad-numbers .ensures (now (start .args .bed)) (rough m)) ∙ e .if3 .left)
+  in-range =
+      let bed = now (start .args .bed) in numbers _ _ bed (rough m) (sym (m .bad-numbers .ensures bed (rough m)) ∙ e .if3 .left)
 
-  later : let p = start .args in let a = lentBy (now (p .state)) (now (p .bed)) (now (p .friction)) (p .given) (length (now (p .out))) in
-      number a ≡ verdict (readyChecks (length (now (p .friction))) (now (p .bed)) (now (p .friction)) (stateOf a) ++ bothChecks (reachOf a) (callOf a) (stateOf a))
+  abbrev lent : Lent
+  lent = let p = start .args in lentBy (now (p .state)) (now (p .bed)) (now (p .friction)) (p .given) (room start)
+
+  later : number lent
+      ≡ verdict (readyChecks (n start) (lent .bed) (lent .friction) (stateOf lent) ++ bothChecks (reachOf lent) (callOf lent) (stateOf lent))
   later = let p = start .args in
-      later-checks (now (p .state)) (now (p .bed)) (now (p .friction)) (p .given) (length (now (p .out)))
-      (omega (arith, fit m .before .before .if1 .left)) (lengths (fit m)) (sym (judged m) ∙ e .if3 .left)
+      later-checks (now (p .state)) (now (p .bed)) (now (p .friction)) (p .given) (room start)
+      (roomy (fit m)) (lengths (fit m)) (sym (judged m) ∙ e .if3 .left)
 
 short-step-requires : tie.Need-short-step-requires
 short-step-requires c κs =
     let e = c .before .before in let f = fits (fit (m e)) in (
       (record { some = f .some; most = f .most; beds = f .beds; numbers = in-range e }, f .now, refl),
-      (c .before .if4 .taken, omega (arith, fit (m e) .before .before .if1 .left)),
+      (c .before .if4 .taken, roomy (fit (m e))),
     )
 
 returns-4 : tie.Need-returns-4
-returns-4 c =
-    let e = c .before .before .before .before in let m = e .before in
-    rw (later e) (simp (back64 (w1 m .widened .ok) (w1 m .widened .ensures), back64 (w2 m .widened2 .ok) (w2 m .widened2 .ensures), back64 (w3 m .widened3 .ok) (w3 m .widened3 .ensures))
-    at (c .before .short-step .ensures))
+returns-4 c = let e = c .before .before .before .before in let w = m e in
+    rw (later e) (simp (dx-is w, dt-is w, jump-is w) at (c .before .short-step .ensures))
 
 long-step-requires : tie.Need-long-step-requires
 long-step-requires c κs =
     let e = c .before .before in let f = fits (fit (m e)) in (
       (record { some = f .some; most = f .most; beds = f .beds; numbers = in-range e }, f .now, refl),
-      omega (arith, fit (m e) .before .before .if1 .left),
+      roomy (fit (m e)),
     )
 
 returns-5 : tie.Need-returns-5
-returns-5 c =
-    let e = c .before .before .before .before in let m = e .before in
-    rw (later e) (simp (back64 (w1 m .widened .ok) (w1 m .widened .ensures), back64 (w2 m .widened2 .ok) (w2 m .widened2 .ensures), back64 (w3 m .widened3 .ok) (w3 m .widened3 .ensures))
-    at (c .before .long-step .ensures))
+returns-5 c = let e = c .before .before .before .before in let w = m e in
+    rw (later e) (simp (dx-is w, dt-is w, jump-is w) at (c .before .long-step .ensures))
 
 pub work-spec : {M : Type 1} → statement M
 work-spec =
