@@ -25,7 +25,7 @@ pub unfinished : (bed : List ℤ) (n : ℕ) (s : State) → Grounds bed n → Sm
 unfinished bed n s g w i l = record { ground = g i l; wide = small-wide (w i l) }
 
 -- a table b that finishing filled from u
-module _ (reach : ToldReach) (call : ToldCall) (bed : List ℤ) (u : List (List ℤ)) (done : Bool) (old b : List (List ℤ))
+module _ {reach : ToldReach} {call : ToldCall} {bed : List ℤ} {u : List (List ℤ)} {done : Bool} {old b : List (List ℤ)}
     (says : FinishSays reach call bed u done old b) (works : done ≡ true) (ρ : ℕ → ℤ) where
   abbrev r : Reach
   r = reachIn reach bed

@@ -13,13 +13,13 @@ use Rattle.tables.specs.Cells.{asList, Holds}
 use Rattle.rules.specs.Reach as rules
 use Rattle.rules.specs.Reach.{State}
 use Rattle.rules.specs.Stage.{faceRight, faceAt, stage}
-use Rattle.rules.specs.Refusals.{fastFace, fastGauss, tooLong, verdict, stageChecks}
+use Rattle.rules.specs.Refusals.{fastFace, fastGauss, tooLong, Check, verdict, stageChecks}
 use Rattle.rules.specs.Laws.Verdicts.{stops-at, none-stops}
 use Rattle.reach.specs.declared.Reach.{Reach}
 use Rattle.reach.specs.declared.Call.{Call}
 use Rattle.reach.specs.Told.{reachIn, callOn, bedAt}
 use Rattle.reach.specs.Ranges.{UpTo, Numbers}
-use Rattle.stage.specs.Rows.{sidesAt, fastSides, fastPointsAt, momentumAt, faceRow, longFlux, longAt, faceRowAt, updateAt}
+use Rattle.stage.specs.Rows.{sidesAt, fastSides, fastPointsAt, momentumAt, faceRow, longFlux, longAt, crossAt, faceRowAt, updateAt}
 use Rattle.stage.specs.Rows as rows
 use Rattle.stage.specs.Ranges.{mostMomentum, Small, Smalls, Ranged, FaceRows, Momenta}
 use Rattle.stage.specs.Says.{FacesOf, StageDone}
@@ -28,72 +28,82 @@ use Rattle.stage.specs.Laws.UpdateSizes.{update-small}
 use Rattle.stage.specs.Laws.RowsAreRules.{fast-faces, cross-at, update-is}
 use Rattle.stage.specs.Laws.StateSizes.{sounds, gauss-size}
 
-module _ (reach : Reach) (call : Call) (bed : List ℤ) (s : State) where
+-- ---- the checks of the speeds, as a stage answers them
+module _ (reach : Reach) (call : Call) (bed : List ℤ) (s : State) (ρ : ℕ → ℤ) (o : 0 < reach .n) where
+  abbrev checks : List Check
+  checks = stageChecks (reachIn reach bed) (callOn call ρ) s
+
+  sides-pass : some (fastSides bed s) (reach .n) ≡ false → some (fastFace (reachIn reach bed) (callOn call ρ) s) (suc (reach .n)) ≡ false
+  sides-pass e = sym (fast-faces reach call bed ρ s o) ∙ e
+
+  pub says-fast : some (fastSides bed s) (reach .n) ≡ true → 6 ≡ verdict checks
+  unfolding stageChecks
+  says-fast e = stops-at checks 0 tt (sym (fast-faces reach call bed ρ s o) ∙ e)
+
+  pub says-points : some (fastSides bed s) (reach .n) ≡ false → some (fastPointsAt bed s) (reach .n) ≡ true → 6 ≡ verdict checks
+  unfolding stageChecks fastGauss
+  says-points e f = stops-at checks 1 (sides-pass e, tt) f
+
+-- ---- a stage from s that passed them, with its sides in d
+pub record Slowed (reach : Reach) (call : Call) (bed : List ℤ) (s : State) (d : List (List ℤ)) : Type 0 where
+  pub least : 0 < reach .n
+  pub numbers : Numbers reach call
+  pub inside : Ranged bed (reach .n) s
+  pub sides : Written [] d (reach .n) (sidesAt bed s)
+  pub slow-sides : some (fastSides bed s) (reach .n) ≡ false
+  pub slow-points : some (fastPointsAt bed s) (reach .n) ≡ false
+
+module _ {reach : Reach} {call : Call} {bed : List ℤ} {s : State} {d : List (List ℤ)} (p : Slowed reach call bed s d) where
   abbrev n : ℕ
   n = reach .n
 
-  -- momenta of points that are not too fast
-  pub momenta : Ranged bed n s → some (fastPointsAt bed s) n ≡ false → (g : List ℤ) → Written (pos 0) g n (momentumAt bed s) → Momenta g n
-  momenta inside e g h i l =
-      subst (UpTo mostMomentum) (sym (h i l)) (gauss-size (bedAt bed i) (s i) (inside i l) (some-none (fastPointsAt bed s) n e i l))
+  -- the momenta and the rows of the faces have the sizes that an update asks
+  pub momenta : (g : List ℤ) → Written (pos 0) g n (momentumAt bed s) → Momenta g n
+  momenta g h i l = subst (UpTo mostMomentum) (sym (h i l))
+      (gauss-size (bedAt bed i) (s i) (p .inside i l) (some-none (fastPointsAt bed s) n (p .slow-points) i l))
 
-  module _ (ρ : ℕ → ℤ) (o : 0 < n) where
+  pub rows-sized : (x : List (List ℤ)) → Written [] x (suc n) (faceRowAt reach call d) → FaceRows x n
+  rows-sized x h = face-rows reach call d x (p .numbers .dt-in) (p .least) (sounds n bed s (p .inside) (p .slow-sides) d (p .sides)) h
+
+  module _ (ρ : ℕ → ℤ) where
     abbrev r : rules.Reach
     r = reachIn reach bed
 
     abbrev c : rules.Call
     c = callOn call ρ
 
-    -- ---- the three checks, as a stage answers them
-    sides-pass : some (fastSides bed s) n ≡ false → some (fastFace r c s) (suc n) ≡ false
-    sides-pass e = sym (fast-faces reach call bed ρ s o) ∙ e
+    face-is : (i : ℕ) → i < suc n → crossAt reach call d i ≡ faceAt r c s i
+    face-is = cross-at reach call bed ρ s d (p .sides) (p .least)
 
-    pub says-fast : some (fastSides bed s) n ≡ true → 6 ≡ verdict (stageChecks r c s)
-    unfolding stageChecks
-    says-fast e = stops-at (stageChecks r c s) 0 tt (sym (fast-faces reach call bed ρ s o) ∙ e)
+    long-is : some (longAt reach call d) (suc n) ≡ some (tooLong r c s) (suc n)
+    unfolding tooLong longFlux
+    long-is = some-same (longAt reach call d) (tooLong r c s) (suc n) (λ i l. ap (longFlux (reach .dx) (call .dt)) (face-is i l))
 
-    pub says-points : some (fastSides bed s) n ≡ false → some (fastPointsAt bed s) n ≡ true → 6 ≡ verdict (stageChecks r c s)
+    -- its last check
+    pub says-long : some (longAt reach call d) (suc n) ≡ true → 7 ≡ verdict (stageChecks r c s)
     unfolding stageChecks fastGauss
-    says-points e f = stops-at (stageChecks r c s) 1 (sides-pass e, tt) f
+    says-long h = stops-at (stageChecks r c s) 2 (sides-pass reach call bed s ρ (p .least) (p .slow-sides), (p .slow-points, tt)) (sym long-is ∙ h)
 
-    module _ (d : List (List ℤ)) (w : Written [] d n (sidesAt bed s)) (e : some (fastSides bed s) n ≡ false) (f : some (fastPointsAt bed s) n ≡ false) where
-      long-is : some (longAt reach call d) (suc n) ≡ some (tooLong r c s) (suc n)
-      unfolding tooLong longFlux
-      long-is = some-same (longAt reach call d) (tooLong r c s) (suc n) (λ i l. ap (longFlux (reach .dx) (call .dt)) (cross-at reach call bed ρ s d w o i l))
+    pub says-none : some (longAt reach call d) (suc n) ≡ false → 0 ≡ verdict (stageChecks r c s)
+    unfolding stageChecks fastGauss
+    says-none h = none-stops (stageChecks r c s) (sides-pass reach call bed s ρ (p .least) (p .slow-sides), (p .slow-points, (sym long-is ∙ h, tt)))
 
-      pub says-long : some (longAt reach call d) (suc n) ≡ true → 7 ≡ verdict (stageChecks r c s)
-      unfolding stageChecks fastGauss
-      says-long h = stops-at (stageChecks r c s) 2 (sides-pass e, (f, tt)) (sym long-is ∙ h)
+    -- ---- what it leaves
+    module _ (x : List (List ℤ)) (g : List ℤ) (wx : Written [] x (suc n) (faceRowAt reach call d)) (wg : Written (pos 0) g n (momentumAt bed s)) where
+      faces : FacesOf r c s x
+      faces = record { rows = λ i l. wx i l ∙ ap (faceRow (reach .dx) (call .dt)) (face-is i l); sized = rows-sized x wx }
 
-      pub says-none : some (longAt reach call d) (suc n) ≡ false → 0 ≡ verdict (stageChecks r c s)
-      unfolding stageChecks fastGauss
-      says-none h = none-stops (stageChecks r c s) (sides-pass e, (f, (sym long-is ∙ h, tt)))
+      cell-is : (i : ℕ) → i < n → updateAt reach call bed s x g i ≡ stage r c s i
+      unfolding stage faceAt
+      cell-is i l = let row = faces .rows in
+          (λ k. rows.updateBy (reach .dx) (call .dt) (bedAt bed i) (s i) (row i (omega arith) k) (row (suc i) (omega arith) k) (wg i l k))
+          ∙ update-is (reach .dx) (call .dt) (bedAt bed i) (s i) (faceAt r c s i) (faceRight r c s i)
 
-      -- ---- what it leaves
-      module _ (inside : Ranged bed n s) (num : Numbers reach call) (x : List (List ℤ)) (g : List ℤ)
-          (wx : Written [] x (suc n) (faceRowAt reach call d)) (wg : Written (pos 0) g n (momentumAt bed s)) where
-        faces : FacesOf r c s x
-        faces = record {
-          rows = λ i l. wx i l ∙ ap (faceRow (reach .dx) (call .dt)) (cross-at reach call bed ρ s d w o i l);
-          sized = face-rows reach call d x (num .dt-in) o (sounds n bed s inside e d w) wx;
-        }
+      small : Smalls n (stage r c s)
+      small i l = let w = p .numbers in let sized = faces .sized in
+          subst Small (cell-is i l)
+          (update-small (p .inside i l) (reach .dx) (call .dt) (getD x i []) (getD x (suc i) []) (getD g i (pos 0)) (w .dx-pos) (w .dt-in)
+          (sized i (omega arith)) (sized (suc i) (omega arith)) (momenta g wg i l))
 
-        cell-is : (i : ℕ) → i < n → updateAt reach call bed s x g i ≡ stage r c s i
-        unfolding stage faceAt
-        cell-is i l =
-            (λ k. rows.updateBy (reach .dx) (call .dt) (bedAt bed i) (s i) (faces .rows i (omega arith) k) (faces .rows (suc i) (omega arith) k) (wg i l k))
-            ∙ update-is (reach .dx) (call .dt) (bedAt bed i) (s i) (faceAt r c s i) (faceRight r c s i)
-
-        small : Smalls n (stage r c s)
-        small i l = subst Small (cell-is i l)
-            (update-small (inside i l) (reach .dx) (call .dt) (getD x i []) (getD x (suc i) []) (getD g i (pos 0)) (num .dx-pos) (num .dt-in)
-            (faces .sized i (omega arith)) (faces .sized (suc i) (omega arith)) (momenta inside f g wg i l))
-
-        pub stage-done : (u : List (List ℤ)) → Holds u n (updateAt reach call bed s x g) → StageDone r c s x u
-        stage-done u h = record { faces = faces; cells = λ i l. h i l ∙ ap asList (cell-is i l); small = small }
-
--- the rows of faces have the sizes that an update asks, before any friction is named
-pub rows-sized : (reach : Reach) (call : Call) (bed : List ℤ) (s : State) → 0 < reach .n → Ranged bed (reach .n) s → Numbers reach call
-    → some (fastSides bed s) (reach .n) ≡ false → (d x : List (List ℤ)) → Written [] d (reach .n) (sidesAt bed s)
-    → Written [] x (suc (reach .n)) (faceRowAt reach call d) → FaceRows x (reach .n)
-rows-sized reach call bed s o inside num e d x w wx = face-rows reach call d x (num .dt-in) o (sounds (reach .n) bed s inside e d w) wx
+      pub stage-done : (u : List (List ℤ)) → Holds u n (updateAt reach call bed s x g) → StageDone r c s x u
+      stage-done u h = record { faces = faces; cells = λ i l. h i l ∙ ap asList (cell-is i l); small = small }

@@ -27,19 +27,16 @@ module _ (f : tie.After-finish) where
   }))
 
 off-requires : tie.Need-off-requires
-off-requires c κs =
-    let f = c .before .before in let p = s f in let a = p .args in
-    (omega arith, finished-wide (a .reach) (a .call) (now (a .bed)) (now (a .u)) _ _ _ (f .finish .ensures) (works f) (λ i. pos 0) (p .pre .1 .1 .0) (p .pre .1 .1 .1))
+off-requires c κs = let f = c .before .before in let p = s f .pre .1 .1 in
+    (omega arith, finished-wide (f .finish .ensures) (works f) (λ i. pos 0) (p .0) (p .1))
 
 returns : tie.Need-returns
-returns c ρ =
-    let o = c .before in let f = o .before .before .before in let a = s f .args in
-    end-says (a .reach) (a .call) (now (a .bed)) (now (a .u)) _ _ _ (f .finish .ensures) (works f) ρ true (sym (o .off .ensures) ∙ c .if1 .taken)
+returns c ρ = let o = c .before in let f = o .before .before .before in
+    end-says (f .finish .ensures) (works f) ρ true (sym (o .off .ensures) ∙ c .if1 .taken)
 
 returns-2 : tie.Need-returns-2
-returns-2 c ρ =
-    let o = c .before in let f = o .before .before .before in let a = s f .args in
-    end-says (a .reach) (a .call) (now (a .bed)) (now (a .u)) _ _ _ (f .finish .ensures) (works f) ρ false (sym (o .off .ensures) ∙ c .if1 .left)
+returns-2 c ρ = let o = c .before in let f = o .before .before .before in
+    end-says (f .finish .ensures) (works f) ρ false (sym (o .off .ensures) ∙ c .if1 .left)
 
 pub end-spec : {M : Type 1} → statement M
 end-spec = tie.close (tie.spec (λ c κs. search needs) off-requires (λ c. search needs) returns (λ c. search needs) returns-2)

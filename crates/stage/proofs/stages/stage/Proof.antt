@@ -1,17 +1,19 @@
 -- A stage answers by the first of its checks, and where it passed them its faces and its cells are the rule's.
 use mathlib.Core.Path.{_≡_, sym, _∙_}
 use mathlib.Core.Bool.{false}
-use mathlib.Core.List.{List}
+use mathlib.Core.List.{List, []}
+use Prim.Native.Nat.{suc}
 use native.Mathlib.Omega.{arith}
 use borrow.Author.Needs.{needs}
 use denote.Ref.{now}
-use lib.IntN.{ℤ}
+use lib.IntN.{ℤ, pos}
 use Rattle.tables.specs.Some.{some}
+use Rattle.tables.specs.Rows.{Written}
 use Rattle.tables.specs.Cells.{seen}
 use Rattle.rules.specs.Reach.{State}
-use Rattle.stage.specs.Rows.{fastSides, fastPointsAt}
+use Rattle.stage.specs.Rows.{fastSides, momentumAt, faceRowAt}
 use Rattle.stage.specs.Laws.StateSizes.{sounds}
-use Rattle.stage.specs.Laws.OneStage.{momenta, says-fast, says-points, says-long, says-none, stage-done, rows-sized}
+use Rattle.stage.specs.Laws.OneStage.{Slowed, says-fast, says-points, momenta, rows-sized, says-long, says-none, stage-done}
 use Rattle.stage.proofs.stages.stage.Statement.{statement}
 use Rattle.stage.proofs.stages.stage.Tie as tie
 
@@ -44,8 +46,15 @@ module _ (e : tie.Else2) where
   abbrev g : List ℤ
   g = pointed .points .last .1 .1 .1 .0
 
-  slow-points : some (fastPointsAt (now (start sided .args .bed)) (state (start sided))) (start sided .args .reach .n) ≡ false
-  slow-points = sym (pointed .points .ensures .stops) ∙ e .if2 .left
+  slowed : let s = start sided in Slowed (s .args .reach) (s .args .call) (now (s .args .bed)) (state s) (d sided)
+  slowed = let s = start sided in record {
+    least = s .pre .0 .0;
+    numbers = s .pre .1 .1 .0;
+    inside = s .pre .1 .1 .1;
+    sides = worked sided .sides .ensures .filled (sided .if1 .left);
+    slow-sides = slow-sides sided;
+    slow-points = sym (pointed .points .ensures .stops) ∙ e .if2 .left;
+  }
 
 returns : tie.Need-returns
 returns c ρ =
@@ -57,22 +66,22 @@ returns c ρ =
 returns-2 : tie.Need-returns-2
 returns-2 c ρ =
     let p = c .before .before in let e = p .before .before in let s = start e in let a = s .args in record {
-      number = says-points (a .reach) (a .call) (now (a .bed)) (state s) ρ (s .pre .0 .0) (slow-sides e) (sym (p .points .ensures .stops) ∙ c .if2 .taken);
+      number = says-points (a .reach) (a .call) (now (a .bed)) (state s) ρ (s .pre .0 .0) (slow-sides e)
+          (sym (p .points .ensures .stops) ∙ c .if2 .taken);
       done = λ z. let y : ⊥ = omega arith in absurd y;
     }
 
 faces-requires : tie.Need-faces-requires
 faces-requires c κs =
-    let e = sided (c .before .before) in let s = start e in let a = s .args in (
+    let h = c .before .before in let p = slowed h in let s = start (sided h) in let a = s .args in (
       (s .pre .0 .0, omega arith, omega arith),
-      (s .pre .1 .1 .0, sounds (a .reach .n) (now (a .bed)) (state s) (s .pre .1 .1 .1) (slow-sides e) (d e) (worked e .sides .ensures .filled (e .if1 .left))),
+      (p .numbers, sounds (a .reach .n) (now (a .bed)) (state s) (p .inside) (p .slow-sides) (d (sided h)) (p .sides)),
     )
 
 returns-3 : tie.Need-returns-3
 returns-3 c ρ =
-    let f = c .before .before in let h = f .before .before .before in let e = sided h in let s = start e in let a = s .args in record {
-      number = says-long (a .reach) (a .call) (now (a .bed)) (state s) ρ (s .pre .0 .0) (d e) (worked e .sides .ensures .filled (e .if1 .left)) (slow-sides e) (slow-points h)
-          (sym (f .faces .ensures .stops) ∙ c .if3 .taken);
+    let f = c .before .before in let h = f .before .before .before in record {
+      number = says-long (slowed h) ρ (sym (f .faces .ensures .stops) ∙ c .if3 .taken);
       done = λ z. let y : ⊥ = omega arith in absurd y;
     }
 
@@ -84,31 +93,28 @@ module _ (t : tie.Else3) where
   abbrev passed : tie.Else2
   passed = faced .before .before .before
 
-  -- the table of the faces
+  -- the tables of the faces and of the momenta
   abbrev f : List (List ℤ)
   f = faced .faces .last .1 .1 .1 .0
 
+  rows : let a = start (sided passed) .args in Written [] f (suc (a .reach .n)) (faceRowAt (a .reach) (a .call) (d (sided passed)))
+  rows = faced .faces .ensures .filled (t .if3 .left)
+
+  points : let s = start (sided passed) in Written (pos 0) (g passed) (s .args .reach .n) (momentumAt (now (s .args .bed)) (state s))
+  points = pointed passed .points .ensures .filled (passed .if2 .left)
+
 update-requires : tie.Need-update-requires
 update-requires c κs =
-    let t = c .before .before .before in let h = passed t in let e = sided h in let s = start e in let a = s .args in
-    let filled = worked e .sides .ensures .filled (e .if1 .left) in (
+    let t = c .before .before .before in let p = slowed (passed t) in let s = start (sided (passed t)) in (
       (omega arith, omega arith, omega arith, omega arith),
-      (
-        s .pre .1 .1 .1,
-        (
-          rows-sized (a .reach) (a .call) (now (a .bed)) (state s) (s .pre .0 .0) (s .pre .1 .1 .1) (s .pre .1 .1 .0) (slow-sides e) (d e) (f t) filled (faced t .faces .ensures .filled (t .if3 .left)),
-          (momenta (a .reach) (a .call) (now (a .bed)) (state s) (s .pre .1 .1 .1) (slow-points h) (g h) (pointed h .points .ensures .filled (h .if2 .left)), s .pre .1 .1 .0),
-        ),
-      ),
+      (p .inside, (rows-sized p (f t) (rows t), (momenta p (g (passed t)) (points t), p .numbers))),
     )
 
 returns-4 : tie.Need-returns-4
 returns-4 c ρ =
-    let u = c .before in let t = u .before .before .before .before in let h = passed t in let e = sided h in let s = start e in let a = s .args in
-    let filled = worked e .sides .ensures .filled (e .if1 .left) in record {
-      number = says-none (a .reach) (a .call) (now (a .bed)) (state s) ρ (s .pre .0 .0) (d e) filled (slow-sides e) (slow-points h) (sym (faced t .faces .ensures .stops) ∙ t .if3 .left);
-      done = λ z. stage-done (a .reach) (a .call) (now (a .bed)) (state s) ρ (s .pre .0 .0) (d e) filled (slow-sides e) (slow-points h) (s .pre .1 .1 .1) (s .pre .1 .1 .0) (f t) (g h)
-          (faced t .faces .ensures .filled (t .if3 .left)) (pointed h .points .ensures .filled (h .if2 .left)) _ (u .update .ensures);
+    let u = c .before in let t = u .before .before .before .before in let p = slowed (passed t) in record {
+      number = says-none p ρ (sym (faced t .faces .ensures .stops) ∙ t .if3 .left);
+      done = λ z. stage-done p ρ (f t) (g (passed t)) (rows t) (points t) _ (u .update .ensures);
     }
 
 pub stage-spec : {M : Type 1} → statement M

@@ -11,8 +11,13 @@ use Rattle.stage.specs.Rows.{thrust}
 use Rattle.stage.proofs.update.flow_mean.Statement.{statement}
 use Rattle.stage.proofs.update.flow_mean.Tie as tie
 
+-- the five numbers of the line, in their order, and then others
+abbrev and-then : tie.Start → List Entry → List Entry
+and-then s l = let rows = s .pre .1 .0 in let w = s .pre .1 .1 in
+    sized (s .pre .0 .0) tt ∷ sized (rows .0 .A) tt ∷ sized (rows .1 .A) tt ∷ sized (w .dx-in) tt ∷ sized (w .dt-in) tt ∷ l
+
 abbrev env : tie.Start → List Entry
-env s = sized (s .pre .0 .0) tt ∷ sized (s .pre .1 .0 .0 .A) tt ∷ sized (s .pre .1 .0 .1 .A) tt ∷ sized (s .pre .1 .1 .dx-in) tt ∷ sized (s .pre .1 .1 .dt-in) tt ∷ []
+env s = and-then s []
 
 abbrev carried : X
 carried = (v 1 ⊝ v 2) ⊗ v 4 ⊘ v 3
@@ -54,7 +59,7 @@ moved-size : (c : tie.After-thrust-of) → Within 9810000000000 (c .thrust-of .r
 moved-size c = let s = start c in subst (Within 9810000000000) (sym (moved c)) (thrust-size _ _ _ (s .pre .0 .1) (s .pre .1 .1 .dx-pos) (s .pre .1 .1 .dt-in))
 
 abbrev after : tie.After-thrust-of → List Entry
-after c = let s = start c in sized (s .pre .0 .0) tt ∷ sized (s .pre .1 .0 .0 .A) tt ∷ sized (s .pre .1 .0 .1 .A) tt ∷ sized (s .pre .1 .1 .dx-in) tt ∷ sized (s .pre .1 .1 .dt-in) tt ∷ sized (moved-size c) tt ∷ []
+after c = and-then (start c) (sized (moved-size c) tt ∷ [])
 
 add-result-2 : tie.Need-add-result-2
 add-result-2 c = need (after c) (v 0 ⊕ carried ⊕ v 5) tt

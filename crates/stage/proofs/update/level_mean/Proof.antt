@@ -1,13 +1,13 @@
 -- The mean with the two volumes fits, and is the rule's.
 use mathlib.Core.List.{List, [], _∷_}
 use borrow.Author.Needs.{needs}
-use Rattle.whole.specs.Parts.{fit}
-use Rattle.whole.specs.Machine.{v, _⊕_, _⊝_, Entry, entry, need, value}
+use Rattle.whole.specs.Machine.{v, _⊕_, _⊝_, Entry, need, value}
+use Rattle.stage.specs.Laws.UpdateSizes.{sized}
 use Rattle.stage.proofs.update.level_mean.Statement.{statement}
 use Rattle.stage.proofs.update.level_mean.Tie as tie
 
 abbrev env : tie.Start → List Entry
-env s = entry (fit (s .pre .0) tt) (s .pre .0) ∷ entry (fit (s .pre .1 .0 .vol) tt) (s .pre .1 .0 .vol) ∷ entry (fit (s .pre .1 .1 .vol) tt) (s .pre .1 .1 .vol) ∷ []
+env s = sized (s .pre .0) tt ∷ sized (s .pre .1 .0 .vol) tt ∷ sized (s .pre .1 .1 .vol) tt ∷ []
 
 array-copy-out-result : tie.Need-array-copy-out-result
 array-copy-out-result c = search needs

@@ -10,8 +10,9 @@ use lib.ListN.{getD, length}
 use lib.IntN.{pos}
 use Rattle.tables.specs.Some.{some}
 use Rattle.tables.specs.Cells.{seen}
-use Rattle.rules.specs.Refusals.{badBed, badRough, Check}
+use Rattle.rules.specs.Refusals.{badBed, badRough, offCell, Check}
 use Rattle.rules.specs.Laws.Verdicts.{stops-at, none-stops}
+use Rattle.reach.specs.Told.{bedAt}
 use Rattle.reach.specs.Ranges.{Grounds}
 use Rattle.stage.specs.Says.{readyChecks}
 use Rattle.stage.specs.Laws.LentChecks.{grounds, ranged}
@@ -68,17 +69,21 @@ module _ (c : tie.Else3) where
   abbrev three : tie.Else2
   three = c .before .before
 
+  range-passed : let s = one (two three) in
+      some (λ i. offCell (bedAt (now (s .args .bed)) i) (seen (now (s .args .t)) i)) (s .args .reach .n) ≡ false
+  range-passed = sym (c .before .off .ensures) ∙ c .if3 .left
+
 fast-requires : tie.Need-fast-requires
 fast-requires c κs = let d = two (three c) in let s = one d in
-    (s .pre .0 .0, ranged (s .args .reach .n) (now (s .args .bed)) (seen (now (s .args .t))) (ground d) (sym (c .before .off .ensures) ∙ c .if3 .left))
+    (s .pre .0 .0, ranged (s .args .reach .n) (now (s .args .bed)) (seen (now (s .args .t))) (ground d) (range-passed c))
 
 returns-4 : tie.Need-returns-4
 returns-4 c = let g = c .before .before in let e = three g in let d = two e in
-    stops-at (list (one d)) 3 (bed-passed d, (rough-passed e, (sym (g .before .off .ensures) ∙ g .if3 .left, tt))) (sym (c .before .fast .ensures) ∙ c .if4 .taken)
+    stops-at (list (one d)) 3 (bed-passed d, (rough-passed e, (range-passed g, tt))) (sym (c .before .fast .ensures) ∙ c .if4 .taken)
 
 returns-5 : tie.Need-returns-5
 returns-5 c = let g = c .before .before in let e = three g in let d = two e in
-    none-stops (list (one d)) (bed-passed d, (rough-passed e, (sym (g .before .off .ensures) ∙ g .if3 .left, (sym (c .before .fast .ensures) ∙ c .if4 .left, tt))))
+    none-stops (list (one d)) (bed-passed d, (rough-passed e, (range-passed g, (sym (c .before .fast .ensures) ∙ c .if4 .left, tt))))
 
 pub ready-spec : {M : Type 1} → statement M
 ready-spec =
