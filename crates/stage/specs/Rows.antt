@@ -12,7 +12,7 @@ use Rattle.rules.specs.Face.{speed, face}
 use Rattle.rules.specs.Face as rules
 use Rattle.rules.specs.Reach.{State, Bed, short, h0, h1, sideL, sideR}
 use Rattle.rules.specs.Stage.{outer, volume, carried, flowBefore, flowBehind, depthBefore, depthBehind, gauss}
-use Rattle.rules.specs.Step.{half, joinedCell}
+use Rattle.rules.specs.Step.{half, rubbedCell, joinedCell}
 use Rattle.rules.specs.Refusals.{fastSide, fastPoints}
 use Rattle.rules.specs.Laws.Sizes.{Sound}
 use Rattle.reach.specs.declared.Reach.{Reach}
@@ -152,3 +152,7 @@ volumeAt f h i = half (volumeOf (getD f i [])) (volumeOf (getD h i []))
 
 abbrev pub joinAt : State → State → List (List ℤ) → List (List ℤ) → ℕ → Cell
 joinAt a u f h i = joinedCell (a i) (u i) (volumeAt f h i) (volumeAt f h (suc i))
+
+-- cell i of s after friction
+abbrev pub rubbedAt : Call → List ℕ → List ℤ → State → ℕ → Cell
+rubbedAt c friction bed s i = rubbedCell (c .dt) dryDepth (pos (getD friction i 0)) (bedAt bed i) (s i)

@@ -103,7 +103,8 @@ module _ (reach : ToldReach) (call : ToldCall) (bed : List ℤ) where
   -- stage two from b, which shows stage one with its faces in f
   abbrev pub TwoSays : List (List ℤ) → List (List ℤ) → List (List ℤ) → ℕ → List (List ℤ) → List (List ℤ) → Type 0
   TwoSays a f b k h y = (ρ : ℕ → ℤ) (s : State) → let r : Reach = reachIn reach bed in let c : Call = callOn call ρ in
-      Shows r a (rubbed r c s) → FacesOf r c (rubbed r c s) f → Shows r b (stageOne r c s) → HalfSays r c (stageOne r c s) (next r c s) k h y
+      Shows r a (rubbed r c s) → FacesOf r c (rubbed r c s) f → Shows r b (stageOne r c s)
+      → HalfSays r c (stageOne r c s) (next r c s) k h y
 
   -- both from a
   abbrev pub BothSay : List (List ℤ) → ℕ → List (List ℤ) → List (List ℤ) → List (List ℤ) → Type 0

@@ -18,7 +18,8 @@ pub fn end(u: &[Cell], bed: &[i32], reach: Reach, call: Call, b: &mut [Cell]) ->
     requires { ⌜ (reach .n ≤ 1024) × (length (now bed) ≡ reach .n + 1) × Room reach (now u) × Room reach (now b) ⌝ }
     requires { ⌜ Numbers reach call ⌝ }
     requires { ⌜ Grounds (now bed) (reach .n) × Smalls (reach .n) (seen (now u)) ⌝ }
-    ensures { λ k. ⌜ ((ρ : ℕ → ℤ) → EndSays (reachIn reach (now (bed .entry))) (callOn call ρ) (seen (now (u .entry))) k (now (b .exit))) ⌝ }
+    ensures { λ k. ⌜ ((ρ : ℕ → ℤ) →
+        EndSays (reachIn reach (now (bed .entry))) (callOn call ρ) (seen (now (u .entry))) k (now (b .exit))) ⌝ }
 {
     // true, as what a stage leaves is never too large to be finished
     let _done = finishing::finish(u, bed, reach, call, b);

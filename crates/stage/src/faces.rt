@@ -88,7 +88,8 @@ pub fn faces(d: &[Sides], reach: Reach, call: Call, f: &mut [FaceRow]) -> bool
     requires { ⌜ (0 < reach .n) × Room reach (now d) × FaceRoom reach (now f) ⌝ }
     requires { ⌜ Numbers reach call ⌝ }
     requires { ⌜ Sounds (now d) (reach .n) ⌝ }
-    ensures { λ r. ⌜ FillSays [] (suc (reach .n)) (longAt reach call (now (d .entry))) (faceRowAt reach call (now (d .entry))) r (now (f .exit)) ⌝ }
+    ensures { λ r. ⌜ FillSays [] (suc (reach .n))
+        (longAt reach call (now (d .entry))) (faceRowAt reach call (now (d .entry))) r (now (f .exit)) ⌝ }
 {
     let n = reach.n;
     let mut i: usize = 0;

@@ -24,8 +24,9 @@ ghost use Rattle.rules.specs.Face.{speed};
 ghost use Rattle.rules.specs.Friction.{cube, drag, slowed};
 ghost use Rattle.rules.specs.Step.{rubbedCell};
 ghost use Rattle.rules.specs.Refusals.{past, fastCell};
-ghost use Rattle.reach.specs.Told.{bedIn, bedAt};
+ghost use Rattle.reach.specs.Told.{bedIn};
 ghost use Rattle.reach.specs.Ranges.{UpTo, Numbers};
+ghost use Rattle.stage.specs.Rows.{rubbedAt};
 ghost use Rattle.stage.specs.Ranges.{Room, Inside, Ranged, Slows, strongest};
 
 // c, the cube-root number of a depth.
@@ -104,7 +105,8 @@ pub fn rub(t: &mut [Cell], bed: &[i32], friction: &[u16], reach: Reach, call: Ca
     requires { ⌜ Numbers reach call ⌝ }
     requires { ⌜ Ranged (now bed) (reach .n) (seen (now t)) ⌝ }
     requires { ⌜ Slows (now friction) (now bed) (reach .n) (seen (now t)) ⌝ }
-    ensures { λ _. ⌜ Filled [] (now (t .entry)) (now (t .exit)) (reach .n) (λ i. asList (rubbedCell (call .dt) dryDepth (pos (getD (now (friction .entry)) i 0)) (bedAt (now (bed .entry)) i) (seen (now (t .entry)) i))) ⌝ }
+    ensures { λ _. ⌜ Filled [] (now (t .entry)) (now (t .exit)) (reach .n)
+        (λ i. asList (rubbedAt call (now (friction .entry)) (now (bed .entry)) (seen (now (t .entry))) i)) ⌝ }
 {
     let n = reach.n;
     let mut i: usize = 0;

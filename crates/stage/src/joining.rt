@@ -57,7 +57,8 @@ pub fn join(x: &[Cell], u: &mut [Cell], f: &[FaceRow], g: &[FaceRow], reach: Rea
     requires { ⌜ Room reach (now x) × Room reach (now u) × FaceRoom reach (now f) × FaceRoom reach (now g) ⌝ }
     requires { ⌜ Wides (reach .n) (seen (now x)) × Wides (reach .n) (seen (now u)) ⌝ }
     requires { ⌜ FaceRows (now f) (reach .n) × FaceRows (now g) (reach .n) ⌝ }
-    ensures { λ _. ⌜ JoinSays (reach .n) (seen (now (x .entry))) (seen (now (u .entry))) (now (f .entry)) (now (g .entry)) (now (u .exit)) ⌝ }
+    ensures { λ _. ⌜ JoinSays (reach .n) (seen (now (x .entry))) (seen (now (u .entry)))
+        (now (f .entry)) (now (g .entry)) (now (u .exit)) ⌝ }
 {
     let n = reach.n;
     let mut i: usize = 0;

@@ -62,7 +62,8 @@ fn points_of(b: Bed, x: Cell) -> [i64; 3]
 pub fn points(t: &[Cell], bed: &[i32], reach: Reach, g: &mut [i64]) -> bool
     requires { ⌜ Room reach (now t) × Room reach (now g) ⌝ }
     requires { ⌜ Ranged (now bed) (reach .n) (seen (now t)) ⌝ }
-    ensures { λ r. ⌜ FillSays (pos 0) (reach .n) (fastPointsAt (now (bed .entry)) (seen (now (t .entry)))) (momentumAt (now (bed .entry)) (seen (now (t .entry)))) r (now (g .exit)) ⌝ }
+    ensures { λ r. ⌜ FillSays (pos 0) (reach .n) (fastPointsAt (now (bed .entry)) (seen (now (t .entry))))
+        (momentumAt (now (bed .entry)) (seen (now (t .entry)))) r (now (g .exit)) ⌝ }
 {
     let n = reach.n;
     let mut i: usize = 0;

@@ -77,7 +77,8 @@ fn sides_of(b: Bed, x: Cell) -> Sides
 pub fn sides(t: &[Cell], bed: &[i32], reach: Reach, d: &mut [Sides]) -> bool
     requires { ⌜ Room reach (now t) × Room reach (now d) ⌝ }
     requires { ⌜ Ranged (now bed) (reach .n) (seen (now t)) ⌝ }
-    ensures { λ r. ⌜ FillSays [] (reach .n) (fastSides (now (bed .entry)) (seen (now (t .entry)))) (sidesAt (now (bed .entry)) (seen (now (t .entry)))) r (now (d .exit)) ⌝ }
+    ensures { λ r. ⌜ FillSays [] (reach .n) (fastSides (now (bed .entry)) (seen (now (t .entry))))
+        (sidesAt (now (bed .entry)) (seen (now (t .entry)))) r (now (d .exit)) ⌝ }
 {
     let n = reach.n;
     let mut i: usize = 0;

@@ -33,7 +33,8 @@ pub fn stage(
     requires { ⌜ FaceRoom reach (now f) × Room reach (now u) ⌝ }
     requires { ⌜ Numbers reach call ⌝ }
     requires { ⌜ Ranged (now bed) (reach .n) (seen (now t)) ⌝ }
-    ensures { λ r. ⌜ ((ρ : ℕ → ℤ) → StageSays (reachIn reach (now (bed .entry))) (callOn call ρ) (seen (now (t .entry))) r (now (f .exit)) (now (u .exit))) ⌝ }
+    ensures { λ r. ⌜ ((ρ : ℕ → ℤ) →
+        StageSays (reachIn reach (now (bed .entry))) (callOn call ρ) (seen (now (t .entry))) r (now (f .exit)) (now (u .exit))) ⌝ }
 {
     if sides(t, bed, reach, d) {
         return 6;

@@ -65,7 +65,8 @@ fn tilt_of(m: i64, s: i64, zl: i64, zr: i64, kl: i64, kr: i64) -> i64
 fn pressures(b: Bed, x: Cell, l: FaceRow, f: FaceRow) -> [i64; 2]
     requires { ⌜ Inside (bedIn b) (asCell x) ⌝ }
     requires { ⌜ Row l × Row f ⌝ }
-    ensures { λ r. ⌜ r ≡ pushBy (bedIn b) (asCell x) (pressureOf l) (pressureOf f) ∷ tiltBy (bedIn b) (asCell x) (pressureOf l) (pressureOf f) ∷ [] ⌝ }
+    ensures { λ r. ⌜ r ≡ pushBy (bedIn b) (asCell x) (pressureOf l) (pressureOf f)
+        ∷ tiltBy (bedIn b) (asCell x) (pressureOf l) (pressureOf f) ∷ [] ⌝ }
 {
     let h = depths(b, x);
     let m = h[0];
@@ -101,7 +102,8 @@ fn flow_mean(x: Cell, l: FaceRow, f: FaceRow, e: i64, reach: Reach, call: Call) 
     requires { ⌜ UpTo fullest (asCell x .q0) × UpTo mostPressure e ⌝ }
     requires { ⌜ Row l × Row f ⌝ }
     requires { ⌜ Numbers reach call ⌝ }
-    ensures { λ r. ⌜ r ≡ asCell x .q0 +ℤ quotZ ((advectionOf l -ℤ advectionOf f) *ℤ call .dt) (reach .dx) +ℤ thrust e (reach .dx) (call .dt) ⌝ }
+    ensures { λ r. ⌜ r ≡ asCell x .q0 +ℤ quotZ ((advectionOf l -ℤ advectionOf f) *ℤ call .dt) (reach .dx)
+        +ℤ thrust e (reach .dx) (call .dt) ⌝ }
 {
     x[2] + (l[2] - f[2]) * call.dt / reach.dx + thrust_of(e, reach, call)
 }
@@ -110,7 +112,8 @@ fn flow_slope(x: Cell, l: FaceRow, f: FaceRow, g: i64, d: i64, reach: Reach, cal
     requires { ⌜ UpTo fullest (asCell x .q1) × UpTo mostMomentum g × UpTo mostPressure d ⌝ }
     requires { ⌜ Row l × Row f ⌝ }
     requires { ⌜ Numbers reach call ⌝ }
-    ensures { λ r. ⌜ r ≡ asCell x .q1 -ℤ slopeOf (advectionOf f +ℤ advectionOf l -ℤ g) (reach .dx) (call .dt) -ℤ thrust d (reach .dx) (call .dt) ⌝ }
+    ensures { λ r. ⌜ r ≡ asCell x .q1 -ℤ slopeOf (advectionOf f +ℤ advectionOf l -ℤ g) (reach .dx) (call .dt)
+        -ℤ thrust d (reach .dx) (call .dt) ⌝ }
 {
     x[3] - slope_change(f[2] + l[2] - g, reach, call) - thrust_of(d, reach, call)
 }
@@ -146,7 +149,8 @@ pub fn update(
     requires { ⌜ FaceRows (now f) (reach .n) ⌝ }
     requires { ⌜ Momenta (now g) (reach .n) ⌝ }
     requires { ⌜ Numbers reach call ⌝ }
-    ensures { λ _. ⌜ Holds (now (u .exit)) (reach .n) (updateAt reach call (now (bed .entry)) (seen (now (t .entry))) (now (f .entry)) (now (g .entry))) ⌝ }
+    ensures { λ _. ⌜ Holds (now (u .exit)) (reach .n)
+        (updateAt reach call (now (bed .entry)) (seen (now (t .entry))) (now (f .entry)) (now (g .entry))) ⌝ }
 {
     let n = reach.n;
     let mut i: usize = 0;

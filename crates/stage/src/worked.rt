@@ -80,7 +80,8 @@ fn stage_one(
     b: &mut [Cell],
 ) -> u32
     requires { ⌜ InOrder reach call (now bed) ⌝ }
-    requires { ⌜ Room reach (now a) × Room reach (now d) × Room reach (now g) × FaceRoom reach (now f) × Room reach (now u) × Room reach (now b) ⌝ }
+    requires { ⌜ Room reach (now a) × Room reach (now d) × Room reach (now g) × FaceRoom reach (now f)
+        × Room reach (now u) × Room reach (now b) ⌝ }
     requires { ⌜ Ranged (now bed) (reach .n) (seen (now a)) ⌝ }
     ensures { λ k. ⌜ OneSays reach call (now (bed .entry)) (now (a .entry)) k (now (f .exit)) (now (b .exit)) ⌝ }
 {
@@ -109,7 +110,8 @@ fn stage_two(
     requires { ⌜ FaceRoom reach (now f) × FaceRoom reach (now h) ⌝ }
     requires { ⌜ Ranged (now bed) (reach .n) (seen (now a)) × Ranged (now bed) (reach .n) (seen (now b)) ⌝ }
     requires { ⌜ FaceRows (now f) (reach .n) ⌝ }
-    ensures { λ k. ⌜ TwoSays reach call (now (bed .entry)) (now (a .entry)) (now (f .entry)) (now (b .entry)) k (now (h .exit)) (now (b .exit)) ⌝ }
+    ensures { λ k. ⌜ TwoSays reach call (now (bed .entry)) (now (a .entry)) (now (f .entry)) (now (b .entry))
+        k (now (h .exit)) (now (b .exit)) ⌝ }
 {
     let k = stage(b, bed, reach, call, d, g, h, u);
     if k != 0 {
@@ -176,9 +178,11 @@ fn on_tables(
     out: &mut [Cell],
 ) -> Worked
     requires { ⌜ InOrder reach call (now bed) × (length (now state) ≡ 4 * reach .n) × (length (now friction) ≡ reach .n) ⌝ }
-    requires { ⌜ Room reach (now a) × Room reach (now d) × Room reach (now g) × Room reach (now u) × Room reach (now b) × Room reach (now out) ⌝ }
+    requires { ⌜ Room reach (now a) × Room reach (now d) × Room reach (now g) × Room reach (now u)
+        × Room reach (now b) × Room reach (now out) ⌝ }
     requires { ⌜ FaceRoom reach (now f) × FaceRoom reach (now h) ⌝ }
-    ensures { λ r. ⌜ TablesSay reach call (now (bed .entry)) (now (friction .entry)) (now (state .entry)) r (now (out .entry)) (now (out .exit)) ⌝ }
+    ensures { λ r. ⌜ TablesSay reach call (now (bed .entry)) (now (friction .entry)) (now (state .entry))
+        r (now (out .entry)) (now (out .exit)) ⌝ }
 {
     load(state, reach, a);
     let k = ready(a, bed, friction, reach);
@@ -205,7 +209,8 @@ fn short_step(
 ) -> Worked
     requires { ⌜ InOrder reach call (now bed) × (length (now state) ≡ 4 * reach .n) × (length (now friction) ≡ reach .n) ⌝ }
     requires { ⌜ (reach .n ≤ 64) × Room reach (now out) ⌝ }
-    ensures { λ r. ⌜ TablesSay reach call (now (bed .entry)) (now (friction .entry)) (now (state .entry)) r (now (out .entry)) (now (out .exit)) ⌝ }
+    ensures { λ r. ⌜ TablesSay reach call (now (bed .entry)) (now (friction .entry)) (now (state .entry))
+        r (now (out .entry)) (now (out .exit)) ⌝ }
 {
     let mut a = [[0i64; 4]; SHORT_CELLS];
     let mut d = [[0i64; 4]; SHORT_CELLS];
@@ -241,7 +246,8 @@ fn long_step(
 ) -> Worked
     requires { ⌜ InOrder reach call (now bed) × (length (now state) ≡ 4 * reach .n) × (length (now friction) ≡ reach .n) ⌝ }
     requires { ⌜ Room reach (now out) ⌝ }
-    ensures { λ r. ⌜ TablesSay reach call (now (bed .entry)) (now (friction .entry)) (now (state .entry)) r (now (out .entry)) (now (out .exit)) ⌝ }
+    ensures { λ r. ⌜ TablesSay reach call (now (bed .entry)) (now (friction .entry)) (now (state .entry))
+        r (now (out .entry)) (now (out .exit)) ⌝ }
 {
     let mut a = [[0i64; 4]; CELLS];
     let mut d = [[0i64; 4]; CELLS];
@@ -270,7 +276,8 @@ fn long_step(
 // One step from the lent state, bed and friction: the refusal's number, or the two end volumes and
 // the new cells in the first n places of `out`. Only an accepted step writes there.
 pub fn work(state: &[i32], bed: &[i32], friction: &[u16], given: Given, out: &mut [Cell]) -> Worked
-    ensures { λ r. ⌜ WorkedSays (lentBy (now (state .entry)) (now (bed .entry)) (now (friction .entry)) given (length (now (out .entry)))) r (now (out .entry)) (now (out .exit)) ⌝ }
+    ensures { λ r. ⌜ WorkedSays (lentBy (now (state .entry)) (now (bed .entry)) (now (friction .entry)) given (length (now (out .entry))))
+        r (now (out .entry)) (now (out .exit)) ⌝ }
 {
     let n = friction.len();
     if out.len() < n {

@@ -70,7 +70,10 @@ volume-size p q = b-up 210696667136 (b-quot-by (pos 2) (b-add p q)) tt
 -- a Gauss point's share of a slope is no larger than the slope
 pub share-size : {A : ℕ} (x : ℤ) → Within A x → Within A (share x)
 unfolding share
-share-size {A} x w = record { abs = small (natAbs x) (natAbs (quotZ (pos 37837 *ℤ x) (pos 65536))) (abs-quot (pos 37837 *ℤ x) (pos 65536) ∙ ap (λ (m : ℕ). m / 65536) (abs-mul (pos 37837) x)) (w .abs) }
+share-size {A} x w = record {
+  abs = small (natAbs x) (natAbs (quotZ (pos 37837 *ℤ x) (pos 65536)))
+      (abs-quot (pos 37837 *ℤ x) (pos 65536) ∙ ap (λ (m : ℕ). m / 65536) (abs-mul (pos 37837) x)) (w .abs);
+}
   where
     small : (m q : ℕ) → q ≡ 37837 * m / 65536 → m ≤ A → q ≤ A
     small m q e l = omega arith
@@ -93,8 +96,10 @@ module _ (m d : ℤ) (l : pos 0 ≤ℤ (m -ℤ d)) (l′ : (m -ℤ d) ≤ℤ dee
 
   span : (pos 0 ≤ℤ (m -ℤ pos (natAbs d))) × ((m +ℤ pos (natAbs d)) ≤ℤ deepest)
   span = let k = lit (natAbs d) in (
-    le! (lit 0) (at m ⊟ k) (⊎-elim (λ z. omega (arith, abs-parts d, le? (lit 0) (at m ⊞ at d) r)) (λ z. omega (arith, abs-parts d, le? (lit 0) (at m ⊟ at d) l)) (one-part d)),
-    le! (at m ⊞ k) (lit 262144) (⊎-elim (λ z. omega (arith, abs-parts d, le? (at m ⊟ at d) (lit 262144) l′)) (λ z. omega (arith, abs-parts d, le? (at m ⊞ at d) (lit 262144) r′)) (one-part d)),
+    le! (lit 0) (at m ⊟ k) (⊎-elim (λ z. omega (arith, abs-parts d, le? (lit 0) (at m ⊞ at d) r))
+        (λ z. omega (arith, abs-parts d, le? (lit 0) (at m ⊟ at d) l)) (one-part d)),
+    le! (at m ⊞ k) (lit 262144) (⊎-elim (λ z. omega (arith, abs-parts d, le? (at m ⊟ at d) (lit 262144) l′))
+        (λ z. omega (arith, abs-parts d, le? (at m ⊞ at d) (lit 262144) r′)) (one-part d)),
   )
 
   near : (e : ℤ) → Within (natAbs d) e → (pos 0 ≤ℤ (m -ℤ e)) × ((m -ℤ e) ≤ℤ deepest) × (pos 0 ≤ℤ (m +ℤ e)) × ((m +ℤ e) ≤ℤ deepest)
@@ -111,7 +116,10 @@ module _ (m d : ℤ) (l : pos 0 ≤ℤ (m -ℤ d)) (l′ : (m -ℤ d) ≤ℤ dee
 module _ (m d : ℤ) (l : Within 8388608 (m -ℤ d)) (r : Within 8388608 (m +ℤ d)) where
   pub reach : natAbs m + natAbs d ≤ 8388608
   reach = let p = range-b l in let q = range-b r in let k = lit 8388608 in
-      let a = le? (⊖ k) (at m ⊟ at d) (p .0) in let b = le? (at m ⊟ at d) k (p .1) in let e = le? (⊖ k) (at m ⊞ at d) (q .0) in let f = le? (at m ⊞ at d) k (q .1) in
+      let a = le? (⊖ k) (at m ⊟ at d) (p .0) in
+      let b = le? (at m ⊟ at d) k (p .1) in
+      let e = le? (⊖ k) (at m ⊞ at d) (q .0) in
+      let f = le? (at m ⊞ at d) k (q .1) in
       ⊎-elim (λ z. ⊎-elim (λ y. omega (arith, abs-parts m, abs-parts d)) (λ y. omega (arith, abs-parts m, abs-parts d)) (one-part d))
       (λ z. ⊎-elim (λ y. omega (arith, abs-parts m, abs-parts d)) (λ y. omega (arith, abs-parts m, abs-parts d)) (one-part d)) (one-part m)
 
@@ -162,7 +170,12 @@ cell-sizes {b} {x} i =
     let e1 : Within 1179648 (x .e1) = subst (Within 1179648) (back (x .e1) (z1 b)) (b-add d-size tilt) in
     let q0 = flow-mean (x .q0) (x .q1) p q in let q1 = flow-slope (x .q0) (x .q1) p q in
     record {
-      wide = record { e0 = b-up 70368744177664 e0 tt; e1 = b-up 70368744177664 e1 tt; q0 = b-up 70368744177664 q0 tt; q1 = b-up 70368744177664 q1 tt };
+      wide = record {
+        e0 = b-up 70368744177664 e0 tt;
+        e1 = b-up 70368744177664 e1 tt;
+        q0 = b-up 70368744177664 q0 tt;
+        q1 = b-up 70368744177664 q1 tt;
+      };
       e0 = e0;
       e1 = e1;
       q0 = q0;

@@ -26,7 +26,8 @@ drag-nonneg : (dt f h u : ℤ) → pos 0 ≤ℤ dt → pos 0 ≤ℤ h → pos 0 
 unfolding drag cube
 drag-nonneg dt f h u p q =
     quot-nonneg (pos 256 *ℤ pos 981 *ℤ dt *ℤ (f *ℤ f) *ℤ sizeZ u) (pos 390625 *ℤ h *ℤ cube h)
-    (mul-nonneg (pos 256 *ℤ pos 981 *ℤ dt *ℤ (f *ℤ f)) (sizeZ u) (mul-nonneg (pos 256 *ℤ pos 981 *ℤ dt) (f *ℤ f) (mul-nonneg (pos 251136) dt (le-lit (pos 0) (pos 251136) tt) p) (square f)) (size-nonneg u))
+    (mul-nonneg (pos 256 *ℤ pos 981 *ℤ dt *ℤ (f *ℤ f)) (sizeZ u) (mul-nonneg (pos 256 *ℤ pos 981 *ℤ dt) (f *ℤ f)
+    (mul-nonneg (pos 251136) dt (le-lit (pos 0) (pos 251136) tt) p) (square f)) (size-nonneg u))
     (mul-nonneg (pos 390625 *ℤ h) (cube h) (mul-nonneg (pos 390625) h (le-lit (pos 0) (pos 390625) tt) q) (nat-nonneg _))
   where
     square : (f : ℤ) → pos 0 ≤ℤ (f *ℤ f)
@@ -38,7 +39,8 @@ slowed-size : (x q : ℤ) → pos 0 ≤ℤ x → natAbs (slowed x q) ≤ natAbs 
 unfolding slowed
 slowed-size x q p =
     let a = pos 65536 +ℤ x in let b = pos 65536 +ℤ pos 2 *ℤ x in
-    NatL.le-trans (NatL.le-of-eq (abs-quot (q *ℤ a) b ∙ ap (λ (m : ℕ). m / natAbs b) (abs-mul q a))) (share-le (natAbs q) (natAbs a) (natAbs b) (below x p))
+    NatL.le-trans (NatL.le-of-eq (abs-quot (q *ℤ a) b ∙ ap (λ (m : ℕ). m / natAbs b) (abs-mul q a)))
+    (share-le (natAbs q) (natAbs a) (natAbs b) (below x p))
   where
     below : (x : ℤ) → pos 0 ≤ℤ x → natAbs (pos 65536 +ℤ x) ≤ natAbs (pos 65536 +ℤ pos 2 *ℤ x)
     below (pos n) h = omega arith
@@ -48,7 +50,8 @@ rub-size : (dt f : ℤ) (b : Bed) (x : Cell) (q : ℤ) → pos 0 ≤ℤ dt → n
 unfolding rub
 rub-size dt f b x q p = let h = h0 b x in let d = drag dt f h (speed dryDepth (x .q0) h) in
     cond-ind (leZ h dryDepth) q (slowed d q) (λ z. natAbs z ≤ natAbs q) (λ e. omega arith)
-    (λ e. slowed-size d q (drag-nonneg dt f h (speed dryDepth (x .q0) h) p (lt-le (le-lt-trans (le-lit (pos 0) dryDepth tt) (le-no h dryDepth e)))))
+    (λ e. slowed-size d q
+    (drag-nonneg dt f h (speed dryDepth (x .q0) h) p (lt-le (le-lt-trans (le-lit (pos 0) dryDepth tt) (le-no h dryDepth e)))))
 
 pub rubbed-inside : (dt f : ℤ) (b : Bed) (x : Cell) → pos 0 ≤ℤ dt → Inside b x → Inside b (rubbedCell dt dryDepth f b x)
 unfolding rubbedCell hl hr h0 h1

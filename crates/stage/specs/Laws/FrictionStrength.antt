@@ -3,7 +3,8 @@
 use native.Mathlib.Omega.{arith}
 use lib.IntN.{ℤ, pos, _*ℤ_}
 use lib.Signed.{_≤ℤ_, _<ℤ_}
-use Rattle.whole.specs.Parts.{Within, b-mul, b-lit, b-up, b-nonneg, cross, le-lit, le-trans, lt-le, le-lt-trans, lt-le-trans, lt-suc, nat-nonneg}
+use Rattle.whole.specs.Parts.{Within, b-mul, b-lit, b-up, b-nonneg, cross, le-lit, le-trans}
+use Rattle.whole.specs.Parts.{lt-le, le-lt-trans, lt-le-trans, lt-suc, nat-nonneg}
 use Rattle.whole.specs.Difference.{lit, nonneg, _⊠_, le!, le?, mul-nonneg}
 use Rattle.whole.specs.Quotient.{quot-nonneg, b-quot-ge}
 use Rattle.whole.specs.Choice.{sizeZ, size-nonneg, b-size}
@@ -24,7 +25,8 @@ module _ (h : ℤ) (low : dryDepth <ℤ h) (high : h ≤ℤ deepest) where
   divisor-least =
       let c : pos 256 ≤ℤ cube h = cube-least h wet wet-size in
       let x = nonneg (lt-le wet) in let y = nonneg (le-trans (nat-nonneg 256) c) in
-      le! (lit 500000000) (lit 390625 ⊠ x ⊠ y) (omega (arith, cross (le? (lit 5) x (lt-suc low)) (le? (lit 256) y c), le? (lit 5) x (lt-suc low), le? (lit 256) y c))
+      le! (lit 500000000) (lit 390625 ⊠ x ⊠ y)
+      (omega (arith, cross (le? (lit 5) x (lt-suc low)) (le? (lit 256) y c), le? (lit 5) x (lt-suc low), le? (lit 256) y c))
 
   pub divisor-pos : pos 0 <ℤ (pos 390625 *ℤ h *ℤ cube h)
   divisor-pos = lt-le-trans (record { lt = tt }) divisor-least
@@ -34,10 +36,12 @@ module _ (h : ℤ) (low : dryDepth <ℤ h) (high : h ≤ℤ deepest) where
   drag-least dt f u p q =
       quot-nonneg (pos 256 *ℤ pos 981 *ℤ dt *ℤ (f *ℤ f) *ℤ sizeZ u) (pos 390625 *ℤ h *ℤ cube h)
       (mul-nonneg (pos 256 *ℤ pos 981 *ℤ dt *ℤ (f *ℤ f)) (sizeZ u)
-      (mul-nonneg (pos 256 *ℤ pos 981 *ℤ dt) (f *ℤ f) (mul-nonneg (pos 256 *ℤ pos 981) dt (nat-nonneg 251136) p) (mul-nonneg f f q q)) (size-nonneg u))
+      (mul-nonneg (pos 256 *ℤ pos 981 *ℤ dt) (f *ℤ f) (mul-nonneg (pos 256 *ℤ pos 981) dt (nat-nonneg 251136) p) (mul-nonneg f f q q))
+      (size-nonneg u))
       (lt-le divisor-pos)
 
   pub drag-most : (dt f u : ℤ) → Within 4096 dt → Within 200 f → Within 131072 u → Within 10786209068 (drag dt f h u)
   unfolding drag
   drag-most dt f u p q r =
-      b-up 10786209068 (b-quot-ge 499999999 (b-mul (b-mul (b-mul (b-lit (pos 256 *ℤ pos 981)) p) (b-mul q q)) (b-size u r)) divisor-least) tt
+      b-up 10786209068 (b-quot-ge 499999999 (b-mul (b-mul (b-mul (b-lit (pos 256 *ℤ pos 981)) p) (b-mul q q)) (b-size u r)) divisor-least)
+      tt

@@ -24,7 +24,8 @@ use Rattle.stage.specs.Says.{readyChecks}
 
 -- ---- what a passed check gives
 between : (m : ℕ) (z : ℤ) → outside (pos 0) (pos m) z ≡ false → Within m z
-between m z e = b-nonneg (lt-no z (pos 0) (or-l (ltZ z (pos 0)) (ltZ (pos m) z) e)) (lt-no (pos m) z (or-r (ltZ z (pos 0)) (ltZ (pos m) z) e))
+between m z e =
+    b-nonneg (lt-no z (pos 0) (or-l (ltZ z (pos 0)) (ltZ (pos m) z) e)) (lt-no (pos m) z (or-r (ltZ z (pos 0)) (ltZ (pos m) z) e))
 
 pub grounds : (n : ℕ) (bed : List ℤ) → some (λ i. badBed (getD bed i (pos 0))) (suc n) ≡ false → Grounds bed n
 unfolding badBed
@@ -32,7 +33,8 @@ grounds n bed e i l = record { zl = value i (omega arith); zr = value (suc i) (o
   where
     value : (j : ℕ) → j < suc n → Within 1048576 (getD bed j (pos 0))
     value j m = let z = getD bed j (pos 0) in
-        between 1048576 z (or-l (outside (pos 0) highestBed z) (not (eqb (natAbs z % 2) 0)) (some-none (λ i. badBed (getD bed i (pos 0))) (suc n) e j m))
+        between 1048576 z
+        (or-l (outside (pos 0) highestBed z) (not (eqb (natAbs z % 2) 0)) (some-none (λ i. badBed (getD bed i (pos 0))) (suc n) e j m))
 
 pub ranged : (n : ℕ) (bed : List ℤ) (s : State) → Grounds bed n → some (λ i. offCell (bedAt bed i) (s i)) n ≡ false → Ranged bed n s
 ranged n bed s g e i l = record { ground = g i l; range = some-none (λ i. offCell (bedAt bed i) (s i)) n e i l }
@@ -57,8 +59,11 @@ module _ (n : ℕ) (bed : List ℤ) (friction : List ℕ) (s : State) (f : 0 ≡
   lent-slow = slows n bed friction s (passed 1) (passed 3)
 
 -- states that agree in the reach pass the same checks
-pub ready-same : (n : ℕ) (bed : List ℤ) (friction : List ℕ) (s t : State) → ((i : ℕ) → i < n → s i ≡ t i) → readyChecks n bed friction s ≡ readyChecks n bed friction t
+pub ready-same : (n : ℕ) (bed : List ℤ) (friction : List ℕ) (s t : State) → ((i : ℕ) → i < n → s i ≡ t i)
+    → readyChecks n bed friction s ≡ readyChecks n bed friction t
 ready-same n bed friction s t e =
     let a = some-same (λ i. offCell (bedAt bed i) (s i)) (λ i. offCell (bedAt bed i) (t i)) n (λ i l. ap (offCell (bedAt bed i)) (e i l)) in
-    let b = some-same (λ i. fastCell dryDepth (bedAt bed i) (s i)) (λ i. fastCell dryDepth (bedAt bed i) (t i)) n (λ i l. ap (fastCell dryDepth (bedAt bed i)) (e i l)) in
-    λ k. chk 3 (some (λ i. badBed (getD bed i (pos 0))) (suc n)) ∷ chk 4 (some (λ i. badRough (pos (getD friction i 0))) n) ∷ chk 5 (a k) ∷ chk 6 (b k) ∷ []
+    let b = some-same (λ i. fastCell dryDepth (bedAt bed i) (s i)) (λ i. fastCell dryDepth (bedAt bed i) (t i)) n
+    (λ i l. ap (fastCell dryDepth (bedAt bed i)) (e i l)) in
+    λ k. chk 3 (some (λ i. badBed (getD bed i (pos 0))) (suc n)) ∷ chk 4 (some (λ i. badRough (pos (getD friction i 0))) n) ∷ chk 5 (a k)
+    ∷ chk 6 (b k) ∷ []

@@ -32,7 +32,8 @@ inside k m x h e =
     let low = lt-no x k (or-l (ltZ x k) (ltZ (pos m) x) e) in
     (low, b-nonneg (le-trans h low) (lt-no (pos m) x (or-r (ltZ x k) (ltZ (pos m) x) e)))
 
-pub numbers : (reach : Reach) (call : Call) (bed : List ℤ) (ρ : ℕ → ℤ) → badCall (reachIn reach bed) (callOn call ρ) ≡ false → Numbers reach call
+pub numbers : (reach : Reach) (call : Call) (bed : List ℤ) (ρ : ℕ → ℤ) → badCall (reachIn reach bed) (callOn call ρ) ≡ false
+    → Numbers reach call
 unfolding badCall
 numbers reach call bed ρ e =
     let tests = outside (pos 1) longestCell (reach .dx) ∷ outside (pos 1) longestStep (call .dt) ∷ outside (pos 0) largestJump (call .jump)
@@ -67,7 +68,8 @@ module _ (state bed : List ℤ) (friction : List ℕ) (given : Given) (size : �
 
   pub short-number : size < n → number lent ≡ 1
   short-number l = first-number lent
-      (ap (λ (k : Bool). misfit (length state) (cond k (4 * n) 0) (length bed) n) (fails (leb n size) (λ t. let h = leb→le n size t in let z : ⊥ = omega arith in z))
+      (ap (λ (k : Bool). misfit (length state) (cond k (4 * n) 0) (length bed) n)
+      (fails (leb n size) (λ t. let h = leb→le n size t in let z : ⊥ = omega arith in z))
       ∙ wrong-room (length state) 0 (length bed) n (λ e. let z : ⊥ = omega arith in z))
 
   module _ (l : n ≤ size) where
@@ -78,7 +80,8 @@ module _ (state bed : List ℤ) (friction : List ℕ) (given : Given) (size : �
     length-number e = first-number lent (roomed ∙ e)
 
     module _ (e : misfit (length state) (4 * n) (length bed) n ≡ false) where
-      after : number lent ≡ verdict (chk 2 (badCall (reachOf lent) (callOf lent)) ∷ readyChecks n bed friction (stateOf lent) ++ bothChecks (reachOf lent) (callOf lent) (stateOf lent))
+      after : number lent ≡ verdict (chk 2 (badCall (reachOf lent) (callOf lent)) ∷ readyChecks n bed friction (stateOf lent)
+          ++ bothChecks (reachOf lent) (callOf lent) (stateOf lent))
       unfolding refusal checks early stageChecks off fastFriction
       after = later-number lent (roomed ∙ e)
 

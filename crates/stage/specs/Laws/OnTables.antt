@@ -17,7 +17,7 @@ use Rattle.rules.specs.Laws.Verdicts.{stopped, went-on}
 use Rattle.reach.specs.declared.Reach.{Reach as ToldReach}
 use Rattle.reach.specs.declared.Call.{Call as ToldCall}
 use Rattle.reach.specs.Told.{reachIn, callOn, bedAt}
-use Rattle.stage.specs.Rows.{volumeAt}
+use Rattle.stage.specs.Rows.{volumeAt, rubbedAt}
 use Rattle.stage.specs.Ranges.{Inside, Ranged, Slows}
 use Rattle.stage.specs.Says.{readyChecks, bothChecks, Shows, StepSays}
 use Rattle.stage.specs.Worked.{Volume, TablesSay}
@@ -28,7 +28,8 @@ use Rattle.stage.specs.Laws.LentChecks.{lent-ranged, lent-slow, ready-sa
 use Rattle.stage.specs.Laws.TwoStages.{volume-is}
 
 -- the state lent for a step, as the table a has it, and the number k of the checks before the stages
-pub record Lent (reach : ToldReach) (call : ToldCall) (bed : List ℤ) (friction : List ℕ) (state : List ℤ) (a : List (List ℤ)) (k : ℕ) : Type 0 where
+pub record Lent (reach : ToldReach) (call : ToldCall) (bed : List ℤ) (friction : List ℕ) (state : List ℤ) (a : List (List ℤ))
+    (k : ℕ) : Type 0 where
   pub cells : Holds a (reach .n) (cellAt state)
   pub number : k ≡ verdict (readyChecks (reach .n) bed friction (seen a))
 
@@ -68,7 +69,7 @@ module _
     loaded-slow = lent-slow n bed friction (seen a) (sym z ∙ lent .number)
 
     -- t has it after friction
-    module _ {t : List (List ℤ)} (f : Filled [] a t n (λ i. asList (rubbedCell (call .dt) dryDepth (rough i) (bedAt bed i) (seen a i)))) where
+    module _ {t : List (List ℤ)} (f : Filled [] a t n (λ i. asList (rubbedAt call friction bed (seen a) i))) where
       pub rubbed-shown : Shows r t (rubbed r c s)
       unfolding rubbed
       rubbed-shown i l =

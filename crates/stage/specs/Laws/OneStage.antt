@@ -82,14 +82,17 @@ module _ {reach : Reach} {call : Call} {bed : List ℤ} {s : State} {d : List (L
     -- its last check
     pub says-long : some (longAt reach call d) (suc n) ≡ true → 7 ≡ verdict (stageChecks r c s)
     unfolding stageChecks fastGauss
-    says-long h = stops-at (stageChecks r c s) 2 (sides-pass reach call bed s ρ (p .least) (p .slow-sides), (p .slow-points, tt)) (sym long-is ∙ h)
+    says-long h =
+        stops-at (stageChecks r c s) 2 (sides-pass reach call bed s ρ (p .least) (p .slow-sides), (p .slow-points, tt)) (sym long-is ∙ h)
 
     pub says-none : some (longAt reach call d) (suc n) ≡ false → 0 ≡ verdict (stageChecks r c s)
     unfolding stageChecks fastGauss
-    says-none h = none-stops (stageChecks r c s) (sides-pass reach call bed s ρ (p .least) (p .slow-sides), (p .slow-points, (sym long-is ∙ h, tt)))
+    says-none h =
+        none-stops (stageChecks r c s) (sides-pass reach call bed s ρ (p .least) (p .slow-sides), (p .slow-points, (sym long-is ∙ h, tt)))
 
     -- ---- what it leaves
-    module _ (x : List (List ℤ)) (g : List ℤ) (wx : Written [] x (suc n) (faceRowAt reach call d)) (wg : Written (pos 0) g n (momentumAt bed s)) where
+    module _ (x : List (List ℤ)) (g : List ℤ) (wx : Written [] x (suc n) (faceRowAt reach call d))
+        (wg : Written (pos 0) g n (momentumAt bed s)) where
       faces : FacesOf r c s x
       faces = record { rows = λ i l. wx i l ∙ ap (faceRow (reach .dx) (call .dt)) (face-is i l); sized = rows-sized x wx }
 

@@ -74,7 +74,8 @@ module _ (reach : Reach) (call : Call) (bed : List ℤ) (ρ : ℕ → ℤ) (s : 
     one-fast i l false false p q e = clash e
 
     -- the two sides of a cell of which none is too fast
-    slow-sides : some (fastSides bed s) n ≡ false → (i : ℕ) → i < n → (fastSide (atLeft r c s i) ≡ false) × (fastSide (atRight r c s i) ≡ false)
+    slow-sides : some (fastSides bed s) n ≡ false → (i : ℕ) → i < n
+        → (fastSide (atLeft r c s i) ≡ false) × (fastSide (atRight r c s i) ≡ false)
     unfolding fastSides
     slow-sides e i l = let f = some-none (fastSides bed s) n e i l in
         (or-l (fastSide (atLeft r c s i)) (fastSide (atRight r c s i)) f, or-r (fastSide (atLeft r c s i)) (fastSide (atRight r c s i)) f)
@@ -93,7 +94,8 @@ module _ (reach : Reach) (call : Call) (bed : List ℤ) (ρ : ℕ → ℤ) (s : 
         (λ e. e ∙ sym (none-some (fastFace r c s) (suc n) (none-fast e)))
 
   -- ---- what crosses the faces of a table of sides is what crosses the faces of the state
-  pub cross-at : (d : List (List ℤ)) → Written [] d n (sidesAt bed s) → 0 < n → (i : ℕ) → i < suc n → crossAt reach call d i ≡ faceAt r c s i
+  pub cross-at : (d : List (List ℤ)) → Written [] d n (sidesAt bed s) → 0 < n → (i : ℕ) → i < suc n
+      → crossAt reach call d i ≡ faceAt r c s i
   unfolding crossAt faceAt faceRight leftEnd rightEnd
   cross-at d w o zero l = ap (λ (x : Side). face (outer (call .left) x) x) (left-in n bed s d w zero o)
   cross-at d w o (suc i) l = let right = right-in n bed s d w i (omega arith) in

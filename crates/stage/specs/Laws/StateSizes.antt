@@ -81,7 +81,12 @@ small-wide w = record { e0 = b-up 70368744177664 (w .e0) tt; e1 = b-up 703687441
 
 pub inside-small : {b : Bed} {x : Cell} → Inside b x → Small x
 inside-small i = let q = cell-sizes i in
-    record { e0 = b-up 2199023255552 (q .e0) tt; e1 = b-up 2199023255552 (q .e1) tt; q0 = b-up 70368744177664 (q .q0) tt; q1 = b-up 70368744177664 (q .q1) tt }
+    record {
+      e0 = b-up 2199023255552 (q .e0) tt;
+      e1 = b-up 2199023255552 (q .e1) tt;
+      q0 = b-up 70368744177664 (q .q0) tt;
+      q1 = b-up 70368744177664 (q .q1) tt;
+    }
 
 pub joined-small : {b : Bed} (x y : Cell) (f g h k : List ℤ) → Inside b x → Small y → Row f → Row g → Row h → Row k
     → Small (joinedCell x y (half (volumeOf f) (volumeOf g)) (half (volumeOf h) (volumeOf k)))
@@ -103,14 +108,15 @@ shown-small n s u h w i l = subst (λ (m : List ℤ). Small (asCell m)) (sym (h 
 pub done-small : {r : Reach} {c : Call} {s : State} {f u : List (List ℤ)} → StageDone r c s f u → Smalls (r .n) (seen u)
 done-small {r} {c} {s} {f} {u} d = shown-small (r .n) (stage r c s) u (d .cells) (d .small)
 
-pub join-small : {n : ℕ} {a y : State} {f h j : List (List ℤ)} (bed : List ℤ) → JoinSays n a y f h j → Ranged bed n a → Smalls n y → FaceRows f n → FaceRows h n
-    → Smalls n (seen j)
+pub join-small : {n : ℕ} {a y : State} {f h j : List (List ℤ)} (bed : List ℤ) → JoinSays n a y f h j → Ranged bed n a → Smalls n y
+    → FaceRows f n → FaceRows h n → Smalls n (seen j)
 join-small {n} {a} {y} {f} {h} {j} bed d ra w p q = shown-small n (joinAt a y f h) j (d .cells)
     (λ i l. joined-small (a i) (y i) (getD f i []) (getD h i []) (getD f (suc i) []) (getD h (suc i) []) (ra i l) (w i l)
     (p i (omega arith)) (q i (omega arith)) (p (suc i) (omega arith)) (q (suc i) (omega arith)))
 
 -- ---- finished states
-pub finish-wide : (r : Reach) (c : Call) (s : State) (i : ℕ) (b : Bed) → Ground b → Small (s i) → Wide (dried (c .dry) b (cut b (limit r c s i)))
+pub finish-wide : (r : Reach) (c : Call) (s : State) (i : ℕ) (b : Bed) → Ground b → Small (s i)
+    → Wide (dried (c .dry) b (cut b (limit r c s i)))
 unfolding dried cut limit h0 h1 z0 z1
 finish-wide r c s i b g w =
     let y = limit r c s i in let m = h0 b y in let d = h1 b y in

@@ -28,7 +28,8 @@ module _ (r : Reach) (c : Call) (o : 0 < r .n) where
     number = one .number ∙ ap verdict (stageChecks-same r c o (seen a) s e)
 
     pub half-stops : (k ≡ 0 → ⊥) → (g b : List (List ℤ)) → HalfSays r c s t k g b
-    half-stops h g b = record { number = stopped (stageChecks r c s) (chk 8 (some (off r t) (r .n)) ∷ []) k number h; done = λ z. absurd (h z) }
+    half-stops h g b =
+        record { number = stopped (stageChecks r c s) (chk 8 (some (off r t) (r .n)) ∷ []) k number h; done = λ z. absurd (h z) }
 
     -- or go on and end with a state v that is finished to t
     pub half-ends : k ≡ 0 → (v : State) (m : ℕ) (b : List (List ℤ)) → Same r (finish r c v) t → EndSays r c v m b → HalfSays r c s t m f b
@@ -48,9 +49,11 @@ module _ (r : Reach) (c : Call) (o : 0 < r .n) where
     pub one-state : (f u : List (List ℤ)) → StageDone r c (seen a) f u → Same r (finish r c (seen u)) (stageOne r c s)
     unfolding stageOne
     one-state f u d =
-        finish-same r c (seen u) (stage r c (rubbed r c s)) (λ i l. ap asCell (d .cells i l) ∙ stage-same r c (seen a) (rubbed r c s) sa i l)
+        finish-same r c (seen u) (stage r c (rubbed r c s))
+        (λ i l. ap asCell (d .cells i l) ∙ stage-same r c (seen a) (rubbed r c s) sa i l)
 
-    module _ (b f h u j : List (List ℤ)) (sb : Shows r b (stageOne r c s)) (ff : FacesOf r c (rubbed r c s) f) (d : StageDone r c (seen b) h u)
+    module _ (b f h u j : List (List ℤ)) (sb : Shows r b (stageOne r c s)) (ff : FacesOf r c (rubbed r c s) f)
+        (d : StageDone r c (seen b) h u)
         (joint : JoinSays (r .n) (seen a) (seen u) f h j) where
       -- W at face i, and the cell after stage two
       across : (i : ℕ) → i < suc (r .n) → volumeAt f h i ≡ carry r c s i
@@ -80,7 +83,8 @@ module _ (r : Reach) (c : Call) (o : 0 < r .n) where
     unfolding stageChecks
     both-end z m h y two = record {
       number = two .number
-          ∙ went-on (halfChecks r c (rubbed r c s) (stageOne r c s)) (halfChecks r c (stageOne r c s) (next r c s)) tt (sym z ∙ one .number);
+          ∙ went-on (halfChecks r c (rubbed r c s) (stageOne r c s)) (halfChecks r c (stageOne r c s) (next r c s)) tt
+          (sym z ∙ one .number);
       done = λ e. record { one = one .done z .faces; two = two .done e .faces; cells = two .done e .cells };
     }
 

@@ -24,7 +24,8 @@ outside-requires c κs = search needs
 
 returns : tie.Need-returns
 returns c = let s = c .before .before in
-    yes-or (outside (pos 0) deepest (s .args .m -ℤ s .args .s)) (outside (pos 0) deepest (s .args .m +ℤ s .args .s)) (sym (first (c .before)) ∙ c .if1 .taken)
+    yes-or (outside (pos 0) deepest (s .args .m -ℤ s .args .s)) (outside (pos 0) deepest (s .args .m +ℤ s .args .s))
+    (sym (first (c .before)) ∙ c .if1 .taken)
 
 add-outside : tie.Need-add-outside
 add-outside c = need (env (c .before .before)) (v 0 ⊕ v 1) tt
@@ -35,7 +36,8 @@ outside-requires-2 c κs = search needs
 returns-2 : tie.Need-returns-2
 returns-2 c = let b = c .before in let s = b .before .before in
     c .outside2 .ensures ∙ ap (λ (z : ℤ). outside (pos 0) deepest z) (value (env s) (v 0 ⊕ v 1) tt)
-    ∙ no-or (outside (pos 0) deepest (s .args .m -ℤ s .args .s)) (outside (pos 0) deepest (s .args .m +ℤ s .args .s)) (sym (first (b .before)) ∙ b .if1 .left)
+    ∙ no-or (outside (pos 0) deepest (s .args .m -ℤ s .args .s)) (outside (pos 0) deepest (s .args .m +ℤ s .args .s))
+    (sym (first (b .before)) ∙ b .if1 .left)
 
 pub off-depths-spec : {M : Type 1} → statement M
 off-depths-spec = tie.close (tie.spec sub-outside outside-requires returns add-outside outside-requires-2 returns-2)

@@ -29,7 +29,8 @@ returns-4 : tie.Need-returns-4
 unfolding misfit any
 returns-4 c =
     let f = c .before in let e = f .before in let m = 4 * e .before .before .args .n in
-    rw (ne-eqb _ _ (e .before .if1 .left), le-ltb _ _ (e .if2 .left), eq-eqb _ _ (f .if3 .left), eq-eqb m m refl, ne-eqb _ _ (c .if4 .taken))
+    rw
+    (ne-eqb _ _ (e .before .if1 .left), le-ltb _ _ (e .if2 .left), eq-eqb _ _ (f .if3 .left), eq-eqb m m refl, ne-eqb _ _ (c .if4 .taken))
 
 returns-5 : tie.Need-returns-5
 unfolding misfit any

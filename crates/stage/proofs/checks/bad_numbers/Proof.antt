@@ -14,12 +14,15 @@ use Rattle.stage.proofs.checks.bad_numbers.Tie as tie
 
 -- ---- the three tests of numbers, and what is known past each
 length-test : (o : tie.After-outside) → outside (pos 1) longestCell (o .before .before .args .reach .dx) ≡ o .outside .result
-length-test o = let k = o .before in sym (rw (back {z = k .before .args .reach .dx} (k .struct-told .given .1 .0 .1)) at (o .outside .ensures))
+length-test o =
+    let k = o .before in
+    sym (rw (back {z = k .before .args .reach .dx} (k .struct-told .given .1 .0 .1)) at (o .outside .ensures))
 
 length-in : (c : tie.Else1) → outside (pos 1) longestCell (c .before .before .before .args .reach .dx) ≡ false
 length-in c = length-test (c .before) ∙ c .if1 .left
 
-step-test : (o : tie.After-outside2) → outside (pos 1) longestStep (o .before .before .before .before .before .args .call .dt) ≡ o .outside2 .result
+step-test : (o : tie.After-outside2)
+    → outside (pos 1) longestStep (o .before .before .before .before .before .args .call .dt) ≡ o .outside2 .result
 step-test o = let k = o .before in let s = k .before .before .before .before in
     sym (rw (back {z = s .args .call .dt} (k .struct-told2 .given .0 .1)) at (o .outside2 .ensures))
 
@@ -41,7 +44,10 @@ returns-2 c bed ρ = let o = c .before in rw (length-in (o .before .before), ste
 
 returns-3 : tie.Need-returns-3
 unfolding badCall any
-returns-3 c bed ρ = let o = c .before in let e = o .before .before in rw (length-in (e .before .before .before), step-in e, jump-test o ∙ c .if3 .taken)
+returns-3 c bed ρ =
+    let o = c .before in
+    let e = o .before .before in
+    rw (length-in (e .before .before .before), step-in e, jump-test o ∙ c .if3 .taken)
 
 returns-4 : tie.Need-returns-4
 unfolding badCall any
@@ -52,10 +58,14 @@ returns-4 c bed ρ =
 returns-5 : tie.Need-returns-5
 unfolding badCall any
 returns-5 c bed ρ =
-    let h = c .before in let f = h .before .before in let e = f .before .before .before in let s = e .before .before .before .before .before .before in
+    let h = c .before in
+    let f = h .before .before in
+    let e = f .before .before .before in
+    let s = e .before .before .before .before .before .before in
     rw (length-in (e .before .before .before), step-in e, jump-test (f .before) ∙ f .if3 .left, le-ltb _ _ (h .if4 .left))
     (or-last (ltb 1 (s .args .call .right)))
 
 pub bad-numbers-spec : {M : Type 1} → statement M
 bad-numbers-spec =
-    tie.close (tie.spec (λ c κs. search needs) returns (λ c κs. search needs) returns-2 (λ c κs. search needs) returns-3 returns-4 returns-5)
+    tie.close
+    (tie.spec (λ c κs. search needs) returns (λ c κs. search needs) returns-2 (λ c κs. search needs) returns-3 returns-4 returns-5)

@@ -31,11 +31,14 @@ loop-holds c = (omega arith, clear-none _)
 fast-cell-requires : tie.Need-fast-cell-requires Inv-loop μ-loop
 fast-cell-requires c κs =
     let b = c .before in let e = b .before in let l = e .before in let s = l .before in
-    subst (λ (z : Bed). Inside z (seen (now (s .args .t)) (l .loop .i))) (sym (b .under .ensures)) (s .pre .1 (l .loop .i) (e .loop-test .taken))
+    subst (λ (z : Bed). Inside z (seen (now (s .args .t)) (l .loop .i))) (sym (b .under .ensures))
+    (s .pre .1 (l .loop .i) (e .loop-test .taken))
 
 -- what the test of this turn says
 here : (c : tie.After-fast-cell Inv-loop μ-loop) →
-    let l = c .before .before .before .before in let s = l .before in bad (now (s .args .t)) (now (s .args .bed)) (l .loop .i) ≡ c .fast-cell .result
+    let l = c .before .before .before .before in
+    let s = l .before in
+    bad (now (s .args .t)) (now (s .args .bed)) (l .loop .i) ≡ c .fast-cell .result
 here c =
     let b = c .before .before in let l = b .before .before in let s = l .before in
     sym (c .fast-cell .ensures ∙ (λ j. fastCell dryDepth (b .under .ensures j) (seen (now (s .args .t)) (l .loop .i))))

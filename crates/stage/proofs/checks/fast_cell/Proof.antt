@@ -38,7 +38,10 @@ array-copy-out-speed-of-2 c = search needs
 speed-of-requires : tie.Need-speed-of-requires
 speed-of-requires c κs =
     let d = c .before .before in let s = d .before in let m = keeps s in
-    rw (back {z = cell s .q0} (c .before .speed-of-arg .given), back64 {z = getD (d .depths .result) 0 (pos 0)} (c .speed-of-arg2 .given) (mean d))
+    rw (
+      back {z = cell s .q0} (c .before .speed-of-arg .given),
+      back64 {z = getD (d .depths .result) 0 (pos 0)} (c .speed-of-arg2 .given) (mean d),
+    )
     (m .q0, (m .mean, m .mean-most))
 
 past-requires : tie.Need-past-requires
@@ -49,7 +52,8 @@ unfolding fastCell
 returns c =
     let u = c .before in let a = u .before in let d = a .before .before in let s = d .before in
     c .past .ensures ∙ ap (past fastest) (back64 (u .speed-of .ok) (u .speed-of .ensures
-    ∙ (λ i. speed dryDepth (back {z = cell s .q0} (a .before .speed-of-arg .given) i) (back64 {z = getD (d .depths .result) 0 (pos 0)} (a .speed-of-arg2 .given) (mean d) i))))
+    ∙ (λ i. speed dryDepth (back {z = cell s .q0} (a .before .speed-of-arg .given) i)
+    (back64 {z = getD (d .depths .result) 0 (pos 0)} (a .speed-of-arg2 .given) (mean d) i))))
 
 pub fast-cell-spec : {M : Type 1} → statement M
 fast-cell-spec =

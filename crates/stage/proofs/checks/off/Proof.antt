@@ -35,7 +35,9 @@ off-cell-requires c κs =
 
 -- what the test of this turn says
 here : (c : tie.After-off-cell Inv-loop μ-loop) →
-    let l = c .before .before .before .before in let s = l .before in bad (now (s .args .t)) (now (s .args .bed)) (l .loop .i) ≡ c .off-cell .result
+    let l = c .before .before .before .before in
+    let s = l .before in
+    bad (now (s .args .t)) (now (s .args .bed)) (l .loop .i) ≡ c .off-cell .result
 here c =
     let b = c .before .before in let l = b .before .before in let s = l .before in
     sym (c .off-cell .ensures ∙ (λ j. offCell (b .under .ensures j) (seen (now (s .args .t)) (l .loop .i))))

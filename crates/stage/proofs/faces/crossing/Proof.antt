@@ -26,19 +26,26 @@ unfolding flux
 made-is r x e = ap made (one-flux r (carried.Flux (x .F) (x .K) (x .A) (x .S)) e)
 
 -- what the answer makes is what crosses between the two sides
-crossed : (c : tie.After-face) → let s = c .before .before .before .before .before in made (c .face .result) ≡ face (sideIn (s .args .l)) (sideIn (s .args .r))
+crossed : (c : tie.After-face) → let s = c .before .before .before .before .before in
+    made (c .face .result) ≡ face (sideIn (s .args .l)) (sideIn (s .args .r))
 crossed c =
     let s = c .before .before .before .before .before in let l = sideIn (s .args .l) in let r = sideIn (s .args .r) in
     let p = s .pre .0 in let q = s .pre .1 in
     made-is (c .face .result) (face l r)
-    ((rw (toZ-ofZ (fit (depth-size p) tt), toZ-ofZ (fit (p .speed) tt), toZ-ofZ (fit (depth-size q) tt), toZ-ofZ (fit (q .speed) tt)) at (c .face .ensures))
+    ((rw (toZ-ofZ (fit (depth-size p) tt), toZ-ofZ (fit (p .speed) tt), toZ-ofZ (fit (depth-size q) tt), toZ-ofZ (fit (q .speed) tt))
+    at (c .face .ensures))
     ∙ face-given l r p q)
 
 returns : tie.Need-returns
 returns c =
     let g = c .before .f .given in let z = g .0 in let t = c .known-told .given in
     let y = z .1 .1 in let v = t .1 .1 in
-    (λ j. record { F = back {z = z .0} (t .0 .1) j; K = back {z = z .1 .0} (t .1 .0 .1) j; A = back {z = y .0} (v .0 .1) j; S = back {z = y .1 .0} (v .1 .0 .1) j })
+    (λ j. record {
+      F = back {z = z .0} (t .0 .1) j;
+      K = back {z = z .1 .0} (t .1 .0 .1) j;
+      A = back {z = y .0} (v .0 .1) j;
+      S = back {z = y .1 .0} (v .1 .0 .1) j;
+    })
     ∙ ap made (sym (g .1))
     ∙ crossed (c .before .before .before)
 

@@ -16,7 +16,9 @@ mul-t4 : tie.Need-mul-t4
 mul-t4 c = need (env (c .before .before .before .before)) (v 0 ⊗ v 4) tt
 
 div-t5 : tie.Need-div-t5
-div-t5 c = let s = c .before .before .before .before .before .before in (divisor (env s) (v 3) tt (s .pre .1 .dx-pos), need (env s) (v 0 ⊗ v 4 ⊘ v 3) tt)
+div-t5 c =
+    let s = c .before .before .before .before .before .before in
+    (divisor (env s) (v 3) tt (s .pre .1 .dx-pos), need (env s) (v 0 ⊗ v 4 ⊘ v 3) tt)
 
 returns : tie.Need-returns
 unfolding volume

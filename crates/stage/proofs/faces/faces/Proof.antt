@@ -28,10 +28,13 @@ face-at-requires c κs = let p = c .before .before .pre in ((p .0 .0, p .0 .1, c
 sized-here : (c : tie.After-face-at Inv-loop μ-loop) → Sized (fluxIn (c .face-at .result))
 sized-here c =
     let e = c .before in let l = e .before in let s = l .before in
-    subst Sized (sym (c .face-at .ensures)) (cross-sized (s .args .reach) (s .args .call) (now (s .args .d)) (s .pre .0 .0) (s .pre .1 .1) (l .loop .i) (e .loop-test .taken))
+    subst Sized (sym (c .face-at .ensures))
+    (cross-sized (s .args .reach) (s .args .call) (now (s .args .d)) (s .pre .0 .0) (s .pre .1 .1) (l .loop .i) (e .loop-test .taken))
 
 long-here : (c : tie.After-too-long Inv-loop μ-loop) →
-    let l = c .before .before .before in let a = l .before .args in longAt (a .reach) (a .call) (now (a .d)) (l .loop .i) ≡ c .too-long .result
+    let l = c .before .before .before in
+    let a = l .before .args in
+    longAt (a .reach) (a .call) (now (a .d)) (l .loop .i) ≡ c .too-long .result
 long-here c =
     let a = c .before .before .before .before .args in
     ap (longFlux (a .reach .dx) (a .call .dt)) (sym (c .before .face-at .ensures)) ∙ sym (c .too-long .ensures)
@@ -44,7 +47,8 @@ returns c =
 loop-again : tie.Need-loop-again Inv-loop μ-loop
 loop-again c =
     let t = c .before .before in let f = t .before in let e = f .before in let l = e .before in let s = l .before in let a = s .args in
-    fill-more [] _ _ _ _ (l .loop .f) (l .loop .i) _ (s .pre .0 .2) (omega (arith, e .loop-test .taken)) (l .loop .inv) (long-here t ∙ c .before .if1 .left)
+    fill-more [] _ _ _ _ (l .loop .f) (l .loop .i) _ (s .pre .0 .2) (omega (arith, e .loop-test .taken)) (l .loop .inv)
+    (long-here t ∙ c .before .if1 .left)
     (c .face-row .ensures ∙ ap (faceRow (a .reach .dx) (a .call .dt)) (f .face-at .ensures))
 
 returns-2 : tie.Need-returns-2 Inv-loop μ-loop

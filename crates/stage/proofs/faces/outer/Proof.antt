@@ -25,7 +25,8 @@ returns : tie.Need-returns
 unfolding outer
 returns c =
     let t = c .before .before .before in let s = t .before in let e = env s in let u = s .args .x .u in
-    rw (eq-eqb _ _ (t .if1 .taken)) (λ j. record { h = value e (v 1) tt j; u = (value e less tt ∙ eq! (lit 0 ⊟ at u) (⊖ (at u)) (omega arith)) j })
+    rw (eq-eqb _ _ (t .if1 .taken))
+    (λ j. record { h = value e (v 1) tt j; u = (value e less tt ∙ eq! (lit 0 ⊟ at u) (⊖ (at u)) (omega arith)) j })
 
 returns-2 : tie.Need-returns-2
 unfolding outer

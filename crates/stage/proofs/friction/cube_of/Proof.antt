@@ -25,7 +25,9 @@ enum-told : tie.Need-enum-told
 enum-told c = search needs
 
 returns : tie.Need-returns
-returns c = let a = c .before .before .before in back64 (c .known-told .given .0 .1) (told (a .cube .result) _ _ (c .before .c .given .1) (answer a))
+returns c =
+    let a = c .before .before .before in
+    back64 (c .known-told .given .0 .1) (told (a .cube .result) _ _ (c .before .c .given .1) (answer a))
 
 returns-2 : tie.Need-returns-2
 returns-2 c = let a = c .before .before in untold (a .cube .result) _ (c .enum-told .given .1) (answer a)

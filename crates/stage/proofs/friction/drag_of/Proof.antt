@@ -53,7 +53,8 @@ module _ (c : tie.After-struct-told) where
 
   abbrev env : List Entry
   env =
-      sized (s .pre .0 .1) tt ∷ entry (s .fits .f) (s .pre .1 .0 .1) ∷ sized size-in tt ∷ entry (s .fits .h) (deep s) ∷ sized cube-in tt ∷ []
+      sized (s .pre .0 .1) tt ∷ entry (s .fits .f) (s .pre .1 .0 .1) ∷ sized size-in tt ∷ entry (s .fits .h) (deep s) ∷ sized cube-in tt
+      ∷ []
 
   divided : pos 0 <ℤ (pos 390625 *ℤ s .args .h *ℤ size .before .cube-of .result)
   divided = let h = s .pre .1 .1 .0 in

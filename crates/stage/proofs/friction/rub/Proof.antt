@@ -17,14 +17,12 @@ use Rattle.rules.specs.Limits.{dryDepth}
 use Rattle.rules.specs.Step.{rubbedCell}
 use Rattle.reach.specs.declared.Call.{Call}
 use Rattle.reach.specs.Told.{bedAt}
+use Rattle.stage.specs.Rows.{rubbedAt}
 use Rattle.stage.proofs.friction.rub.Statement.{statement}
 use Rattle.stage.proofs.friction.rub.Tie as tie
 
-abbrev rubbedAt : Call → List ℕ → List ℤ → List (List ℤ) → ℕ → Cell
-rubbedAt call friction bed t k = rubbedCell (call .dt) dryDepth (pos (getD friction k 0)) (bedAt bed k) (seen t k)
-
 abbrev Inv-loop : tie.InvT-loop
-Inv-loop t₀ bed friction call n i₀ t i = (i ≤ n) × Filled [] t₀ t i (λ k. asList (rubbedAt call friction bed t₀ k))
+Inv-loop t₀ bed friction call n i₀ t i = (i ≤ n) × Filled [] t₀ t i (λ k. asList (rubbedAt call friction bed (seen t₀) k))
 
 abbrev μ-loop : tie.MeasureT-loop
 μ-loop t₀ bed friction call n i₀ t i = n - i
@@ -36,16 +34,24 @@ rubbed-cell-requires : tie.Need-rubbed-cell-requires Inv-loop μ-loop
 rubbed-cell-requires c κs =
     let b = c .before in let r = b .before in let e = r .before in let l = e .before in let s = l .before .before in let i = l .loop .i in
     let w = s .pre .1 .1 .1 i (e .loop-test .taken) in
-    rw (back64 (r .rough-of .ok) (r .rough-of .ensures), b .under .ensures, l .loop .inv .1 .above i (omega arith))
-    ((s .pre .1 .0 .dt-pos, s .pre .1 .0 .dt-in), ((nat-nonneg (getD (now (s .args .friction)) i 0), record { abs = w .rough }), (s .pre .1 .1 .0 i (e .loop-test .taken), w .speed)))
+    rw (back64 (r .rough-of .ok) (r .rough-of .ensures), b .under .ensures, l .loop .inv .1 .above i (omega arith)) (
+      (s .pre .1 .0 .dt-pos, s .pre .1 .0 .dt-in),
+      ((nat-nonneg (getD (now (s .args .friction)) i 0), record { abs = w .rough }), (s .pre .1 .1 .0 i (e .loop-test .taken), w .speed)),
+    )
 
 loop-again : tie.Need-loop-again Inv-loop μ-loop
 loop-again c =
-    let a = c .before in let b = a .before in let r = b .before in let l = r .before .before in let s = l .before .before in let i = l .loop .i in
+    let a = c .before in
+    let b = a .before in
+    let r = b .before in
+    let l = r .before .before in
+    let s = l .before .before in
+    let i = l .loop .i in
     let room : i < length (l .loop .t) = omega (arith, l .loop .inv .1 .size) in (
       omega arith,
       filled-more [] (now (s .args .t)) (l .loop .t) i _ _ room (l .loop .inv .1)
-          (rw (back64 (r .rough-of .ok) (r .rough-of .ensures), b .under .ensures, l .loop .inv .1 .above i (omega arith)) at (c .rubbed-cell .ensures)),
+          (rw (back64 (r .rough-of .ok) (r .rough-of .ensures), b .under .ensures, l .loop .inv .1 .above i (omega arith))
+          at (c .rubbed-cell .ensures)),
     )
 
 returns : tie.Need-returns Inv-loop μ-loop

@@ -35,7 +35,8 @@ rub-dry : (dt d f : ℤ) (b : Bed) (x : Cell) (q : ℤ) → leZ (h0 b x) d ≡ t
 unfolding rub
 rub-dry dt d f b x q e = rw e
 
-rub-wet : (dt d f : ℤ) (b : Bed) (x : Cell) (q : ℤ) → leZ (h0 b x) d ≡ false → rub dt d f b x q ≡ slowed (drag dt f (h0 b x) (speed d (x .q0) (h0 b x))) q
+rub-wet : (dt d f : ℤ) (b : Bed) (x : Cell) (q : ℤ) → leZ (h0 b x) d ≡ false
+    → rub dt d f b x q ≡ slowed (drag dt f (h0 b x) (speed d (x .q0) (h0 b x))) q
 unfolding rub
 rub-wet dt d f b x q e = rw e
 
@@ -45,7 +46,8 @@ returns c =
     let a = c .before in let d = a .before in let s = d .before in let b = bedIn (s .args .b) in let x = asCell (s .args .t4) in
     let e : leZ (h0 b x) dryDepth ≡ true = rw (back (a .if12 .given), d .depths .ensures) at (c .if1 .taken) in
     of-four (s .args .t4) (s .good .1 .1 .1 .0 .1 .0 .1)
-    ∙ (λ i. x .e0 ∷ x .e1 ∷ sym (rub-dry (s .args .call .dt) dryDepth (s .args .f) b x (x .q0) e) i ∷ sym (rub-dry (s .args .call .dt) dryDepth (s .args .f) b x (x .q1) e) i ∷ [])
+    ∙ (λ i. x .e0 ∷ x .e1 ∷ sym (rub-dry (s .args .call .dt) dryDepth (s .args .f) b x (x .q0) e) i
+    ∷ sym (rub-dry (s .args .call .dt) dryDepth (s .args .f) b x (x .q1) e) i ∷ [])
 
 -- ---- water that moves
 module _ (s : tie.Start) where
@@ -82,7 +84,8 @@ x-is c =
     let b = c .before in let a = b .before in let d = a .before .before .before in let s = d .before in
     rw (toZ-ofZ (s .fits .f), back (b .strength-arg2 .given), back (a .strength-arg .given), d .depths .ensures) at (c .strength .ensures)
 
-x-size : (c : tie.After-strength) → let s = c .before .before .before .before .before .before in (pos 0 ≤ℤ strong s) × Within 10786209068 (strong s)
+x-size : (c : tie.After-strength) → let s = c .before .before .before .before .before .before in
+    (pos 0 ≤ℤ strong s) × Within 10786209068 (strong s)
 unfolding bed cell strong fastCell
 x-size c =
     let e = c .before .before .before in let s = e .before .before .before in let m = cell-sizes (s .pre .1 .1 .0) in let p = s .args in

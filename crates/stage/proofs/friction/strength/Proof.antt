@@ -21,7 +21,8 @@ u-is c = simp (toZ-ofZ, c .before .fits .q, c .before .fits .h) at (c .speed-of 
 drag-of-requires : tie.Need-drag-of-requires
 drag-of-requires c κs =
     let s = c .before in let p = s .pre .1 .1 in
-    simp (toZ-ofZ, s .fits .f, s .fits .h, back64 (c .speed-of .ok) (u-is c)) (s .pre .0, (s .pre .1 .0, (p .1 .0, within-past 131072 _ (p .1 .1))))
+    simp (toZ-ofZ, s .fits .f, s .fits .h, back64 (c .speed-of .ok) (u-is c))
+    (s .pre .0, (s .pre .1 .0, (p .1 .0, within-past 131072 _ (p .1 .1))))
 
 returns : tie.Need-returns
 returns c =

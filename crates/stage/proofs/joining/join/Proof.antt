@@ -29,14 +29,18 @@ loop-holds : tie.Need-loop-holds Inv-loop μ-loop
 loop-holds c = (omega arith, filled-none [] (now (c .args .u)) _)
 
 -- the rows of face i, in both tables
-rows : (s : tie.Start Inv-loop μ-loop) (i : ℕ) → i < suc (s .args .reach .n) → Row (getD (now (s .args .f)) i []) × Row (getD (now (s .args .g)) i [])
+rows : (s : tie.Start Inv-loop μ-loop) (i : ℕ) → i < suc (s .args .reach .n)
+    → Row (getD (now (s .args .f)) i []) × Row (getD (now (s .args .g)) i [])
 rows s i h = (s .pre .1 .1 .0 i h, s .pre .1 .1 .1 i h)
 
 end-volume-requires : tie.Need-end-volume-requires Inv-loop μ-loop
 end-volume-requires c κs = let l = c .before in let s = l .before in ((omega arith, omega arith), rows s (l .loop .i) (omega arith))
 
 end-volume-requires-2 : tie.Need-end-volume-requires-2 Inv-loop μ-loop
-end-volume-requires-2 c κs = let l = c .before .before in let s = l .before in ((omega arith, omega arith), rows s (l .loop .i + 1) (omega arith))
+end-volume-requires-2 c κs =
+    let l = c .before .before in
+    let s = l .before in
+    ((omega arith, omega arith), rows s (l .loop .i + 1) (omega arith))
 
 -- ---- what a turn reads: the volumes of its two faces, and its cell
 module _ (c : tie.After-joined-cell-arg2 Inv-loop μ-loop) where

@@ -27,8 +27,13 @@ returns : tie.Need-returns
 unfolding joinedCell
 returns c =
     let m2 = c .before in let m1 = m2 .before in let m0 = m1 .before in let s = m0 .before .before in
-    let p = back64 (m0 .end-level .ok) (simp (back {z = asCell (s .args .t1) .e0} (m0 .before .end-level-arg .given), toZ-ofZ (s .fits .wl), toZ-ofZ (s .fits .wr)) at (m0 .end-level .ensures)) in
-    λ i. p i ∷ back64 (m1 .half-at .ok) (m1 .half-at .ensures) i ∷ back64 (m2 .half-at2 .ok) (m2 .half-at2 .ensures) i ∷ back64 (c .half-at3 .ok) (c .half-at3 .ensures) i ∷ []
+    let p = back64 (m0 .end-level .ok) (simp (
+      back {z = asCell (s .args .t1) .e0} (m0 .before .end-level-arg .given),
+      toZ-ofZ (s .fits .wl),
+      toZ-ofZ (s .fits .wr),
+    ) at (m0 .end-level .ensures)) in
+    λ i. p i ∷ back64 (m1 .half-at .ok) (m1 .half-at .ensures) i ∷ back64 (m2 .half-at2 .ok) (m2 .half-at2 .ensures) i
+    ∷ back64 (c .half-at3 .ok) (c .half-at3 .ensures) i ∷ []
 
 pub joined-cell-spec : {M : Type 1} → statement M
 joined-cell-spec =

@@ -31,8 +31,13 @@ lent-number-requires-4 c κs = search needs
 returns : tie.Need-returns
 returns c =
     let n3 = c .before .lent-number3 in let n2 = c .before .before .lent-number2 in let n1 = c .before .before .before .lent-number in
-    let p = back64 (n1 .ok) (n1 .ensures .0) in let q = back64 (n2 .ok) (n2 .ensures .0) in let r = back64 (n3 .ok) (n3 .ensures .0) in let s = back64 (c .lent-number4 .ok) (c .lent-number4 .ensures .0) in
-    ((λ i. p i ∷ q i ∷ r i ∷ s i ∷ []), record { e0 = n1 .ensures .1; e1 = n2 .ensures .1; q0 = n3 .ensures .1; q1 = c .lent-number4 .ensures .1 })
+    let p = back64 (n1 .ok) (n1 .ensures .0) in
+    let q = back64 (n2 .ok) (n2 .ensures .0) in
+    let r = back64 (n3 .ok) (n3 .ensures .0) in
+    let s = back64 (c .lent-number4 .ok) (c .lent-number4 .ensures .0) in (
+      (λ i. p i ∷ q i ∷ r i ∷ s i ∷ []),
+      record { e0 = n1 .ensures .1; e1 = n2 .ensures .1; q0 = n3 .ensures .1; q1 = c .lent-number4 .ensures .1 },
+    )
 
 pub cell-of-spec : {M : Type 1} → statement M
 cell-of-spec =

@@ -34,7 +34,9 @@ loop-again c =
 
 returns : tie.Need-returns Inv-loop μ-loop
 returns c =
-    let l = c .before .loop in let s = c .before .before in let cells = filled-all [] (now (s .args .t)) (l .t) (l .i) (s .args .reach .n) _ (omega arith) (l .inv .1) in
+    let l = c .before .loop in
+    let s = c .before .before in
+    let cells = filled-all [] (now (s .args .t)) (l .t) (l .i) (s .args .reach .n) _ (omega arith) (l .inv .1) in
     record { cells = cells; wide = λ k h. subst (λ (m : List ℤ). Wide (asCell m)) (sym (cells .below k h)) (l .inv .2 k (omega arith)) }
 
 pub load-spec : {M : Type 1} → statement M

@@ -16,7 +16,8 @@ cast-result : tie.Need-cast-result
 cast-result c = record { sfits = omega (arith, c .shared-slice-known .given (c .before .args .i)) }
 
 returns : tie.Need-returns
-returns c = as-whole (getD (now (c .before .args .friction)) (c .before .args .i) 0) (omega (arith, c .shared-slice-known .given (c .before .args .i)))
+returns c = as-whole (getD (now (c .before .args .friction)) (c .before .args .i) 0)
+    (omega (arith, c .shared-slice-known .given (c .before .args .i)))
 
 pub rough-of-spec : {M : Type 1} → statement M
 rough-of-spec = tie.close (tie.spec mul-result shared-slice-read-result cast-result returns)

@@ -7,7 +7,8 @@ use Rattle.stage.proofs.points.carried_both.Statement.{statement}
 use Rattle.stage.proofs.points.carried_both.Tie as tie
 
 abbrev env : tie.Start → List Entry
-env s = entry (s .fits .p) (s .pre .0 .0) ∷ entry (s .fits .u) (s .pre .0 .1) ∷ entry (s .fits .q) (s .pre .1 .0) ∷ entry (s .fits .w) (s .pre .1 .1) ∷ []
+env s = entry (s .fits .p) (s .pre .0 .0) ∷ entry (s .fits .u) (s .pre .0 .1) ∷ entry (s .fits .q) (s .pre .1 .0)
+    ∷ entry (s .fits .w) (s .pre .1 .1) ∷ []
 
 abbrev one : X
 one = v 0 ⊗ v 1 ⊘ k (pos 4096)

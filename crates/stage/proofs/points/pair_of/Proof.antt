@@ -22,10 +22,13 @@ sub-speed-of : tie.Need-sub-speed-of
 sub-speed-of c = simp (toZ-ofZ, c .fits .m, c .fits .d) (left-fits (c .pre))
 
 speed-of-requires : tie.Need-speed-of-requires
-speed-of-requires c κs = simp (toZ-ofZ, c .fits .m, c .fits .d, c .fits .p, c .fits .q, ql-fits (c .pre), left-fits (c .pre)) (c .pre .ql, (c .pre .left, c .pre .left-most))
+speed-of-requires c κs = simp (toZ-ofZ, c .fits .m, c .fits .d, c .fits .p, c .fits .q, ql-fits (c .pre), left-fits (c .pre))
+    (c .pre .ql, (c .pre .left, c .pre .left-most))
 
 u-is : (c : tie.After-speed-of) → let a = c .before .args in c .speed-of .result ≡ speed dryDepth (a .p -ℤ a .q) (a .m -ℤ a .d)
-u-is c = let s = c .before in simp (toZ-ofZ, s .fits .m, s .fits .d, s .fits .p, s .fits .q, ql-fits (s .pre), left-fits (s .pre)) at (c .speed-of .ensures)
+u-is c =
+    let s = c .before in
+    simp (toZ-ofZ, s .fits .m, s .fits .d, s .fits .p, s .fits .q, ql-fits (s .pre), left-fits (s .pre)) at (c .speed-of .ensures)
 
 add-speed-of : tie.Need-add-speed-of
 add-speed-of c = let s = c .before in simp (toZ-ofZ, s .fits .m, s .fits .d) (right-fits (s .pre))
@@ -33,16 +36,29 @@ add-speed-of c = let s = c .before in simp (toZ-ofZ, s .fits .m, s .fits .d) (ri
 speed-of-requires-2 : tie.Need-speed-of-requires-2
 speed-of-requires-2 c κs =
     let s = c .before in
-    simp (toZ-ofZ, s .fits .m, s .fits .d, s .fits .p, s .fits .q, qr-fits (s .pre), right-fits (s .pre)) (s .pre .qr, (s .pre .right, s .pre .right-most))
+    simp (toZ-ofZ, s .fits .m, s .fits .d, s .fits .p, s .fits .q, qr-fits (s .pre), right-fits (s .pre))
+    (s .pre .qr, (s .pre .right, s .pre .right-most))
 
 w-is : (c : tie.After-speed-of2) → let a = c .before .before .args in c .speed-of2 .result ≡ speed dryDepth (a .p +ℤ a .q) (a .m +ℤ a .d)
-w-is c = let s = c .before .before in simp (toZ-ofZ, s .fits .m, s .fits .d, s .fits .p, s .fits .q, qr-fits (s .pre), right-fits (s .pre)) at (c .speed-of2 .ensures)
+w-is c =
+    let s = c .before .before in
+    simp (toZ-ofZ, s .fits .m, s .fits .d, s .fits .p, s .fits .q, qr-fits (s .pre), right-fits (s .pre)) at (c .speed-of2 .ensures)
 
 carried-both-requires : tie.Need-carried-both-requires
 carried-both-requires c κs =
     let b = c .before in let s = b .before in let a = s .args in
-    simp (toZ-ofZ, s .fits .p, s .fits .q, ql-fits (s .pre), qr-fits (s .pre), back64 (b .speed-of .ok) (u-is b), back64 (c .speed-of2 .ok) (w-is c))
-    ((s .pre .ql, speed-size (a .p -ℤ a .q) (a .m -ℤ a .d) (s .pre .ql)), (s .pre .qr, speed-size (a .p +ℤ a .q) (a .m +ℤ a .d) (s .pre .qr)))
+    simp (
+      toZ-ofZ,
+      s .fits .p,
+      s .fits .q,
+      ql-fits (s .pre),
+      qr-fits (s .pre),
+      back64 (b .speed-of .ok) (u-is b),
+      back64 (c .speed-of2 .ok) (w-is c),
+    ) (
+      (s .pre .ql, speed-size (a .p -ℤ a .q) (a .m -ℤ a .d) (s .pre .ql)),
+      (s .pre .qr, speed-size (a .p +ℤ a .q) (a .m +ℤ a .d) (s .pre .qr)),
+    )
 
 returns : tie.Need-returns
 unfolding carried
@@ -50,7 +66,8 @@ returns c =
     let w = c .before in let b = w .before in let s = b .before in
     let p = back64 (b .speed-of .ok) (u-is b) in
     let q = back64 (w .speed-of2 .ok) (w-is w) in
-    λ i. p i ∷ q i ∷ back64 (c .carried-both .ok) (simp (toZ-ofZ, s .fits .p, s .fits .q, ql-fits (s .pre), qr-fits (s .pre), p, q) at (c .carried-both .ensures)) i ∷ []
+    λ i. p i ∷ q i ∷ back64 (c .carried-both .ok)
+    (simp (toZ-ofZ, s .fits .p, s .fits .q, ql-fits (s .pre), qr-fits (s .pre), p, q) at (c .carried-both .ensures)) i ∷ []
 
 pub pair-of-spec : {M : Type 1} → statement M
 pair-of-spec =

@@ -30,11 +30,14 @@ loop-holds c = fill-none (pos 0) _ _ _ (now (c .args .g))
 points-of-requires : tie.Need-points-of-requires Inv-loop μ-loop
 points-of-requires c κs =
     let b = c .before in let e = b .before in let l = e .before in let s = l .before in
-    subst (λ (z : Bed). Inside z (seen (now (s .args .t)) (l .loop .i))) (sym (b .under .ensures)) (s .pre .1 (l .loop .i) (e .loop-test .taken))
+    subst (λ (z : Bed). Inside z (seen (now (s .args .t)) (l .loop .i))) (sym (b .under .ensures))
+    (s .pre .1 (l .loop .i) (e .loop-test .taken))
 
 -- what a turn finds: the row of its cell, and whether that is too fast
 row : (c : tie.After-points-of Inv-loop μ-loop) →
-    let l = c .before .before .before .before in let s = l .before in c .points-of .result ≡ pointRow (bedAt (now (s .args .bed)) (l .loop .i)) (seen (now (s .args .t)) (l .loop .i))
+    let l = c .before .before .before .before in
+    let s = l .before in
+    c .points-of .result ≡ pointRow (bedAt (now (s .args .bed)) (l .loop .i)) (seen (now (s .args .t)) (l .loop .i))
 row c = let b = c .before .before in rw (b .under .ensures) at (c .points-of .ensures)
 
 fast : (c : tie.After-either-fast Inv-loop μ-loop) →
@@ -53,8 +56,14 @@ returns c =
 loop-again : tie.Need-loop-again Inv-loop μ-loop
 unfolding pointRow
 loop-again c =
-    let o = c .before in let f = o .before in let g = f .before .before .before in let e = g .before .before .before in let l = e .before in let s = l .before in
-    fill-more (pos 0) _ _ _ _ (l .loop .g) (l .loop .i) _ (s .pre .0 .1) (e .loop-test .taken) (l .loop .inv) (fast f ∙ o .if1 .left) (back64 (c .g .given) (ap (λ (r : List ℤ). getD r 2 (pos 0)) (row g)))
+    let o = c .before in
+    let f = o .before in
+    let g = f .before .before .before in
+    let e = g .before .before .before in
+    let l = e .before in
+    let s = l .before in
+    fill-more (pos 0) _ _ _ _ (l .loop .g) (l .loop .i) _ (s .pre .0 .1) (e .loop-test .taken) (l .loop .inv) (fast f ∙ o .if1 .left)
+    (back64 (c .g .given) (ap (λ (r : List ℤ). getD r 2 (pos 0)) (row g)))
 
 returns-2 : tie.Need-returns-2 Inv-loop μ-loop
 returns-2 c = let l = c .before .loop in fill-ends (pos 0) _ _ _ _ (l .g) (l .i) (omega arith) (l .inv)

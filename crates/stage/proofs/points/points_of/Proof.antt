@@ -27,7 +27,8 @@ share-of-requires c κs =
     rw (back (c .share-of-arg .given), d .depths .ensures) (b-up 8388608 (cell-sizes (d .before .pre) .slope) tt)
 
 -- the share of the depth's slope, and of the discharge's
-depth-share : (c : tie.After-share-of) → let s = c .before .before .before .before in c .share-of .result ≡ share (h1 (bedIn (s .args .b)) (asCell (s .args .t2)))
+depth-share : (c : tie.After-share-of) → let s = c .before .before .before .before in
+    c .share-of .result ≡ share (h1 (bedIn (s .args .b)) (asCell (s .args .t2)))
 depth-share c = let a = c .before in rw (back (a .share-of-arg .given), a .before .before .depths .ensures) at (c .share-of .ensures)
 
 array-copy-out-pair-of-2 : tie.Need-array-copy-out-pair-of-2
@@ -41,21 +42,41 @@ share-of-requires-2 c κs =
     let s = c .before .before .before .before .before .before in
     rw (back (c .share-of-arg2 .given)) (cell-sizes (s .pre) .q1)
 
-flow-share : (c : tie.After-share-of2) → let s = c .before .before .before .before .before .before .before in c .share-of2 .result ≡ share (asCell (s .args .t2) .q1)
+flow-share : (c : tie.After-share-of2) → let s = c .before .before .before .before .before .before .before in
+    c .share-of2 .result ≡ share (asCell (s .args .t2) .q1)
 flow-share c = rw (back (c .before .share-of-arg2 .given)) at (c .share-of2 .ensures)
 
 pair-of-requires : tie.Need-pair-of-requires
 pair-of-requires c κs =
     let a2 = c .before .before in let f = a2 .before in let a1 = f .before .before in let d = a1 .before in let s = d .before in
     let m = cell-sizes (s .pre) in
-    rw (back (a1 .pair-of-arg .given), back64 (f .share-of .ok) (depth-share f), back (a2 .pair-of-arg2 .given), back64 (c .share-of2 .ok) (flow-share c), d .depths .ensures)
-    (record { left = m .before; left-most = m .before-most; right = m .behind; right-most = m .behind-most; ql = m .flow-before; qr = m .flow-behind })
+    rw (
+      back (a1 .pair-of-arg .given),
+      back64 (f .share-of .ok) (depth-share f),
+      back (a2 .pair-of-arg2 .given),
+      back64 (c .share-of2 .ok) (flow-share c),
+      d .depths .ensures,
+    )
+    (record {
+      left = m .before;
+      left-most = m .before-most;
+      right = m .behind;
+      right-most = m .behind-most;
+      ql = m .flow-before;
+      qr = m .flow-behind;
+    })
 
 returns : tie.Need-returns
 unfolding pointRow gauss
 returns c =
     let g = c .before in let a2 = g .before .before in let f = a2 .before in let a1 = f .before .before in let d = a1 .before in
-    rw (back (a2 .pair-of-arg2 .given), back64 (g .share-of2 .ok) (flow-share g), back (a1 .pair-of-arg .given), back64 (f .share-of .ok) (depth-share f), d .depths .ensures)
+    rw (
+      back (a2 .pair-of-arg2 .given),
+      back64 (g .share-of2 .ok) (flow-share g),
+      back (a1 .pair-of-arg .given),
+      back64 (f .share-of .ok) (depth-share f),
+      d .depths .ensures,
+    )
     at (c .pair-of .ensures)
 
 pub points-of-spec : {M : Type 1} → statement M

@@ -42,7 +42,8 @@ sub-speed-of c = let s = c .before .before in simp (toZ-ofZ, s .fits .p, s .fits
 speed-of-requires : tie.Need-speed-of-requires
 speed-of-requires c κs =
     let s = c .before .before in
-    rw (hl-is (c .before), covered (s .args .m -ℤ s .args .d) (s .pre .left)) (simp (toZ-ofZ, s .fits .p, s .fits .q, ql-fits (s .pre), left-fits (s .pre)) (s .pre .ql, (s .pre .left, s .pre .left-most)))
+    rw (hl-is (c .before), covered (s .args .m -ℤ s .args .d) (s .pre .left))
+    (simp (toZ-ofZ, s .fits .p, s .fits .q, ql-fits (s .pre), left-fits (s .pre)) (s .pre .ql, (s .pre .left, s .pre .left-most)))
 
 add-speed-of : tie.Need-add-speed-of
 add-speed-of c = let s = c .before .before .before in simp (toZ-ofZ, s .fits .p, s .fits .q) (qr-fits (s .pre))
@@ -50,15 +51,18 @@ add-speed-of c = let s = c .before .before .before in simp (toZ-ofZ, s .fits .p,
 speed-of-requires-2 : tie.Need-speed-of-requires-2
 speed-of-requires-2 c κs =
     let s = c .before .before .before in
-    rw (hr-is (c .before), covered (s .args .m +ℤ s .args .d) (s .pre .right)) (simp (toZ-ofZ, s .fits .p, s .fits .q, qr-fits (s .pre), right-fits (s .pre)) (s .pre .qr, (s .pre .right, s .pre .right-most)))
+    rw (hr-is (c .before), covered (s .args .m +ℤ s .args .d) (s .pre .right))
+    (simp (toZ-ofZ, s .fits .p, s .fits .q, qr-fits (s .pre), right-fits (s .pre)) (s .pre .qr, (s .pre .right, s .pre .right-most)))
 
 returns : tie.Need-returns
 returns c =
     let b = c .before in let r = b .before in let l = r .before in let s = l .before in
     let p = back64 (l .depth-of .ok) (hl-is l) in
     let q = back64 (r .depth-of2 .ok) (hr-is r) in
-    let u : b .speed-of .result ≡ speed dryDepth (s .args .p -ℤ s .args .q) _ = rw p at (simp (toZ-ofZ, s .fits .p, s .fits .q, ql-fits (s .pre)) at (b .speed-of .ensures)) in
-    let w : c .speed-of2 .result ≡ speed dryDepth (s .args .p +ℤ s .args .q) _ = rw q at (simp (toZ-ofZ, s .fits .p, s .fits .q, qr-fits (s .pre)) at (c .speed-of2 .ensures)) in
+    let u : b .speed-of .result ≡ speed dryDepth (s .args .p -ℤ s .args .q) _ =
+    rw p at (simp (toZ-ofZ, s .fits .p, s .fits .q, ql-fits (s .pre)) at (b .speed-of .ensures)) in
+    let w : c .speed-of2 .result ≡ speed dryDepth (s .args .p +ℤ s .args .q) _ =
+    rw q at (simp (toZ-ofZ, s .fits .p, s .fits .q, qr-fits (s .pre)) at (c .speed-of2 .ensures)) in
     λ i. p i ∷ back64 (b .speed-of .ok) u i ∷ q i ∷ back64 (c .speed-of2 .ok) w i ∷ []
 
 pub row-of-spec : {M : Type 1} → statement M

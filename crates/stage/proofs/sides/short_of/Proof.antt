@@ -28,7 +28,9 @@ sub-result : tie.Need-sub-result
 sub-result c = need (env (c .before)) less tt
 
 returns : tie.Need-returns
-returns c = let s = c .before in value (env s) less tt ∙ below (s .args .h) (lt-yes (s .args .h) (pos 0) (simp (toZ-ofZ, s .fits .h) at (c .if1 .taken)))
+returns c =
+    let s = c .before in
+    value (env s) less tt ∙ below (s .args .h) (lt-yes (s .args .h) (pos 0) (simp (toZ-ofZ, s .fits .h) at (c .if1 .taken)))
 
 returns-2 : tie.Need-returns-2
 unfolding short

@@ -26,11 +26,14 @@ loop-holds c = fill-none [] _ _ _ (now (c .args .d))
 sides-of-requires : tie.Need-sides-of-requires Inv-loop μ-loop
 sides-of-requires c κs =
     let b = c .before in let e = b .before in let l = e .before in let s = l .before in
-    subst (λ (z : Bed). Inside z (seen (now (s .args .t)) (l .loop .i))) (sym (b .under .ensures)) (s .pre .1 (l .loop .i) (e .loop-test .taken))
+    subst (λ (z : Bed). Inside z (seen (now (s .args .t)) (l .loop .i))) (sym (b .under .ensures))
+    (s .pre .1 (l .loop .i) (e .loop-test .taken))
 
 -- what a turn finds: the row of its cell, and whether that is too fast
 row : (c : tie.After-sides-of Inv-loop μ-loop) →
-    let l = c .before .before .before .before in let s = l .before in c .sides-of .result ≡ sidesAt (now (s .args .bed)) (seen (now (s .args .t))) (l .loop .i)
+    let l = c .before .before .before .before in
+    let s = l .before in
+    c .sides-of .result ≡ sidesAt (now (s .args .bed)) (seen (now (s .args .t))) (l .loop .i)
 unfolding sidesAt
 row c = let b = c .before .before in rw (b .under .ensures) at (c .sides-of .ensures)
 

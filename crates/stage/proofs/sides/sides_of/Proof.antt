@@ -26,14 +26,26 @@ unfolding hl hr
 row-of-requires c κs =
     let a4 = c in let a3 = a4 .before in let a2 = a3 .before in let a1 = a2 .before in let d = a1 .before in let s = d .before in
     let m = cell-sizes (s .pre) in
-    rw (back (a1 .row-of-arg .given), back (a2 .row-of-arg2 .given), back (a3 .row-of-arg3 .given), back (a4 .row-of-arg4 .given), d .depths .ensures)
+    rw (
+      back (a1 .row-of-arg .given),
+      back (a2 .row-of-arg2 .given),
+      back (a3 .row-of-arg3 .given),
+      back (a4 .row-of-arg4 .given),
+      d .depths .ensures,
+    )
     (record { left = m .left; left-most = m .left-most; right = m .right; right-most = m .right-most; ql = m .ql; qr = m .qr })
 
 returns : tie.Need-returns
 unfolding sideL sideR depthL depthR hl hr
 returns c =
     let a4 = c .before in let a3 = a4 .before in let a2 = a3 .before in let a1 = a2 .before in let d = a1 .before in
-    rw (back (a1 .row-of-arg .given), back (a2 .row-of-arg2 .given), back (a3 .row-of-arg3 .given), back (a4 .row-of-arg4 .given), d .depths .ensures)
+    rw (
+      back (a1 .row-of-arg .given),
+      back (a2 .row-of-arg2 .given),
+      back (a3 .row-of-arg3 .given),
+      back (a4 .row-of-arg4 .given),
+      d .depths .ensures,
+    )
     at (c .row-of .ensures)
 
 pub sides-of-spec : {M : Type 1} → statement M

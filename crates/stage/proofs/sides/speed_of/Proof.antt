@@ -17,7 +17,8 @@ speed-requires c κs = search needs
 answer : (c : tie.After-speed) → valueOf (c .speed .result) ≡ given (speed dryDepth (c .before .args .q) (c .before .args .h))
 answer c =
     let s = c .before in
-    (simp (toZ-ofZ, s .fits .q, s .fits .h) at (c .speed .ensures)) ∙ speed-given (s .args .q) (s .args .h) (s .pre .0) (s .pre .1 .0) (s .pre .1 .1)
+    (simp (toZ-ofZ, s .fits .q, s .fits .h) at (c .speed .ensures))
+    ∙ speed-given (s .args .q) (s .args .h) (s .pre .0) (s .pre .1 .0) (s .pre .1 .1)
 
 enum-known-u : tie.Need-enum-known-u
 enum-known-u c = search needs
@@ -26,7 +27,9 @@ enum-told : tie.Need-enum-told
 enum-told c = search needs
 
 returns : tie.Need-returns
-returns c = let a = c .before .before .before in back64 (c .known-told .given .0 .1) (told (a .speed .result) _ _ (c .before .u .given .1) (answer a))
+returns c =
+    let a = c .before .before .before in
+    back64 (c .known-told .given .0 .1) (told (a .speed .result) _ _ (c .before .u .given .1) (answer a))
 
 returns-2 : tie.Need-returns-2
 returns-2 c = let a = c .before .before in untold (a .speed .result) _ (c .enum-told .given .1) (answer a)

@@ -38,7 +38,9 @@ mul-result : tie.Need-mul-result
 mul-result c = need (env (c .before .before .before .before .before)) ((v 1 ⊝ v 2) ⊗ v 4) tt
 
 div-result : tie.Need-div-result
-div-result c = let s = c .before .before .before .before .before .before .before in (divisor (env s) (v 3) tt (s .pre .1 .1 .dx-pos), need (env s) carried tt)
+div-result c =
+    let s = c .before .before .before .before .before .before .before in
+    (divisor (env s) (v 3) tt (s .pre .1 .1 .dx-pos), need (env s) carried tt)
 
 add-result : tie.Need-add-result
 add-result c = need (env (c .before .before .before .before .before .before .before)) (v 0 ⊕ carried) tt
@@ -56,7 +58,9 @@ moved : (c : tie.After-thrust-of) → c .thrust-of .result ≡ thrust (start c .
 moved c = let s = start c in rw (toZ-ofZ (s .fits .e)) at (c .thrust-of .ensures)
 
 moved-size : (c : tie.After-thrust-of) → Within 9810000000000 (c .thrust-of .result)
-moved-size c = let s = start c in subst (Within 9810000000000) (sym (moved c)) (thrust-size _ _ _ (s .pre .0 .1) (s .pre .1 .1 .dx-pos) (s .pre .1 .1 .dt-in))
+moved-size c =
+    let s = start c in
+    subst (Within 9810000000000) (sym (moved c)) (thrust-size _ _ _ (s .pre .0 .1) (s .pre .1 .1 .dx-pos) (s .pre .1 .1 .dt-in))
 
 abbrev after : tie.After-thrust-of → List Entry
 after c = and-then (start c) (sized (moved-size c) tt ∷ [])

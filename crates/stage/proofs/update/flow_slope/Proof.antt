@@ -45,7 +45,8 @@ slope-change-requires c κs =
 abbrev start : tie.After-slope-change → tie.Start
 start c = c .before .before .before .before
 
-changed : (c : tie.After-slope-change) → c .slope-change .result ≡ slopeOf (ideal (env (start c)) change) (start c .args .reach .dx) (start c .args .call .dt)
+changed : (c : tie.After-slope-change)
+    → c .slope-change .result ≡ slopeOf (ideal (env (start c)) change) (start c .args .reach .dx) (start c .args .call .dt)
 changed c = let s = start c in rw (value (env s) change tt) at (c .slope-change .ensures)
 
 changed-size : (c : tie.After-slope-change) → Within 53647899623424 (c .slope-change .result)
@@ -60,11 +61,14 @@ thrust-of-requires c κs =
     rw (toZ-ofZ (s .fits .d)) (s .pre .0 .2, s .pre .1 .1)
 
 -- what the second gave
-moved : (c : tie.After-thrust-of) → let s = start (c .before) in c .thrust-of .result ≡ thrust (s .args .d) (s .args .reach .dx) (s .args .call .dt)
+moved : (c : tie.After-thrust-of) → let s = start (c .before) in
+    c .thrust-of .result ≡ thrust (s .args .d) (s .args .reach .dx) (s .args .call .dt)
 moved c = let s = start (c .before) in rw (toZ-ofZ (s .fits .d)) at (c .thrust-of .ensures)
 
 moved-size : (c : tie.After-thrust-of) → Within 9810000000000 (c .thrust-of .result)
-moved-size c = let s = start (c .before) in subst (Within 9810000000000) (sym (moved c)) (thrust-size _ _ _ (s .pre .0 .2) (s .pre .1 .1 .dx-pos) (s .pre .1 .1 .dt-in))
+moved-size c =
+    let s = start (c .before) in
+    subst (Within 9810000000000) (sym (moved c)) (thrust-size _ _ _ (s .pre .0 .2) (s .pre .1 .1 .dx-pos) (s .pre .1 .1 .dt-in))
 
 abbrev after : tie.After-thrust-of → List Entry
 after c = sized (start (c .before) .pre .0 .0) tt ∷ sized (changed-size (c .before)) tt ∷ sized (moved-size c) tt ∷ []

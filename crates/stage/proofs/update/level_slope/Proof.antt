@@ -50,7 +50,8 @@ slope-change-requires c κs =
 abbrev start : tie.After-slope-change → tie.Start
 start c = c .before .before .before .before .before
 
-changed : (c : tie.After-slope-change) → c .slope-change .result ≡ slopeOf (ideal (env (start c)) change) (start c .args .reach .dx) (start c .args .call .dt)
+changed : (c : tie.After-slope-change)
+    → c .slope-change .result ≡ slopeOf (ideal (env (start c)) change) (start c .args .reach .dx) (start c .args .call .dt)
 changed c = let s = start c in rw (value (env s) change tt) at (c .slope-change .ensures)
 
 changed-size : (c : tie.After-slope-change) → Within 53647899623424 (c .slope-change .result)

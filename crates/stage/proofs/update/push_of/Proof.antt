@@ -29,7 +29,9 @@ short-of-requires : tie.Need-short-of-requires
 short-of-requires c κs = subst (Within 70368744177664) (sym (value (env c) left tt)) (b-up 70368744177664 (got (env c) left tt .bound) tt)
 
 short-of-requires-2 : tie.Need-short-of-requires-2
-short-of-requires-2 c κs = let e = env (c .before) in subst (Within 70368744177664) (sym (value e right tt)) (b-up 70368744177664 (got e right tt .bound) tt)
+short-of-requires-2 c κs =
+    let e = env (c .before) in
+    subst (Within 70368744177664) (sym (value e right tt)) (b-up 70368744177664 (got e right tt .bound) tt)
 
 -- ---- the shortfalls
 module _ (c : tie.After-short-of2) where
@@ -62,7 +64,8 @@ unfolding pushOf
 returns c =
     let a = s c .args in
     value (all c) (v 4 ⊝ v 5 ⊝ deep ⊗ high) tt
-    ∙ (λ j. a .kl -ℤ a .kr -ℤ (a .m +ℤ a .s +ℤ right-none c j +ℤ (a .m -ℤ a .s +ℤ left-none c j)) *ℤ (a .zr -ℤ right-none c j -ℤ (a .zl -ℤ left-none c j)))
+    ∙ (λ j. a .kl -ℤ a .kr -ℤ (a .m +ℤ a .s +ℤ right-none c j +ℤ (a .m -ℤ a .s +ℤ left-none c j))
+    *ℤ (a .zr -ℤ right-none c j -ℤ (a .zl -ℤ left-none c j)))
 
 pub push-of-spec : {M : Type 1} → statement M
 push-of-spec =

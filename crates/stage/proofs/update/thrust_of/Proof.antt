@@ -26,7 +26,9 @@ mul-result-3 : tie.Need-mul-result-3
 mul-result-3 c = need (env (c .before .before .before .before)) below tt
 
 div-result : tie.Need-div-result
-div-result c = let s = c .before .before .before .before in (divisor (env s) below tt (wide-pos (s .args .reach .dx) (s .pre .1 .dx-pos)), need (env s) (above ⊘ below) tt)
+div-result c =
+    let s = c .before .before .before .before in
+    (divisor (env s) below tt (wide-pos (s .args .reach .dx) (s .pre .1 .dx-pos)), need (env s) (above ⊘ below) tt)
 
 returns : tie.Need-returns
 unfolding thrust

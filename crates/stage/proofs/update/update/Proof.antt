@@ -28,7 +28,12 @@ loop-holds c = (omega arith, filled-none [] (now (c .args .u)) _)
 
 updated-requires : tie.Need-updated-requires Inv-loop μ-loop
 updated-requires c κs =
-    let b = c .before .before .before .before in let e = b .before in let l = e .before in let s = l .before in let a = s .args in let i = l .loop .i in
+    let b = c .before .before .before .before in
+    let e = b .before in
+    let l = e .before in
+    let s = l .before in
+    let a = s .args in
+    let i = l .loop .i in
     let rows = s .pre .1 .1 .0 in let g = s .pre .1 .1 .1 .0 i (e .loop-test .taken) in
     rw (toZ-ofZ (fit g tt)) (
       subst (λ (z : Bed). Inside z (seen (now (a .t)) i)) (sym (b .under .ensures)) (s .pre .1 .0 i (e .loop-test .taken)),
@@ -40,7 +45,12 @@ written : (c : tie.After-updated Inv-loop μ-loop) →
     let l = c .before .before .before .before .before .before .before in let a = l .before .args in
     c .updated .result ≡ asList (updateAt (a .reach) (a .call) (now (a .bed)) (seen (now (a .t))) (now (a .f)) (now (a .g)) (l .loop .i))
 written c =
-    let b = c .before .before .before .before .before in let e = b .before in let l = e .before in let s = l .before in let a = s .args in let i = l .loop .i in
+    let b = c .before .before .before .before .before in
+    let e = b .before in
+    let l = e .before in
+    let s = l .before in
+    let a = s .args in
+    let i = l .loop .i in
     let next : i + 1 ≡ suc i = omega arith in
     (rw (toZ-ofZ (fit (s .pre .1 .1 .1 .0 i (e .loop-test .taken)) tt)) at (c .updated .ensures))
     ∙ (λ j. asList (updateBy (a .reach .dx) (a .call .dt) (b .under .ensures j) (seen (now (a .t)) i) (getD (now (a .f)) i [])

@@ -41,10 +41,17 @@ flow-slope-requires c κs =
 returns : tie.Need-returns
 unfolding updateBy slopeOf thrust
 returns c =
-    let f2 = c .before in let m = f2 .before in let f1 = m .before in let b = f1 .before in let a = b .before in let h = a .before in let s = h .before in
+    let f2 = c .before in
+    let m = f2 .before in
+    let f1 = m .before in
+    let b = f1 .before in
+    let a = b .before in
+    let h = a .before in
+    let s = h .before in
     let q0 = rw (back (f1 .flow-mean-arg .given), h .pressures .ensures) at (m .flow-mean .ensures) in
     let q1 = rw (toZ-ofZ (s .fits .g), back (f2 .flow-slope-arg .given), h .pressures .ensures) at (c .flow-slope .ensures) in
-    λ j. back64 (a .level-mean .ok) (a .level-mean .ensures) j ∷ back64 (b .level-slope .ok) (b .level-slope .ensures) j ∷ back64 (m .flow-mean .ok) q0 j ∷ back64 (c .flow-slope .ok) q1 j ∷ []
+    λ j. back64 (a .level-mean .ok) (a .level-mean .ensures) j ∷ back64 (b .level-slope .ok) (b .level-slope .ensures) j
+    ∷ back64 (m .flow-mean .ok) q0 j ∷ back64 (c .flow-slope .ok) q1 j ∷ []
 
 pub updated-spec : {M : Type 1} → statement M
 updated-spec =

@@ -23,7 +23,8 @@ module _ (e : tie.Else1) where
 returns : tie.Need-returns
 returns c ρ v shows =
     let w = c .before .before .before .before .before .before in let s = start w in let a = s .args in
-    both-stop (reachIn (a .reach) (now (a .bed))) (callOn (a .call) ρ) (s .pre .0 .some) v _ _ _ (w .stage-one .ensures .half ρ v shows) (c .if1 .taken) _ _
+    both-stop (reachIn (a .reach) (now (a .bed))) (callOn (a .call) ρ) (s .pre .0 .some) v _ _ _ (w .stage-one .ensures .half ρ v shows)
+    (c .if1 .taken) _ _
 
 stage-two-requires : tie.Need-stage-two-requires
 stage-two-requires c κs =
@@ -37,8 +38,14 @@ stage-two-requires c κs =
 
 returns-2 : tie.Need-returns-2
 returns-2 c ρ v shows =
-    let t = c .before .before .before .before .before in let e = t .before .before .before .before .before .before .before in let w = went e in
-    let s = start w in let a = s .args in let r = reachIn (a .reach) (now (a .bed)) in let d = callOn (a .call) ρ in let o = s .pre .0 .some in
+    let t = c .before .before .before .before .before in
+    let e = t .before .before .before .before .before .before .before in
+    let w = went e in
+    let s = start w in
+    let a = s .args in
+    let r = reachIn (a .reach) (now (a .bed)) in
+    let d = callOn (a .call) ρ in
+    let o = s .pre .0 .some in
     let one = w .stage-one .ensures .half ρ v shows in let z = e .if1 .left in
     both-end r d o v _ _ _ one z _ _ _ (t .stage-two .ensures ρ v shows (one .done z .faces) (one-shown r d o v _ _ _ one z))
 

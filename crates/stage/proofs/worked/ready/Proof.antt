@@ -24,13 +24,16 @@ abbrev list : tie.Start → List Check
 list s = readyChecks (s .args .reach .n) (now (s .args .bed)) (now (s .args .friction)) (seen (now (s .args .t)))
 
 -- ---- the tests of the lent tables, which go over as many values as there are
-bed-test : (c : tie.After-bad-bed) → let s = c .before .before in some (λ i. badBed (getD (now (s .args .bed)) i (pos 0))) (suc (s .args .reach .n)) ≡ c .bad-bed .result
+bed-test : (c : tie.After-bad-bed) → let s = c .before .before in
+    some (λ i. badBed (getD (now (s .args .bed)) i (pos 0))) (suc (s .args .reach .n)) ≡ c .bad-bed .result
 bed-test c = let s = c .before .before in let e : suc (s .args .reach .n) ≡ length (now (s .args .bed)) = omega (arith, s .pre .0) in
     ap (some (λ i. badBed (getD (now (s .args .bed)) i (pos 0)))) e ∙ sym (c .bad-bed .ensures)
 
 rough-test : (c : tie.After-bad-friction) → let s = c .before .before .before .before in
     some (λ i. badRough (pos (getD (now (s .args .friction)) i 0))) (s .args .reach .n) ≡ c .bad-friction .result
-rough-test c = let s = c .before .before .before .before in let e : s .args .reach .n ≡ length (now (s .args .friction)) = omega (arith, s .pre .0) in
+rough-test c =
+    let s = c .before .before .before .before in
+    let e : s .args .reach .n ≡ length (now (s .args .friction)) = omega (arith, s .pre .0) in
     ap (some (λ i. badRough (pos (getD (now (s .args .friction)) i 0)))) e ∙ sym (c .bad-friction .ensures)
 
 -- ---- past each of them

@@ -28,7 +28,8 @@ returns : tie.Need-returns
 returns c =
     let w = c .before .before .before .before .before in let s = start w in let a = s .args in record {
       half = λ ρ v shows. let r = reachIn (a .reach) (now (a .bed)) in let d = callOn (a .call) ρ in
-          half-stops r d (s .pre .0 .some) (now (a .a)) (rubbed r d v) (stageOne r d v) shows _ _ _ (w .stage .ensures ρ) (c .if1 .taken) _ _;
+          half-stops r d (s .pre .0 .some) (now (a .a)) (rubbed r d v) (stageOne r d v) shows _ _ _ (w .stage .ensures ρ)
+          (c .if1 .taken) _ _;
       sized = λ z. absurd (c .if1 .taken z);
       ranged = λ z. absurd (c .if1 .taken z);
     }
@@ -42,12 +43,19 @@ end-requires c κs =
 
 returns-2 : tie.Need-returns-2
 returns-2 c =
-    let n = c .before in let e = n .before .before .before in let w = went e in let s = start w in let a = s .args in let o = s .pre .0 .some in record {
+    let n = c .before in
+    let e = n .before .before .before in
+    let w = went e in
+    let s = start w in
+    let a = s .args in
+    let o = s .pre .0 .some in
+    record {
       half = λ ρ v shows. let r = reachIn (a .reach) (now (a .bed)) in let d = callOn (a .call) ρ in let says = w .stage .ensures ρ in
           half-ends r d o (now (a .a)) (rubbed r d v) (stageOne r d v) shows _ _ _ says (e .if1 .left) _ _ _
           (one-state r d o v (now (a .a)) shows _ _ (says .done (e .if1 .left))) (n .end .ensures ρ);
       sized = λ z. w .stage .ensures (λ i. pos 0) .done (e .if1 .left) .faces .sized;
-      ranged = λ z. end-ranged (a .reach) (a .call) (now (a .bed)) (λ i. pos 0) (n .end .ensures (λ i. pos 0)) z (λ i l. s .pre .1 .1 i l .ground);
+      ranged = λ z. end-ranged (a .reach) (a .call) (now (a .bed)) (λ i. pos 0) (n .end .ensures (λ i. pos 0)) z
+          (λ i l. s .pre .1 .1 i l .ground);
     }
 
 pub stage-one-spec : {M : Type 1} → statement M

@@ -37,7 +37,10 @@ join-requires c κs =
     let e = c .before .before in let s = begun e in let done = went e .stage .ensures (λ i. pos 0) .done (e .if1 .left) in
     let ranged = s .pre .1 .1 .1 .0 .0 in (
       (omega arith, omega arith, omega arith, omega arith),
-      (((λ i l. small-wide (inside-small (ranged i l))), (λ i l. small-wide (done-small done i l))), (s .pre .1 .1 .1 .1, done .faces .sized)),
+      (
+        ((λ i l. small-wide (inside-small (ranged i l))), (λ i l. small-wide (done-small done i l))),
+        (s .pre .1 .1 .1 .1, done .faces .sized),
+      ),
     )
 
 end-requires : tie.Need-end-requires
@@ -47,16 +50,28 @@ end-requires c κs =
       (s .pre .0 .most, s .pre .0 .beds, omega arith, omega arith),
       (
         s .pre .0 .numbers,
-        ((λ i l. ranged i l .ground), join-small (now (s .args .bed)) (j .join .ensures) ranged (done-small done) (s .pre .1 .1 .1 .1) (done .faces .sized)),
+        (
+          (λ i l. ranged i l .ground),
+          join-small (now (s .args .bed)) (j .join .ensures) ranged (done-small done) (s .pre .1 .1 .1 .1) (done .faces .sized),
+        ),
       ),
     )
 
 returns-2 : tie.Need-returns-2
 returns-2 c ρ v shows faces one =
-    let n = c .before in let j = n .before .before .before .before in let e = j .before .before .before in let w = went e in let s = start w in
-    let a = s .args in let r = reachIn (a .reach) (now (a .bed)) in let d = callOn (a .call) ρ in let o = s .pre .0 .some in let says = w .stage .ensures ρ in
+    let n = c .before in
+    let j = n .before .before .before .before in
+    let e = j .before .before .before in
+    let w = went e in
+    let s = start w in
+    let a = s .args in
+    let r = reachIn (a .reach) (now (a .bed)) in
+    let d = callOn (a .call) ρ in
+    let o = s .pre .0 .some in
+    let says = w .stage .ensures ρ in
     half-ends r d o (now (a .b)) (stageOne r d v) (next r d v) one _ _ _ says (e .if1 .left) _ _ _
-    (two-state r d o v (now (a .a)) shows (now (a .b)) (now (a .f)) _ _ _ one faces (says .done (e .if1 .left)) (j .join .ensures)) (n .end .ensures ρ)
+    (two-state r d o v (now (a .a)) shows (now (a .b)) (now (a .f)) _ _ _ one faces (says .done (e .if1 .left)) (j .join .ensures))
+    (n .end .ensures ρ)
 
 pub stage-two-spec : {M : Type 1} → statement M
 stage-two-spec =

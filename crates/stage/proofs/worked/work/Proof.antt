@@ -124,7 +124,8 @@ module _ (e : tie.Else3) where
   lent = let p = start .args in lentBy (now (p .state)) (now (p .bed)) (now (p .friction)) (p .given) (room start)
 
   later : number lent
-      ≡ verdict (readyChecks (n start) (lent .bed) (lent .friction) (stateOf lent) ++ bothChecks (reachOf lent) (callOf lent) (stateOf lent))
+      ≡ verdict (readyChecks (n start) (lent .bed) (lent .friction) (stateOf lent)
+      ++ bothChecks (reachOf lent) (callOf lent) (stateOf lent))
   later = let p = start .args in
       later-checks (now (p .state)) (now (p .bed)) (now (p .friction)) (p .given) (room start)
       (roomy (fit m)) (lengths (fit m)) (sym (judged m) ∙ e .if3 .left)
