@@ -19,7 +19,8 @@ use Rattle.rules.specs.Friction.{cube, drag, slowed}
 use Rattle.rules.specs.Reach.{Bed, ql, qr, h0, h1, hl, hr}
 use Rattle.rules.specs.Step.{rub, rubbedCell}
 use Rattle.stage.specs.Ranges.{Inside}
-use Rattle.stage.specs.Laws.CellSizes.{cell-sizes, reach, in-range, range-in}
+use Rattle.stage.specs.Laws.Around.{flow-sum}
+use Rattle.stage.specs.Laws.CellSizes.{cell-sizes, in-range, range-in}
 
 -- the strength of friction is not below nought
 drag-nonneg : (dt f h u : ℤ) → pos 0 ≤ℤ dt → pos 0 ≤ℤ h → pos 0 ≤ℤ drag dt f h u
@@ -56,8 +57,8 @@ rub-size dt f b x q p = let h = h0 b x in let d = drag dt f h (speed dryDepth (x
 pub rubbed-inside : (dt f : ℤ) (b : Bed) (x : Cell) → pos 0 ≤ℤ dt → Inside b x → Inside b (rubbedCell dt dryDepth f b x)
 unfolding rubbedCell hl hr h0 h1
 rubbed-inside dt f b x p i =
-    let k = cell-sizes i in let g = in-range b x (i .range) in let y = rubbedCell dt dryDepth f b x in
-    let w = reach (x .q0) (x .q1) (k .ql) (k .qr) in
+    let g = in-range b x (i .range) in let y = rubbedCell dt dryDepth f b x in
+    let w = flow-sum (cell-sizes i .faces) in
     let u : natAbs (y .q0) ≤ natAbs (x .q0) = rub-size dt f b x (x .q0) p in
     let v : natAbs (y .q1) ≤ natAbs (x .q1) = rub-size dt f b x (x .q1) p in
     record {

@@ -17,7 +17,7 @@ use Rattle.tables.specs.Rows.{Written}
 use Rattle.tables.specs.Cells.{Cell, asCell, seen, Holds}
 use Rattle.rules.specs.Limits.{dryDepth, deepest, fastest}
 use Rattle.rules.specs.Face.{speed}
-use Rattle.rules.specs.Reach.{Reach, Call, State, Bed, z0, z1, h0, h1, ql, qr, depthL, depthR, sideL, sideR}
+use Rattle.rules.specs.Reach.{Reach, Call, State, Bed, z0, z1, h0, h1, hl, hr, ql, qr, depthL, depthR, sideL, sideR}
 use Rattle.rules.specs.Stage.{carried, gauss, flowBefore, flowBehind, depthBefore, depthBehind, stage}
 use Rattle.rules.specs.Finishing.{marked, limited, limit, beyond, cut, dried}
 use Rattle.rules.specs.Step.{half, joinedCell}
@@ -35,8 +35,8 @@ use Rattle.stage.specs.Laws.RowsAreRules.{left-in, right-in}
 
 -- ---- sides that passed check 6
 sound-left : {b : Bed} {x : Cell} → Inside b x → fastSide (sideL dryDepth b x) ≡ false → Sound (sideL dryDepth b x)
-unfolding sideL
-sound-left {b} {x} i e = let q = cell-sizes i in
+unfolding sideL hl
+sound-left {b} {x} i e = let q = cell-sizes i .faces in
     record {
       least = subst (λ (z : ℤ). pos 0 ≤ℤ z) (sym (depthL-is b x (q .left))) (q .left);
       most = subst (λ (z : ℤ). z ≤ℤ deepest) (sym (depthL-is b x (q .left))) (q .left-most);
@@ -44,8 +44,8 @@ sound-left {b} {x} i e = let q = cell-sizes i in
     }
 
 sound-right : {b : Bed} {x : Cell} → Inside b x → fastSide (sideR dryDepth b x) ≡ false → Sound (sideR dryDepth b x)
-unfolding sideR
-sound-right {b} {x} i e = let q = cell-sizes i in
+unfolding sideR hr
+sound-right {b} {x} i e = let q = cell-sizes i .faces in
     record {
       least = subst (λ (z : ℤ). pos 0 ≤ℤ z) (sym (depthR-is b x (q .right))) (q .right);
       most = subst (λ (z : ℤ). z ≤ℤ deepest) (sym (depthR-is b x (q .right))) (q .right-most);
@@ -69,11 +69,11 @@ module _ (n : ℕ) (bed : List ℤ) (s : State) (inside : Ranged bed n s) (e : s
 pub gauss-size : (b : Bed) (x : Cell) → Inside b x → fastPoints dryDepth b x ≡ false → UpTo mostMomentum (gauss dryDepth b x)
 unfolding gauss carried fastPoints
 gauss-size b x i e =
-    let q = cell-sizes i in
+    let q = cell-sizes i .points in
     let u = speed dryDepth (flowBefore x) (depthBefore b x) in let w = speed dryDepth (flowBehind x) (depthBehind b x) in
     let u-in = within-past 131072 u (or-l (past fastest u) (past fastest w) e) in
     let w-in = within-past 131072 w (or-r (past fastest u) (past fastest w) e) in
-    b-up 1073741824 (b-add (b-quot-by (pos 4096) (b-mul (q .flow-before) u-in)) (b-quot-by (pos 4096) (b-mul (q .flow-behind) w-in))) tt
+    b-up 1073741824 (b-add (b-quot-by (pos 4096) (b-mul (q .ql) u-in)) (b-quot-by (pos 4096) (b-mul (q .qr) w-in))) tt
 
 -- ---- unfinished states
 pub small-wide : {x : Cell} → Small x → Wide x

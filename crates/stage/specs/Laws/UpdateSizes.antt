@@ -75,8 +75,8 @@ module _ {b : Bed} {x : Cell} (i : Inside b x) where
       record {
         mean = b-nonneg (k .mean) (k .mean-most);
         slope = k .slope;
-        left = k .left;
-        right = k .right;
+        left = k .faces .left;
+        right = k .faces .right;
         zl-in = i .ground .zl;
         zr-in = i .ground .zr;
         kl-in = p;

@@ -49,7 +49,6 @@ flow-share c = rw (back (c .before .share-of-arg2 .given)) at (c .share-of2 .ens
 pair-of-requires : tie.Need-pair-of-requires
 pair-of-requires c κs =
     let a2 = c .before .before in let f = a2 .before in let a1 = f .before .before in let d = a1 .before in let s = d .before in
-    let m = cell-sizes (s .pre) in
     rw (
       back (a1 .pair-of-arg .given),
       back64 (f .share-of .ok) (depth-share f),
@@ -57,14 +56,7 @@ pair-of-requires c κs =
       back64 (c .share-of2 .ok) (flow-share c),
       d .depths .ensures,
     )
-    (record {
-      left = m .before;
-      left-most = m .before-most;
-      right = m .behind;
-      right-most = m .behind-most;
-      ql = m .flow-before;
-      qr = m .flow-behind;
-    })
+    (cell-sizes (s .pre) .points)
 
 returns : tie.Need-returns
 unfolding pointRow gauss

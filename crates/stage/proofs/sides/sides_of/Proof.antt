@@ -22,10 +22,8 @@ array-copy-out-row-of-4 : tie.Need-array-copy-out-row-of-4
 array-copy-out-row-of-4 c = search needs
 
 row-of-requires : tie.Need-row-of-requires
-unfolding hl hr
 row-of-requires c κs =
     let a4 = c in let a3 = a4 .before in let a2 = a3 .before in let a1 = a2 .before in let d = a1 .before in let s = d .before in
-    let m = cell-sizes (s .pre) in
     rw (
       back (a1 .row-of-arg .given),
       back (a2 .row-of-arg2 .given),
@@ -33,7 +31,7 @@ row-of-requires c κs =
       back (a4 .row-of-arg4 .given),
       d .depths .ensures,
     )
-    (record { left = m .left; left-most = m .left-most; right = m .right; right-most = m .right-most; ql = m .ql; qr = m .qr })
+    (cell-sizes (s .pre) .faces)
 
 returns : tie.Need-returns
 unfolding sideL sideR depthL depthR hl hr
