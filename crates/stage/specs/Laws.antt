@@ -1,6 +1,6 @@
 -- Why the numbers of a stage fit, and why what its functions answer is the rule's.
-pub mod CellSizes
 pub mod Around
+pub mod CellSizes
 pub mod FrictionStrength
 pub mod FrictionRange
 pub mod UpdateSizes

@@ -1,21 +1,21 @@
 -- What a lent state that passed the checks before the stages is.
 -- Assumes nothing.
 use mathlib.Core.Path.{_≡_, ap}
-use mathlib.Core.Bool.{Bool, false, not}
+use mathlib.Core.Bool.{false, not}
 use mathlib.Core.List.{List, [], _∷_}
 use Prim.Native.Nat.{ℕ, suc, _%_, _<_}
 use native.Mathlib.Omega.{arith}
 use lib.Dec.{eqb}
 use lib.ListN.{getD}
 use lib.IntN.{ℤ, pos, natAbs}
-use lib.Signed.{ltZ}
-use Rattle.whole.specs.Flags.{or-l, or-r}
-use Rattle.whole.specs.Parts.{Within, b-nonneg}
-use Rattle.whole.specs.Tests.{lt-no}
+use lib.Signed.{_≤ℤ_}
+use Rattle.whole.specs.Flags.{or-l}
+use Rattle.whole.specs.Parts.{Within, b-nonneg, le-trans, nat-nonneg}
 use Rattle.tables.specs.Some.{some, some-none, some-same}
 use Rattle.rules.specs.Limits.{highestBed, dryDepth}
 use Rattle.rules.specs.Reach.{State}
 use Rattle.rules.specs.Refusals.{outside, badBed, badRough, offCell, fastCell, chk, verdict}
+use Rattle.rules.specs.Laws.Inside.{above-least, below-most}
 use Rattle.rules.specs.Laws.Verdicts.{cleared, checkAt, clear-at}
 use Rattle.reach.specs.Told.{bedAt}
 use Rattle.reach.specs.Ranges.{Grounds}
@@ -23,9 +23,9 @@ use Rattle.stage.specs.Ranges.{Ranged, Slows}
 use Rattle.stage.specs.Says.{readyChecks}
 
 -- ---- what a passed check gives
-between : (m : ℕ) (z : ℤ) → outside (pos 0) (pos m) z ≡ false → Within m z
-between m z e =
-    b-nonneg (lt-no z (pos 0) (or-l (ltZ z (pos 0)) (ltZ (pos m) z) e)) (lt-no (pos m) z (or-r (ltZ z (pos 0)) (ltZ (pos m) z) e))
+-- a number that is not outside a list whose least is not below nought
+pub between : (a : ℤ) (m : ℕ) (z : ℤ) → pos 0 ≤ℤ a → outside a (pos m) z ≡ false → Within m z
+between a m z h e = b-nonneg (le-trans h (above-least a (pos m) z e)) (below-most a (pos m) z e)
 
 pub grounds : (n : ℕ) (bed : List ℤ) → some (λ i. badBed (getD bed i (pos 0))) (suc n) ≡ false → Grounds bed n
 unfolding badBed
@@ -33,7 +33,7 @@ grounds n bed e i l = record { zl = value i (omega arith); zr = value (suc i) (o
   where
     value : (j : ℕ) → j < suc n → Within 1048576 (getD bed j (pos 0))
     value j m = let z = getD bed j (pos 0) in
-        between 1048576 z
+        between (pos 0) 1048576 z (nat-nonneg 0)
         (or-l (outside (pos 0) highestBed z) (not (eqb (natAbs z % 2) 0)) (some-none (λ i. badBed (getD bed i (pos 0))) (suc n) e j m))
 
 pub ranged : (n : ℕ) (bed : List ℤ) (s : State) → Grounds bed n → some (λ i. offCell (bedAt bed i) (s i)) n ≡ false → Ranged bed n s
@@ -43,7 +43,7 @@ slows : (n : ℕ) (bed : List ℤ) (friction : List ℕ) (s : State) → some (�
     → some (λ i. fastCell dryDepth (bedAt bed i) (s i)) n ≡ false → Slows friction bed n s
 unfolding badRough
 slows n bed friction s e f i l = record {
-  rough = let w = between 200 (pos (getD friction i 0)) (some-none (λ i. badRough (pos (getD friction i 0))) n e i l) in w .abs;
+  rough = let w = between (pos 0) 200 (pos (getD friction i 0)) (nat-nonneg 0) (some-none (λ i. badRough (pos (getD friction i 0))) n e i l) in w .abs;
   speed = some-none (λ i. fastCell dryDepth (bedAt bed i) (s i)) n f i l;
 }
 

@@ -1,20 +1,19 @@
 -- What the numbers that passed check 2 are; and the step's number by the check that stopped it.
 -- Assumes nothing.
-use mathlib.Core.Path.{_≡_, refl, sym, _∙_, ap, subst}
+use mathlib.Core.Path.{_≡_, _∙_, ap}
 use mathlib.Core.Bool.{Bool, true, false, cond}
 use mathlib.Core.List.{List, [], _∷_, _++_}
 use Prim.Native.Nat.{ℕ, _*_, _≤_, _<_}
 use native.Mathlib.Omega.{arith}
-use lib.Dec.{ltb, leb, leb→le, le→leb}
+use lib.Dec.{leb, leb→le, le→leb}
 use lib.ListN.{length}
 use lib.IntN.{ℤ, pos}
-use lib.Signed.{ltZ, _≤ℤ_}
-use Rattle.whole.specs.Flags.{holds, fails, or-l, or-r}
-use Rattle.whole.specs.Parts.{Within, b-nonneg, of-le, lt-of, le-lit, le-trans}
-use Rattle.whole.specs.Tests.{lt-no}
+use Rattle.whole.specs.Flags.{holds, fails}
+use Rattle.whole.specs.Parts.{of-le, lt-of, le-trans, nat-nonneg}
 use Rattle.rules.specs.Limits.{longestCell, longestStep, largestJump}
-use Rattle.rules.specs.Refusals.{outside, badCall, off, fastFriction, chk, verdict, stageChecks, early, checks, refusal}
-use Rattle.rules.specs.Laws.Accept.{any-none}
+use Rattle.rules.specs.Refusals.{callTests, badCall, off, fastFriction, chk, verdict, stageChecks, early, checks, refusal}
+use Rattle.rules.specs.Laws.Accept.{none-at}
+use Rattle.rules.specs.Laws.Inside.{above-least}
 use Rattle.rules.specs.Laws.Lengths.{wrong-room, first-number, later-number}
 use Rattle.rules.specs.Lent.{Lent, reachOf, callOf, stateOf, misfit, misfits, number}
 use Rattle.reach.specs.declared.Reach.{Reach}
@@ -23,32 +22,23 @@ use Rattle.reach.specs.declared.Given.{Given}
 use Rattle.reach.specs.Told.{reachIn, callOn}
 use Rattle.reach.specs.Ranges.{Numbers}
 use Rattle.stage.specs.Says.{readyChecks, bothChecks}
-use Rattle.stage.specs.Worked.{Says, TablesSay, lentBy, WorkedSays}
-use Rattle.stage.specs.declared.worked.Worked.{Worked}
+use Rattle.stage.specs.Worked.{lentBy}
+use Rattle.stage.specs.Laws.LentChecks.{between}
 
 -- ---- numbers
-inside : (k : ℤ) (m : ℕ) (x : ℤ) → pos 0 ≤ℤ k → outside k (pos m) x ≡ false → (k ≤ℤ x) × Within m x
-inside k m x h e =
-    let low = lt-no x k (or-l (ltZ x k) (ltZ (pos m) x) e) in
-    (low, b-nonneg (le-trans h low) (lt-no (pos m) x (or-r (ltZ x k) (ltZ (pos m) x) e)))
-
-pub numbers : (reach : Reach) (call : Call) (bed : List ℤ) (ρ : ℕ → ℤ) → badCall (reachIn reach bed) (callOn call ρ) ≡ false
-    → Numbers reach call
+pub numbers : (reach : Reach) (call : Call) (bed : List ℤ) (ρ : ℕ → ℤ)
+    → badCall (reachIn reach bed) (callOn call ρ) ≡ false → Numbers reach call
 unfolding badCall
 numbers reach call bed ρ e =
-    let tests = outside (pos 1) longestCell (reach .dx) ∷ outside (pos 1) longestStep (call .dt) ∷ outside (pos 0) largestJump (call .jump)
-    ∷ ltb 1 (call .left) ∷ ltb 1 (call .right) ∷ [] in
-    let f = any-none tests e in let g = f .1 in
-    let x = inside (pos 1) 1048576 (reach .dx) (le-lit (pos 0) (pos 1) tt) (f .0) in
-    let t = inside (pos 1) 4096 (call .dt) (le-lit (pos 0) (pos 1) tt) (g .0) in
-    let j = inside (pos 0) 262144 (call .jump) (le-lit (pos 0) (pos 0) tt) (g .1 .0) in
+    let fails = none-at (callTests (reachIn reach bed) (callOn call ρ)) e in
+    let least = above-least (pos 1) longestCell (reach .dx) (fails 0) in
     record {
-      dx-pos = lt-of (pos 0) (reach .dx) (omega (arith, of-le (x .0)));
-      dx-in = x .1;
-      dt-pos = le-trans (le-lit (pos 0) (pos 1) tt) (t .0);
-      dt-in = t .1;
-      jump-pos = j .0;
-      jump-in = j .1;
+      dx-pos = lt-of (pos 0) (reach .dx) (omega (arith, of-le least));
+      dx-in = between (pos 1) 1048576 (reach .dx) (nat-nonneg 1) (fails 0);
+      dt-pos = le-trans (nat-nonneg 1) (above-least (pos 1) longestStep (call .dt) (fails 1));
+      dt-in = between (pos 1) 4096 (call .dt) (nat-nonneg 1) (fails 1);
+      jump-pos = above-least (pos 0) largestJump (call .jump) (fails 2);
+      jump-in = between (pos 0) 262144 (call .jump) (nat-nonneg 0) (fails 2);
     }
 
 -- the numbers of a call as its caller gave them, widened

@@ -8,6 +8,7 @@ use borrow.Author.Needs.{needs}
 use Rattle.whole.specs.Parts.{Within, b-nonneg, le-trans, lt-le, nat-nonneg}
 use Rattle.whole.specs.Choice.{sizeZ, b-size}
 use Rattle.whole.specs.Machine.{X, v, k, _⊗_, _⊘_, Entry, entry, need, value, divisor, g-var}
+use Rattle.rules.specs.Limits.{dryDepth, deepest}
 use Rattle.rules.specs.Friction.{cube, drag}
 use Rattle.rules.specs.Laws.Speeds.{cube-least, cube-most}
 use Rattle.reach.specs.Size.{sized as size-got}
@@ -17,19 +18,22 @@ use Rattle.stage.proofs.friction.drag_of.Statement.{statement}
 use Rattle.stage.proofs.friction.drag_of.Tie as tie
 
 module _ (s : tie.Start) where
+  depth : (dryDepth <ℤ s .args .h) × (s .args .h ≤ℤ deepest)
+  depth = s .pre .1 .1 .0
+
   low : pos 0 ≤ℤ s .args .h
-  low = lt-le (wet (s .args .h) (s .pre .1 .1 .0 .0) (s .pre .1 .1 .0 .1))
+  low = lt-le (wet (s .args .h) (depth .0) (depth .1))
 
   deep : Within 262144 (s .args .h)
-  deep = wet-size (s .args .h) (s .pre .1 .1 .0 .0) (s .pre .1 .1 .0 .1)
+  deep = wet-size (s .args .h) (depth .0) (depth .1)
 
   cube-size : Within 16384 (cube (s .args .h))
   cube-size =
       let h = s .args .h in
-      b-nonneg (le-trans (nat-nonneg 256) (cube-least h (wet h (s .pre .1 .1 .0 .0) (s .pre .1 .1 .0 .1)) deep)) (cube-most h deep)
+      b-nonneg (le-trans (nat-nonneg 256) (cube-least h (wet h (depth .0) (depth .1)) deep)) (cube-most h deep)
 
 cube-of-requires : tie.Need-cube-of-requires
-cube-of-requires c κs = simp (toZ-ofZ, c .fits .h) (low c, c .pre .1 .1 .0 .1)
+cube-of-requires c κs = simp (toZ-ofZ, c .fits .h) (low c, depth c .1)
 
 c-is : (t : tie.After-cube-of) → t .cube-of .result ≡ cube (t .before .args .h)
 c-is t = simp (toZ-ofZ, t .before .fits .h) at (t .cube-of .ensures)
@@ -57,7 +61,7 @@ module _ (c : tie.After-struct-told) where
       ∷ []
 
   divided : pos 0 <ℤ (pos 390625 *ℤ s .args .h *ℤ size .before .cube-of .result)
-  divided = let h = s .pre .1 .1 .0 in
+  divided = let h = depth s in
       subst (λ (z : ℤ). pos 0 <ℤ (pos 390625 *ℤ s .args .h *ℤ z)) (sym (c-is (size .before))) (divisor-pos (s .args .h) (h .0) (h .1))
 
 abbrev per : X

@@ -45,7 +45,8 @@ unfolding rubbedCell
 returns c =
     let a = c .before in let d = a .before in let s = d .before in let b = bedIn (s .args .b) in let x = asCell (s .args .t4) in
     let e : leZ (h0 b x) dryDepth ≡ true = rw (back (a .if12 .given), d .depths .ensures) at (c .if1 .taken) in
-    of-four (s .args .t4) (s .good .1 .1 .1 .0 .1 .0 .1)
+    let good = s .good .1 .1 .1 in let size = good .0 .1 in
+    of-four (s .args .t4) (size .0 .1)
     ∙ (λ i. x .e0 ∷ x .e1 ∷ sym (rub-dry (s .args .call .dt) dryDepth (s .args .f) b x (x .q0) e) i
     ∷ sym (rub-dry (s .args .call .dt) dryDepth (s .args .f) b x (x .q1) e) i ∷ [])
 

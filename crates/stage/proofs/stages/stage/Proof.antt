@@ -30,7 +30,7 @@ module _ (e : tie.Else1) where
 
   -- the table of the sides
   abbrev d : List (List ℤ)
-  d = worked .sides .last .1 .1 .1 .0
+  d = let tables = worked .sides .last .1 .1 .1 in tables .0
 
   slow-sides : some (fastSides (now (start .args .bed)) (state start)) (start .args .reach .n) ≡ false
   slow-sides = sym (worked .sides .ensures .stops) ∙ e .if1 .left
@@ -44,7 +44,7 @@ module _ (e : tie.Else2) where
 
   -- the table of the momenta
   abbrev g : List ℤ
-  g = pointed .points .last .1 .1 .1 .0
+  g = let tables = pointed .points .last .1 .1 .1 in tables .0
 
   slowed : let s = start sided in Slowed (s .args .reach) (s .args .call) (now (s .args .bed)) (state s) (d sided)
   slowed = let s = start sided in record {
@@ -95,7 +95,7 @@ module _ (t : tie.Else3) where
 
   -- the tables of the faces and of the momenta
   abbrev f : List (List ℤ)
-  f = faced .faces .last .1 .1 .1 .0
+  f = let tables = faced .faces .last .1 .1 .1 in tables .0
 
   rows : let a = start (sided passed) .args in Written [] f (suc (a .reach .n)) (faceRowAt (a .reach) (a .call) (d (sided passed)))
   rows = faced .faces .ensures .filled (t .if3 .left)

@@ -34,10 +34,10 @@ updated-requires c κs =
     let s = l .before in
     let a = s .args in
     let i = l .loop .i in
-    let rows = s .pre .1 .1 .0 in let g = s .pre .1 .1 .1 .0 i (e .loop-test .taken) in
+    let given = s .pre .1 .1 in let rows = given .0 in let g = given .1 .0 i (e .loop-test .taken) in
     rw (toZ-ofZ (fit g tt)) (
       subst (λ (z : Bed). Inside z (seen (now (a .t)) i)) (sym (b .under .ensures)) (s .pre .1 .0 i (e .loop-test .taken)),
-      ((rows i (omega arith), rows (i + 1) (omega arith)), (g, s .pre .1 .1 .1 .1)),
+      ((rows i (omega arith), rows (i + 1) (omega arith)), (g, given .1 .1)),
     )
 
 -- what was written of this cell
@@ -52,7 +52,8 @@ written c =
     let a = s .args in
     let i = l .loop .i in
     let next : i + 1 ≡ suc i = omega arith in
-    (rw (toZ-ofZ (fit (s .pre .1 .1 .1 .0 i (e .loop-test .taken)) tt)) at (c .updated .ensures))
+    let given = s .pre .1 .1 in
+    (rw (toZ-ofZ (fit (given .1 .0 i (e .loop-test .taken)) tt)) at (c .updated .ensures))
     ∙ (λ j. asList (updateBy (a .reach .dx) (a .call .dt) (b .under .ensures j) (seen (now (a .t)) i) (getD (now (a .f)) i [])
     (getD (now (a .f)) (next j) []) (getD (now (a .g)) i (pos 0))))
 

@@ -12,8 +12,8 @@ use Rattle.stage.proofs.worked.stage_two.Tie as tie
 
 stage-requires : tie.Need-stage-requires
 stage-requires c κs =
-    let s = c .before .before .before .before .before in
-    ((s .pre .0 .some, omega arith, omega arith, omega arith), ((omega arith, omega arith), (s .pre .0 .numbers, s .pre .1 .1 .1 .0 .1)))
+    let s = c .before .before .before .before .before in let ranged = s .pre .1 .1 .1 in
+    ((s .pre .0 .some, omega arith, omega arith, omega arith), ((omega arith, omega arith), (s .pre .0 .numbers, ranged .0 .1)))
 
 module _ (w : tie.After-stage) where
   abbrev start : tie.Start
@@ -35,24 +35,24 @@ returns c ρ v shows faces one =
 join-requires : tie.Need-join-requires
 join-requires c κs =
     let e = c .before .before in let s = begun e in let done = went e .stage .ensures (λ i. pos 0) .done (e .if1 .left) in
-    let ranged = s .pre .1 .1 .1 .0 .0 in (
+    let given = s .pre .1 .1 .1 in (
       (omega arith, omega arith, omega arith, omega arith),
       (
-        ((λ i l. small-wide (inside-small (ranged i l))), (λ i l. small-wide (done-small done i l))),
-        (s .pre .1 .1 .1 .1, done .faces .sized),
+        ((λ i l. small-wide (inside-small (given .0 .0 i l))), (λ i l. small-wide (done-small done i l))),
+        (given .1, done .faces .sized),
       ),
     )
 
 end-requires : tie.Need-end-requires
 end-requires c κs =
     let j = c .before .before .before in let e = j .before .before .before in let s = begun e in
-    let done = went e .stage .ensures (λ i. pos 0) .done (e .if1 .left) in let ranged = s .pre .1 .1 .1 .0 .0 in (
+    let done = went e .stage .ensures (λ i. pos 0) .done (e .if1 .left) in let given = s .pre .1 .1 .1 in (
       (s .pre .0 .most, s .pre .0 .beds, omega arith, omega arith),
       (
         s .pre .0 .numbers,
         (
-          (λ i l. ranged i l .ground),
-          join-small (now (s .args .bed)) (j .join .ensures) ranged (done-small done) (s .pre .1 .1 .1 .1) (done .faces .sized),
+          (λ i l. given .0 .0 i l .ground),
+          join-small (now (s .args .bed)) (j .join .ensures) (given .0 .0) (done-small done) (given .1) (done .faces .sized),
         ),
       ),
     )
