@@ -7,7 +7,7 @@ use lib.ListN.{length, getD}
 use lib.IntN.{ℤ, pos, _+ℤ_, _-ℤ_}
 use lib.Signed.{_≤ℤ_}
 use Rattle.tables.specs.Cells.{Cell}
-use Rattle.rules.specs.Limits.{mostCells, highestBed, deepest, fullest, roughest, dryDepth}
+use Rattle.rules.specs.Limits.{mostCells, highestBed, deepest, fullest, dryDepth}
 use Rattle.rules.specs.Reach as rules
 use Rattle.rules.specs.Refusals.{offCell, fastCell}
 use Rattle.reach.specs.declared.Reach.{Reach}

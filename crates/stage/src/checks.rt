@@ -19,7 +19,7 @@ use reach::limits::outside;
 use reach::limits::past;
 ghost use mathlib.Core.Path.{_≡_};
 ghost use mathlib.Core.List.{List};
-ghost use Prim.Native.Nat.{ℕ, _+_, _*_, _≤_, _<_};
+ghost use Prim.Native.Nat.{ℕ, _*_};
 ghost use lib.ListN.{getD, length};
 ghost use lib.IntN.{ℤ, pos};
 ghost use Rattle.tables.specs.Some.{some};

@@ -11,7 +11,6 @@ use reach::Reach;
 ghost use mathlib.Core.Path.{_≡_};
 ghost use mathlib.Core.List.{[]};
 ghost use Prim.Native.Nat.{suc, _≤_, _<_};
-ghost use lib.ListN.{length};
 ghost use Rattle.tables.specs.Filling.{FillSays};
 ghost use Rattle.rules.specs.Face.{face};
 ghost use Rattle.rules.specs.Stage as rules;

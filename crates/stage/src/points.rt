@@ -7,8 +7,6 @@ use reach::Reach;
 use reach::bed::Bed;
 use reach::bed::under;
 ghost use mathlib.Core.Path.{_≡_};
-ghost use Prim.Native.Nat.{_≤_, _<_};
-ghost use lib.ListN.{length};
 ghost use lib.IntN.{pos, _+ℤ_, _-ℤ_, _*ℤ_};
 ghost use lib.Signed.{quotZ};
 ghost use Rattle.tables.specs.Filling.{FillSays};

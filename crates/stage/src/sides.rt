@@ -10,8 +10,6 @@ use reach::bed::under;
 use speeds::answer::Whole;
 ghost use mathlib.Core.Path.{_≡_};
 ghost use mathlib.Core.List.{[]};
-ghost use Prim.Native.Nat.{_≤_, _<_};
-ghost use lib.ListN.{length};
 ghost use lib.IntN.{pos, _+ℤ_, _-ℤ_};
 ghost use lib.Signed.{_≤ℤ_};
 ghost use Rattle.tables.specs.Filling.{FillSays};

@@ -2,22 +2,18 @@
 -- Assumes nothing.
 use mathlib.Core.Path.{_≡_, _∙_, ap, subst}
 use mathlib.Core.Bool.{false}
-use mathlib.Core.List.{[], _∷_}
-use mathlib.Core.Logic.{⊎-elim}
-use Prim.Native.Nat.{ℕ, _+_, _*_, _/_, _≤_}
+use Prim.Native.Nat.{ℕ, _*_, _/_, _≤_}
 use native.Mathlib.Omega.{arith}
 use lib.IntN.{ℤ, pos, natAbs, _+ℤ_, _-ℤ_, _*ℤ_}
-use lib.Signed.{quotZ, ltZ, _≤ℤ_}
-use Rattle.whole.specs.Flags.{or-l, or-r}
-use Rattle.whole.specs.Parts.{Within, b-add, b-sub, b-lit, b-up, b-range, range-b, b-nonneg, abs-parts, one-part, abs-mul}
-use Rattle.whole.specs.Difference.{at, lit, _⊞_, _⊟_, ⊖, le!, eq!, le?}
+use lib.Signed.{quotZ, _≤ℤ_}
+use Rattle.whole.specs.Parts.{Within, b-add, b-sub, b-lit, b-up, abs-mul}
+use Rattle.whole.specs.Difference.{at, _⊞_, _⊟_, eq! }
 use Rattle.whole.specs.Quotient.{b-quot-by, abs-quot}
-use Rattle.whole.specs.Tests.{lt-no}
 use Rattle.whole.specs.Choice.{within-past}
 use Rattle.tables.specs.Cells.{Cell}
 use Rattle.rules.specs.Limits.{highestBed, deepest, fullest}
 use Rattle.rules.specs.Reach.{Bed, ql, qr, z0, z1, h0, h1, hl, hr}
-use Rattle.rules.specs.Stage.{share, depthBefore, depthBehind, flowBefore, flowBehind}
+use Rattle.rules.specs.Stage.{share}
 use Rattle.rules.specs.Step.{half}
 use Rattle.rules.specs.Refusals.{any, outside, past, cellTests, offCell}
 use Rattle.rules.specs.Laws.Accept.{none-at}

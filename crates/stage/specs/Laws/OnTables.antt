@@ -11,7 +11,7 @@ use Rattle.tables.specs.Rows.{Filled}
 use Rattle.tables.specs.Cells.{asCell, asList, cellAt, seen, Holds}
 use Rattle.rules.specs.Limits.{dryDepth}
 use Rattle.rules.specs.Reach.{Reach, Call, State}
-use Rattle.rules.specs.Step.{rubbedCell, rubbed, carry}
+use Rattle.rules.specs.Step.{rubbedCell, rubbed}
 use Rattle.rules.specs.Refusals.{verdict}
 use Rattle.rules.specs.Laws.Verdicts.{stopped, went-on}
 use Rattle.reach.specs.declared.Reach.{Reach as ToldReach}

@@ -6,7 +6,7 @@ use Prim.Native.Nat.{ℕ, suc, _<_}
 use native.Mathlib.Omega.{arith}
 use lib.IntN.{ℤ}
 use Rattle.tables.specs.Some.{some}
-use Rattle.tables.specs.Cells.{asCell, asList, seen, Holds}
+use Rattle.tables.specs.Cells.{asCell, asList, seen}
 use Rattle.rules.specs.Reach.{Reach, Call, State}
 use Rattle.rules.specs.Stage.{stage}
 use Rattle.rules.specs.Finishing.{finish}

@@ -1,6 +1,5 @@
 use mathlib.Core.List.{[], _∷_}
 use borrow.Author.Needs.{needs}
-use Rattle.tables.specs.Cells.{Cell, asCell}
 use Rattle.rules.specs.Reach.{Bed, h0, h1}
 use Rattle.reach.specs.Told.{bedIn}
 use Rattle.finishing.specs.Laws.Sizes.{z0-size, z1-size}

@@ -1,13 +1,11 @@
 -- What is inside the list is no larger than its end, so that its parity is that of its size.
-use mathlib.Core.Path.{_≡_, sym, _∙_, ap}
-use mathlib.Core.Bool.{false, not, _||_}
-use Prim.Native.Nat.{_≤_, _%_}
+use mathlib.Core.Path.{_≡_, sym, _∙_}
+use Prim.Native.Nat.{_≤_}
 use native.Mathlib.Omega.{arith}
-use lib.Dec.{eqb}
 use lib.IntN.{pos, natAbs}
 use lib.Signed.{ltZ, yes-nonNeg}
 use mir.Facts.{toZ-ofZ}
-use Rattle.whole.specs.Flags.{or-l, or-r, yes-or, no-or}
+use Rattle.whole.specs.Flags.{or-l, or-r}
 use Rattle.whole.specs.Parts.{b-nonneg}
 use Rattle.whole.specs.Tests.{lt-no}
 use Rattle.rules.specs.Limits.{highestBed}

@@ -8,7 +8,6 @@ use denote.Ref.{now}
 use lib.IntN.{ℤ}
 use Rattle.tables.specs.Scan.{Clear, clear-none, clear-more, found, clear-all}
 use Rattle.tables.specs.Cells.{seen}
-use Rattle.rules.specs.Reach.{Bed}
 use Rattle.rules.specs.Refusals.{offCell}
 use Rattle.reach.specs.Told.{bedAt}
 use Rattle.reach.specs.Ranges.{Ground}

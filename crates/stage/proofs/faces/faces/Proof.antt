@@ -1,7 +1,7 @@
 -- Each turn writes the row of a face or, at the first that is too long, ends the loop.
 use mathlib.Core.Path.{_≡_, sym, _∙_, ap, subst}
 use mathlib.Core.List.{[]}
-use Prim.Native.Nat.{suc, _-_, _≤_, _<_}
+use Prim.Native.Nat.{suc, _-_}
 use native.Mathlib.Omega.{arith}
 use borrow.Author.Needs.{needs}
 use denote.Ref.{now}

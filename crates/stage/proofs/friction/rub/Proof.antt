@@ -1,22 +1,14 @@
 -- Each turn rubs a cell, which is still the one that was lent.
-use mathlib.Core.Path.{_≡_, sym, _∙_, subst}
-use mathlib.Core.Bool.{false}
-use mathlib.Core.List.{List, []}
-use Prim.Native.Nat.{ℕ, _≤_, _<_, _-_}
+use mathlib.Core.List.{[]}
+use Prim.Native.Nat.{_≤_, _<_, _-_}
 use native.Mathlib.Omega.{arith}
 use borrow.Author.Needs.{needs}
 use denote.Ref.{now}
 use lib.ListN.{getD, length}
-use lib.IntN.{ℤ, pos}
-use mir.Facts.{toZ-ofZ}
-use Rattle.whole.specs.Parts.{nat-nonneg, fit}
+use Rattle.whole.specs.Parts.{nat-nonneg}
 use Rattle.whole.specs.Machine.{back64}
 use Rattle.tables.specs.Rows.{Filled, filled-none, filled-more, filled-all}
-use Rattle.tables.specs.Cells.{Cell, asCell, asList, seen}
-use Rattle.rules.specs.Limits.{dryDepth}
-use Rattle.rules.specs.Step.{rubbedCell}
-use Rattle.reach.specs.declared.Call.{Call}
-use Rattle.reach.specs.Told.{bedAt}
+use Rattle.tables.specs.Cells.{asList, seen}
 use Rattle.stage.specs.Rows.{rubbedAt}
 use Rattle.stage.proofs.friction.rub.Statement.{statement}
 use Rattle.stage.proofs.friction.rub.Tie as tie
