@@ -1,17 +1,17 @@
 -- The lesser and the greater of two whole numbers, and the size of one; how they turn when signs do.
 -- Assumes nothing.
-use mathlib.Core.Path.{_≡_, refl, sym, ap}
-use mathlib.Core.Bool.{true, false, cond}
+use mathlib.Core.Path.{_≡_, refl, ap}
+use mathlib.Core.Bool.{false, cond}
 use mathlib.Core.Logic.{⊎-elim}
-use Prim.Native.Nat.{ℕ, suc}
+use Prim.Native.Nat.{ℕ}
 use native.Mathlib.Omega.{arith}
-use lib.IntN.{ℤ, pos, negsuc, negℤ, natAbs}
-use lib.Signed.{leZ, ltZ, _≤ℤ_, _<ℤ_}
+use lib.IntN.{ℤ, pos, negℤ, natAbs}
+use lib.Signed.{leZ, ltZ, _≤ℤ_}
 use Rattle.whole.specs.Flags.{cond-ind}
 use Rattle.whole.specs.Parts.{Within, abs-parts, abs-neg, one-part, le-of, of-le, eq-of}
-use Rattle.whole.specs.Parts.{lt-le, le-refl, le-trans, lt-le-trans, b-range}
-use Rattle.whole.specs.Difference.{at, lit, nlit, ⊖, le!, lt!, eq!, le?, lt?}
-use Rattle.whole.specs.Tests.{le-yes, le-no, lt-no, yes-lt, no-lt}
+use Rattle.whole.specs.Parts.{lt-le, le-refl, le-trans, b-range}
+use Rattle.whole.specs.Difference.{at, lit, ⊖, le!, eq!, le?}
+use Rattle.whole.specs.Tests.{le-yes, le-no, lt-no, no-lt}
 
 unfoldable pub minZ : ℤ → ℤ → ℤ
 minZ a b = cond (leZ a b) a b
@@ -111,17 +111,7 @@ pub b-size : {A : ℕ} (a : ℤ) → Within A a → Within A (sizeZ a)
 unfolding sizeZ
 b-size a p = record { abs = p .abs }
 
--- ---- a size beyond m, by two tests
-pub beyond-low : (m : ℕ) (x : ℤ) → x <ℤ negℤ (pos m) → true ≡ ltZ (pos m) (sizeZ x)
-beyond-low m x h =
-    sym (yes-lt (pos m) (sizeZ x) (lt-le-trans (lt! (lit m) (⊖ (at x)) (omega (arith, lt? (at x) (⊖ (lit m)) h))) (size-ge-neg x)))
-
-pub beyond-high : (m : ℕ) (x : ℤ) → negℤ (pos m) ≤ℤ x → ltZ (pos m) x ≡ ltZ (pos m) (sizeZ x)
-unfolding sizeZ
-beyond-high m (pos n) h = refl
-beyond-high m (negsuc n) h = sym (no-lt (pos m) (pos (suc n)) (le-of (pos (suc n)) (pos m) (omega (arith, le? (⊖ (lit m)) (nlit n) h))))
-
--- a number within m is not beyond it, and the other way
+-- ---- a number within m is not beyond it, and the other way
 pub not-beyond : (m : ℕ) (x : ℤ) → Within m x → ltZ (pos m) (sizeZ x) ≡ false
 unfolding sizeZ
 not-beyond m x w = no-lt (pos m) (pos (natAbs x)) (le-of (pos (natAbs x)) (pos m) (omega (arith, w .abs)))
