@@ -17,10 +17,7 @@ use Rattle.reach.specs.Ranges.{UpTo, widest, Numbers, Ground}
 use Rattle.stage.specs.Rows.{massOf, pressureOf, advectionOf, volumeOf}
 
 -- ---- sizes, each the least round number that its proof gives
--- a number of at most 2^46 over a bed; a level, which is a depth over a bed, and its slope
-abbrev pub overBed : ℤ
-overBed = widest +ℤ highestBed
-
+-- a level, which is a depth over a bed, and its slope
 abbrev pub highestLevel : ℤ
 highestLevel = deepest +ℤ highestBed
 

@@ -19,7 +19,7 @@ ghost use Rattle.rules.specs.Refusals as rules;
 ghost use Rattle.rules.specs.Refusals.{offCell};
 ghost use Rattle.reach.specs.Told.{bedIn};
 ghost use Rattle.reach.specs.Ranges.{UpTo, Ground, Wide};
-ghost use Rattle.stage.specs.Ranges.{overBed};
+ghost use Rattle.finishing.specs.Depths.{widestDepth};
 
 // The mean depth h0 and the depth's slope h1.
 pub fn depths(b: Bed, x: Cell) -> [i64; 2]
@@ -32,7 +32,7 @@ pub fn depths(b: Bed, x: Cell) -> [i64; 2]
 
 // Is one of the two depths that a mean m with the slope s shows at the faces out of range?
 fn off_depths(m: i64, s: i64) -> bool
-    requires { ⌜ UpTo overBed m × UpTo overBed s ⌝ }
+    requires { ⌜ UpTo widestDepth m × UpTo widestDepth s ⌝ }
     ensures { λ r. ⌜ r ≡ (rules.outside (pos 0) deepest (m -ℤ s) || rules.outside (pos 0) deepest (m +ℤ s)) ⌝ }
 {
     if outside(0, DEEPEST, m - s) {
@@ -43,7 +43,7 @@ fn off_depths(m: i64, s: i64) -> bool
 
 // Is one of the two discharges out of range?
 fn off_flows(m: i64, s: i64) -> bool
-    requires { ⌜ UpTo overBed m × UpTo overBed s ⌝ }
+    requires { ⌜ UpTo widestDepth m × UpTo widestDepth s ⌝ }
     ensures { λ r. ⌜ r ≡ (rules.past fullest (m -ℤ s) || rules.past fullest (m +ℤ s)) ⌝ }
 {
     if past(FULLEST, m - s) {

@@ -60,18 +60,19 @@ pub limited-size : {A : ℕ} (r : Reach) (m : ℕ → ℤ) (i : ℕ) (x : ℤ) �
 unfolding limited
 limited-size r m i x w = with-left-size m i (withRight r m i x) (with-right-size r m i x w)
 
--- so a cell is as wide after the limiter
+-- so a slope is no larger after the limiter, and a cell as wide
+pub marked-size : {A : ℕ} (r : Reach) (c : Call) (s : State) (i : ℕ) (m : ℕ → ℤ) (x : ℤ) → Within A x
+    → Within A (cond (marked r c s i) (limited r m i x) x)
+marked-size {A} r c s i m x w = cond-ind (marked r c s i) (limited r m i x) x (Within A) (λ e. limited-size r m i x w) (λ e. w)
+
 pub limit-wide : (r : Reach) (c : Call) (s : State) (i : ℕ) → Wide (s i) → Wide (limit r c s i)
 unfolding limit
 limit-wide r c s i w = record {
   e0 = w .e0;
-  e1 = slope (λ j. s j .e0) (s i .e1) (w .e1);
+  e1 = marked-size r c s i (λ j. s j .e0) (s i .e1) (w .e1);
   q0 = w .q0;
-  q1 = slope (λ j. s j .q0) (s i .q1) (w .q1);
+  q1 = marked-size r c s i (λ j. s j .q0) (s i .q1) (w .q1);
 }
-  where
-    slope : {A : ℕ} (m : ℕ → ℤ) (x : ℤ) → Within A x → Within A (cond (marked r c s i) (limited r m i x) x)
-    slope {A} m x h = cond-ind (marked r c s i) (limited r m i x) x (Within A) (λ e. limited-size r m i x h) (λ e. h)
 
 -- ---- the mean and the slope of a bed, and of the depth of an unfinished cell over it
 pub z0-size : (b : Bed) → Ground b → UpTo highestBed (z0 b)

@@ -6,7 +6,7 @@ use Prim.Native.Nat.{ℕ, _*_, _/_, _≤_}
 use native.Mathlib.Omega.{arith}
 use lib.IntN.{ℤ, pos, natAbs, _+ℤ_, _-ℤ_, _*ℤ_}
 use lib.Signed.{quotZ, _≤ℤ_}
-use Rattle.whole.specs.Parts.{Within, b-add, b-sub, b-lit, b-up, abs-mul}
+use Rattle.whole.specs.Parts.{Within, b-add, b-lit, b-up, abs-mul}
 use Rattle.whole.specs.Difference.{at, _⊞_, _⊟_, eq! }
 use Rattle.whole.specs.Quotient.{b-quot-by, abs-quot}
 use Rattle.whole.specs.Choice.{within-past}
@@ -18,8 +18,9 @@ use Rattle.rules.specs.Step.{half}
 use Rattle.rules.specs.Refusals.{any, outside, past, cellTests, offCell}
 use Rattle.rules.specs.Laws.Accept.{none-at}
 use Rattle.rules.specs.Laws.Inside.{above-least, below-most}
-use Rattle.reach.specs.Ranges.{UpTo, widest, Ground, Wide}
-use Rattle.stage.specs.Ranges.{overBed, highestLevel, steepestLevel, mostVolume, Inside, Around}
+use Rattle.reach.specs.Ranges.{UpTo, widest, Wide}
+use Rattle.finishing.specs.Laws.Sizes.{z0-size, z1-size}
+use Rattle.stage.specs.Ranges.{highestLevel, steepestLevel, mostVolume, Inside, Around}
 use Rattle.stage.specs.Laws.Around.{mean-least, mean-most, mean-size, slope-size, flow-mean, flow-slope, nearer}
 
 -- ---- a cell in range
@@ -37,16 +38,8 @@ pub record CellSizes (b : Bed) (x : Cell) : Type 0 where
   pub faces : Around (h0 b x) (h1 b x) (x .q0) (x .q1)
   pub points : Around (h0 b x) (share (h1 b x)) (x .q0) (share (x .q1))
 
--- ---- the depths of any cell that a stage can leave
-pub h0-size : {b : Bed} {x : Cell} → Ground b → Wide x → UpTo overBed (h0 b x)
-unfolding h0 z0
-h0-size g w = b-sub (w .e0) (b-up 1048576 (b-quot-by (pos 2) (b-add (g .zl) (g .zr))) tt)
-
-pub h1-size : {b : Bed} {x : Cell} → Ground b → Wide x → UpTo overBed (h1 b x)
-unfolding h1 z1
-h1-size g w = b-sub (w .e1) (b-up 1048576 (b-quot-by (pos 2) (b-sub (g .zr) (g .zl))) tt)
-
--- half of two such numbers is one
+-- ---- what a stage forms
+-- half of two numbers of any cell is one
 pub half-size : {a b : ℤ} → UpTo widest a → UpTo widest b → UpTo widest (half a b)
 unfolding half
 half-size p q = b-up 70368744177664 (b-quot-by (pos 2) (b-add p q)) tt
@@ -57,7 +50,7 @@ unfolding half
 volume-size p q = b-up 210696667136 (b-quot-by (pos 2) (b-add p q)) tt
 
 -- a Gauss point's share of a slope is no larger than the slope
-pub share-size : {A : ℕ} (x : ℤ) → Within A x → Within A (share x)
+share-size : {A : ℕ} (x : ℤ) → Within A x → Within A (share x)
 unfolding share
 share-size {A} x w = record {
   abs = small (natAbs x) (natAbs (quotZ (pos 37837 *ℤ x) (pos 65536)))
@@ -95,11 +88,10 @@ faces-of {b} {x} f = record {
 }
 
 pub cell-sizes : {b : Bed} {x : Cell} → Inside b x → CellSizes b x
-unfolding h0 h1 z0 z1
+unfolding h0 h1
 cell-sizes {b} {x} i =
     let f = faces-of (in-range b x (i .range)) in
-    let mid : UpTo highestBed (z0 b) = b-up 1048576 (b-quot-by (pos 2) (b-add (i .ground .zl) (i .ground .zr))) tt in
-    let tilt : UpTo highestBed (z1 b) = b-up 1048576 (b-quot-by (pos 2) (b-sub (i .ground .zr) (i .ground .zl))) tt in
+    let mid = z0-size b (i .ground) in let tilt = z1-size b (i .ground) in
     let e0 : UpTo highestLevel (x .e0) = subst (UpTo highestLevel) (back (x .e0) (z0 b)) (b-add (mean-size f) mid) in
     let e1 : UpTo steepestLevel (x .e1) = subst (UpTo steepestLevel) (back (x .e1) (z1 b)) (b-add (slope-size f) tilt) in
     let q0 = flow-mean f in let q1 = flow-slope f in

@@ -1,39 +1,26 @@
 -- Friction leaves a cell in range: it takes from a discharge and never turns or adds to it.
 -- Assumes nothing.
 use mathlib.Core.Path.{_∙_, ap}
-use Prim.Native.Nat.{ℕ, suc, _*_, _/_, _≤_}
+use Prim.Native.Nat.{ℕ, _/_, _≤_}
 use native.Mathlib.Nat as NatL
 use native.Mathlib.Omega.{arith}
 use lib.IntN.{ℤ, pos, negsuc, natAbs, _+ℤ_, _*ℤ_}
 use lib.Signed.{leZ, _≤ℤ_}
 use Rattle.whole.specs.Flags.{cond-ind}
-use Rattle.whole.specs.Parts.{b-add, b-sub, b-lit, abs-mul, lt-le, le-lt-trans, le-lit, nat-nonneg}
-use Rattle.whole.specs.Difference.{mul-nonneg}
-use Rattle.whole.specs.Quotient.{abs-quot, quot-nonneg, share-le}
+use Rattle.whole.specs.Parts.{b-add, b-sub, b-lit, abs-mul, lt-le, le-lt-trans, le-lit}
+use Rattle.whole.specs.Quotient.{abs-quot, share-le}
 use Rattle.whole.specs.Tests.{le-no}
-use Rattle.whole.specs.Choice.{sizeZ, size-nonneg, not-beyond}
+use Rattle.whole.specs.Choice.{not-beyond}
 use Rattle.tables.specs.Cells.{Cell}
 use Rattle.rules.specs.Limits.{dryDepth}
 use Rattle.rules.specs.Face.{speed}
-use Rattle.rules.specs.Friction.{cube, drag, slowed}
+use Rattle.rules.specs.Friction.{drag, slowed}
 use Rattle.rules.specs.Reach.{Bed, ql, qr, h0, h1, hl, hr}
 use Rattle.rules.specs.Step.{rub, rubbedCell}
 use Rattle.stage.specs.Ranges.{Inside}
+use Rattle.stage.specs.Laws.FrictionStrength.{drag-nonneg}
 use Rattle.stage.specs.Laws.Around.{flow-sum}
 use Rattle.stage.specs.Laws.CellSizes.{cell-sizes, in-range, range-in}
-
--- the strength of friction is not below nought
-drag-nonneg : (dt f h u : ℤ) → pos 0 ≤ℤ dt → pos 0 ≤ℤ h → pos 0 ≤ℤ drag dt f h u
-unfolding drag cube
-drag-nonneg dt f h u p q =
-    quot-nonneg (pos 256 *ℤ pos 981 *ℤ dt *ℤ (f *ℤ f) *ℤ sizeZ u) (pos 390625 *ℤ h *ℤ cube h)
-    (mul-nonneg (pos 256 *ℤ pos 981 *ℤ dt *ℤ (f *ℤ f)) (sizeZ u) (mul-nonneg (pos 256 *ℤ pos 981 *ℤ dt) (f *ℤ f)
-    (mul-nonneg (pos 251136) dt (le-lit (pos 0) (pos 251136) tt) p) (square f)) (size-nonneg u))
-    (mul-nonneg (pos 390625 *ℤ h) (cube h) (mul-nonneg (pos 390625) h (le-lit (pos 0) (pos 390625) tt) q) (nat-nonneg _))
-  where
-    square : (f : ℤ) → pos 0 ≤ℤ (f *ℤ f)
-    square (pos n) = mul-nonneg (pos n) (pos n) (nat-nonneg n) (nat-nonneg n)
-    square (negsuc n) = nat-nonneg (suc n * suc n)
 
 -- what it leaves is no larger
 slowed-size : (x q : ℤ) → pos 0 ≤ℤ x → natAbs (slowed x q) ≤ natAbs q

@@ -1,7 +1,8 @@
 -- How strongly friction can act, where the speed has been checked: never below nought, and at most 10,786,209,068.
 -- Assumes nothing.
+use Prim.Native.Nat.{suc, _*_}
 use native.Mathlib.Omega.{arith}
-use lib.IntN.{ℤ, pos, _*ℤ_}
+use lib.IntN.{ℤ, pos, negsuc, _*ℤ_}
 use lib.Signed.{_≤ℤ_, _<ℤ_}
 use Rattle.whole.specs.Parts.{Within, b-mul, b-lit, b-up, b-nonneg, cross, le-lit, le-trans}
 use Rattle.whole.specs.Parts.{lt-le, le-lt-trans, lt-le-trans, lt-suc, nat-nonneg}
@@ -11,6 +12,20 @@ use Rattle.whole.specs.Choice.{sizeZ, size-nonneg, b-size}
 use Rattle.rules.specs.Limits.{dryDepth, deepest}
 use Rattle.rules.specs.Friction.{cube, drag}
 use Rattle.rules.specs.Laws.Speeds.{cube-least}
+
+-- whatever the friction and the speed
+pub drag-nonneg : (dt f h u : ℤ) → pos 0 ≤ℤ dt → pos 0 ≤ℤ h → pos 0 ≤ℤ drag dt f h u
+unfolding drag cube
+drag-nonneg dt f h u p q =
+    let step = mul-nonneg (pos 251136) dt (nat-nonneg 251136) p in
+    let rough = mul-nonneg (pos 256 *ℤ pos 981 *ℤ dt) (f *ℤ f) step (square f) in
+    quot-nonneg (pos 256 *ℤ pos 981 *ℤ dt *ℤ (f *ℤ f) *ℤ sizeZ u) (pos 390625 *ℤ h *ℤ cube h)
+    (mul-nonneg (pos 256 *ℤ pos 981 *ℤ dt *ℤ (f *ℤ f)) (sizeZ u) rough (size-nonneg u))
+    (mul-nonneg (pos 390625 *ℤ h) (cube h) (mul-nonneg (pos 390625) h (nat-nonneg 390625) q) (nat-nonneg _))
+  where
+    square : (f : ℤ) → pos 0 ≤ℤ (f *ℤ f)
+    square (pos n) = mul-nonneg (pos n) (pos n) (nat-nonneg n) (nat-nonneg n)
+    square (negsuc n) = nat-nonneg (suc n * suc n)
 
 -- ---- of water that is not dry
 module _ (h : ℤ) (low : dryDepth <ℤ h) (high : h ≤ℤ deepest) where
@@ -30,15 +45,6 @@ module _ (h : ℤ) (low : dryDepth <ℤ h) (high : h ≤ℤ deepest) where
 
   pub divisor-pos : pos 0 <ℤ (pos 390625 *ℤ h *ℤ cube h)
   divisor-pos = lt-le-trans (record { lt = tt }) divisor-least
-
-  pub drag-least : (dt f u : ℤ) → pos 0 ≤ℤ dt → pos 0 ≤ℤ f → pos 0 ≤ℤ drag dt f h u
-  unfolding drag
-  drag-least dt f u p q =
-      quot-nonneg (pos 256 *ℤ pos 981 *ℤ dt *ℤ (f *ℤ f) *ℤ sizeZ u) (pos 390625 *ℤ h *ℤ cube h)
-      (mul-nonneg (pos 256 *ℤ pos 981 *ℤ dt *ℤ (f *ℤ f)) (sizeZ u)
-      (mul-nonneg (pos 256 *ℤ pos 981 *ℤ dt) (f *ℤ f) (mul-nonneg (pos 256 *ℤ pos 981) dt (nat-nonneg 251136) p) (mul-nonneg f f q q))
-      (size-nonneg u))
-      (lt-le divisor-pos)
 
   pub drag-most : (dt f u : ℤ) → Within 4096 dt → Within 200 f → Within 131072 u → Within 10786209068 (drag dt f h u)
   unfolding drag

@@ -42,10 +42,10 @@ ranged n bed s g e i l = record { ground = g i l; range = some-none (λ i. offCe
 slows : (n : ℕ) (bed : List ℤ) (friction : List ℕ) (s : State) → some (λ i. badRough (pos (getD friction i 0))) n ≡ false
     → some (λ i. fastCell dryDepth (bedAt bed i) (s i)) n ≡ false → Slows friction bed n s
 unfolding badRough
-slows n bed friction s e f i l = record {
-  rough = let w = between (pos 0) 200 (pos (getD friction i 0)) (nat-nonneg 0) (some-none (λ i. badRough (pos (getD friction i 0))) n e i l) in w .abs;
-  speed = some-none (λ i. fastCell dryDepth (bedAt bed i) (s i)) n f i l;
-}
+slows n bed friction s e f i l =
+    let passed = some-none (λ i. badRough (pos (getD friction i 0))) n e i l in
+    let w = between (pos 0) 200 (pos (getD friction i 0)) (nat-nonneg 0) passed in
+    record { rough = w .abs; speed = some-none (λ i. fastCell dryDepth (bedAt bed i) (s i)) n f i l }
 
 -- ---- a lent state that is ready
 module _ (n : ℕ) (bed : List ℤ) (friction : List ℕ) (s : State) (f : 0 ≡ verdict (readyChecks n bed friction s)) where

@@ -9,7 +9,7 @@ use lib.ListN.{getD}
 use lib.IntN.{ℤ, pos}
 use lib.Signed.{leZ, _≤ℤ_}
 use Rattle.whole.specs.Flags.{cond-ind, or-l, or-r}
-use Rattle.whole.specs.Parts.{Within, b-add, b-sub, b-mul, b-lit, b-up}
+use Rattle.whole.specs.Parts.{b-add, b-sub, b-mul, b-lit, b-up}
 use Rattle.whole.specs.Quotient.{b-quot-by}
 use Rattle.whole.specs.Choice.{within-past}
 use Rattle.tables.specs.Some.{some, some-none}
@@ -17,16 +17,16 @@ use Rattle.tables.specs.Rows.{Written}
 use Rattle.tables.specs.Cells.{Cell, asCell, seen, Holds}
 use Rattle.rules.specs.Limits.{dryDepth, deepest, fastest}
 use Rattle.rules.specs.Face.{speed}
-use Rattle.rules.specs.Reach.{Reach, Call, State, Bed, z0, z1, h0, h1, hl, hr, ql, qr, depthL, depthR, sideL, sideR}
+use Rattle.rules.specs.Reach.{Reach, Call, State, Bed, h0, h1, hl, hr, ql, qr, depthL, depthR, sideL, sideR}
 use Rattle.rules.specs.Stage.{carried, gauss, flowBefore, flowBehind, depthBefore, depthBehind, stage}
-use Rattle.rules.specs.Finishing.{marked, limited, limit, beyond, cut, dried}
+use Rattle.rules.specs.Finishing.{limit, beyond, cut, dried}
 use Rattle.rules.specs.Step.{half, joinedCell}
 use Rattle.rules.specs.Refusals.{past, fastSide, fastPoints}
 use Rattle.rules.specs.Laws.Positive.{depthL-is, depthR-is}
 use Rattle.rules.specs.Laws.Sizes.{Sound}
 use Rattle.reach.specs.Told.{bedAt}
 use Rattle.reach.specs.Ranges.{UpTo, widest, Ground, Wide}
-use Rattle.finishing.specs.Laws.Sizes.{limited-size, clip-size}
+use Rattle.finishing.specs.Laws.Sizes.{marked-size, z0-size, z1-size, clip-size}
 use Rattle.stage.specs.Rows.{sidesAt, fastSides, Sounds, volumeOf, joinAt}
 use Rattle.stage.specs.Ranges.{widestLevel, mostMomentum, Small, Smalls, Inside, Ranged, Row, FaceRows}
 use Rattle.stage.specs.Says.{StageDone, JoinSays}
@@ -88,7 +88,7 @@ inside-small i = let q = cell-sizes i in
       q1 = b-up 70368744177664 (q .q1) tt;
     }
 
-pub joined-small : {b : Bed} (x y : Cell) (f g h k : List ℤ) → Inside b x → Small y → Row f → Row g → Row h → Row k
+joined-small : {b : Bed} (x y : Cell) (f g h k : List ℤ) → Inside b x → Small y → Row f → Row g → Row h → Row k
     → Small (joinedCell x y (half (volumeOf f) (volumeOf g)) (half (volumeOf h) (volumeOf k)))
 unfolding joinedCell half
 joined-small x y f g h k i w p q r s =
@@ -117,22 +117,17 @@ join-small {n} {a} {y} {f} {h} {j} bed d ra w p q = shown-small n (joinAt a y f 
 -- ---- finished states
 pub finish-wide : (r : Reach) (c : Call) (s : State) (i : ℕ) (b : Bed) → Ground b → Small (s i)
     → Wide (dried (c .dry) b (cut b (limit r c s i)))
-unfolding dried cut limit h0 h1 z0 z1
+unfolding dried cut limit h0 h1
 finish-wide r c s i b g w =
     let y = limit r c s i in let m = h0 b y in let d = h1 b y in
-    let e1 : UpTo widestLevel (y .e1) = slope (λ j. s j .e0) (s i .e1) (w .e1) in
-    let q1 : UpTo widest (y .q1) = slope (λ j. s j .q0) (s i .q1) (w .q1) in
-    let z0 = b-quot-by (pos 2) (b-add (g .zl) (g .zr)) in let z1 = b-quot-by (pos 2) (b-sub (g .zr) (g .zl)) in
-    let mid : Within 2199024304128 m = b-sub (w .e0) (b-up 1048576 z0 tt) in
-    let tilt : Within 2199024304128 d = b-sub e1 (b-up 1048576 z1 tt) in
+    let e1 : UpTo widestLevel (y .e1) = marked-size r c s i (λ j. s j .e0) (s i .e1) (w .e1) in
+    let q1 : UpTo widest (y .q1) = marked-size r c s i (λ j. s j .q0) (s i .q1) (w .q1) in
+    let mid = b-sub (w .e0) (z0-size b g) in let tilt = b-sub e1 (z1-size b g) in
     let nought : UpTo widest (pos 0) = b-up 70368744177664 (b-lit (pos 0)) tt in
     record {
       e0 = b-up 70368744177664 (w .e0) tt;
-      e1 = b-up 70368744177664 (b-add (clip-size m d mid tilt) z1) tt;
+      e1 = b-up 70368744177664 (b-add (clip-size m d mid tilt) (z1-size b g)) tt;
       q0 = cond-ind (leZ m (c .dry)) (pos 0) (s i .q0) (UpTo widest) (λ e. nought) (λ e. w .q0);
       q1 = cond-ind (leZ m (c .dry)) (pos 0) (cond (beyond m d) (pos 0) (y .q1)) (UpTo widest) (λ e. nought)
           (λ e. cond-ind (beyond m d) (pos 0) (y .q1) (UpTo widest) (λ k. nought) (λ k. q1));
     }
-  where
-    slope : {A : ℕ} (m : ℕ → ℤ) (x : ℤ) → Within A x → Within A (cond (marked r c s i) (limited r m i x) x)
-    slope {A} m x h = cond-ind (marked r c s i) (limited r m i x) x (Within A) (λ e. limited-size r m i x h) (λ e. h)

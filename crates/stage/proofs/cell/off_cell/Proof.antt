@@ -14,9 +14,9 @@ use Rattle.rules.specs.Reach.{Bed, h0, h1, hl, hr, ql, qr}
 use Rattle.rules.specs.Refusals.{any, outside, past, offCell}
 use borrow.Author.Needs.{needs}
 use Rattle.reach.specs.Told.{bedIn}
-use Rattle.reach.specs.Ranges.{UpTo}
-use Rattle.stage.specs.Ranges.{overBed}
-use Rattle.stage.specs.Laws.CellSizes.{h0-size, h1-size}
+use Rattle.reach.specs.Ranges.{UpTo, Unfinished}
+use Rattle.finishing.specs.Depths.{widestDepth}
+use Rattle.finishing.specs.Laws.Sizes.{h0-size, h1-size}
 use Rattle.stage.proofs.cell.off_cell.Statement.{statement}
 use Rattle.stage.proofs.cell.off_cell.Tie as tie
 
@@ -69,10 +69,11 @@ module _ (c : tie.After-off-depths) where
       ∙ ap₂ (λ (m d : ℤ). outside (pos 0) deepest (m -ℤ d) || outside (pos 0) deepest (m +ℤ d)) (mean (c .before)) (slope (c .before))
 
 off-depths-requires : tie.Need-off-depths-requires
-off-depths-requires c κs = let w = c .before .before .before .pre in (
-  subst (UpTo overBed) (sym (mean c)) (h0-size (w .0) (w .1)),
-  subst (UpTo overBed) (sym (slope c)) (h1-size (w .0) (w .1)),
-)
+off-depths-requires c κs = let s = c .before .before .before in
+    let w : Unfinished (bed s) (cell s) = record { ground = s .pre .0; wide = s .pre .1 } in (
+      subst (UpTo widestDepth) (sym (mean c)) (h0-size (bed s) (cell s) w),
+      subst (UpTo widestDepth) (sym (slope c)) (h1-size (bed s) (cell s) w),
+    )
 
 returns : tie.Need-returns
 returns c = let d = c .before in off-is (bed (s d)) (cell (s d)) true (sym (c .if1 .taken) ∙ first d)

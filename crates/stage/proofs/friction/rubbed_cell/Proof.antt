@@ -20,7 +20,7 @@ use Rattle.tables.specs.Cells.{of-four}
 use Rattle.whole.specs.Choice.{within-past}
 use Rattle.reach.specs.Told.{bedIn}
 use Rattle.stage.specs.Laws.CellSizes.{cell-sizes}
-use Rattle.stage.specs.Laws.FrictionStrength.{drag-least, drag-most}
+use Rattle.stage.specs.Laws.FrictionStrength.{drag-nonneg, drag-most}
 use Rattle.stage.proofs.friction.rubbed_cell.Statement.{statement}
 use Rattle.stage.proofs.friction.rubbed_cell.Tie as tie
 
@@ -92,7 +92,7 @@ x-size c =
     let e = c .before .before .before in let s = e .before .before .before in let m = cell-sizes (s .pre .1 .1 .0) in let p = s .args in
     let h = h0 (bed s) (cell s) in let u = speed dryDepth (cell s .q0) h in
     let low : dryDepth <ℤ h = le-no h dryDepth (wet e) in (
-      drag-least h low (m .mean-most) (p .call .dt) (p .f) u (s .pre .0 .0) (s .pre .1 .0 .0),
+      drag-nonneg (p .call .dt) (p .f) h u (s .pre .0 .0) (m .mean),
       drag-most h low (m .mean-most) (p .call .dt) (p .f) u (s .pre .0 .1) (s .pre .1 .0 .1) (within-past 131072 u (s .pre .1 .1 .1)),
     )
 
