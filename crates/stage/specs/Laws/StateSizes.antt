@@ -17,7 +17,7 @@ use Rattle.tables.specs.Rows.{Written}
 use Rattle.tables.specs.Cells.{Cell, asCell, seen, Holds}
 use Rattle.rules.specs.Limits.{dryDepth, deepest, fastest}
 use Rattle.rules.specs.Face.{speed}
-use Rattle.rules.specs.Reach.{Reach, Call, State, Bed, h0, h1, hl, hr, ql, qr, depthL, depthR, sideL, sideR}
+use Rattle.rules.specs.Reach.{Reach, Call, State, Bed, h0, h1, hl, hr, ql, qr, sideL, sideR}
 use Rattle.rules.specs.Stage.{carried, gauss, flowBefore, flowBehind, depthBefore, depthBehind, stage}
 use Rattle.rules.specs.Finishing.{limit, beyond, cut, dried}
 use Rattle.rules.specs.Step.{half, joinedCell}
@@ -34,23 +34,14 @@ use Rattle.stage.specs.Laws.CellSizes.{cell-sizes}
 use Rattle.stage.specs.Laws.RowsAreRules.{left-in, right-in}
 
 -- ---- sides that passed check 6
-sound-left : {b : Bed} {x : Cell} → Inside b x → fastSide (sideL dryDepth b x) ≡ false → Sound (sideL dryDepth b x)
-unfolding sideL hl
-sound-left {b} {x} i e = let q = cell-sizes i .faces in
-    record {
-      least = subst (λ (z : ℤ). pos 0 ≤ℤ z) (sym (depthL-is b x (q .left))) (q .left);
-      most = subst (λ (z : ℤ). z ≤ℤ deepest) (sym (depthL-is b x (q .left))) (q .left-most);
-      speed = within-past 131072 (speed dryDepth (ql x) (depthL b x)) e;
-    }
-
-sound-right : {b : Bed} {x : Cell} → Inside b x → fastSide (sideR dryDepth b x) ≡ false → Sound (sideR dryDepth b x)
-unfolding sideR hr
-sound-right {b} {x} i e = let q = cell-sizes i .faces in
-    record {
-      least = subst (λ (z : ℤ). pos 0 ≤ℤ z) (sym (depthR-is b x (q .right))) (q .right);
-      most = subst (λ (z : ℤ). z ≤ℤ deepest) (sym (depthR-is b x (q .right))) (q .right-most);
-      speed = within-past 131072 (speed dryDepth (qr x) (depthR b x)) e;
-    }
+-- a side of depth d, which is the depth h of the level over the bed
+sound : {d h : ℤ} (q : ℤ) → d ≡ h → pos 0 ≤ℤ h → h ≤ℤ deepest → past fastest (speed dryDepth q d) ≡ false
+    → Sound (record { h = d; u = speed dryDepth q d })
+sound {d} q e l m f = record {
+  least = subst (λ (z : ℤ). pos 0 ≤ℤ z) (sym e) l;
+  most = subst (λ (z : ℤ). z ≤ℤ deepest) (sym e) m;
+  speed = within-past 131072 (speed dryDepth q d) f;
+}
 
 module _ (n : ℕ) (bed : List ℤ) (s : State) (inside : Ranged bed n s) (e : some (fastSides bed s) n ≡ false) where
   -- neither side of cell i is too fast
@@ -59,10 +50,14 @@ module _ (n : ℕ) (bed : List ℤ) (s : State) (inside : Ranged bed n s) (e : s
   slow i l = some-none (fastSides bed s) n e i l
 
   pub sounds : (d : List (List ℤ)) → Written [] d n (sidesAt bed s) → Sounds d n
+  unfolding sideL sideR hl hr
   sounds d w i l =
-      let x = sideL dryDepth (bedAt bed i) (s i) in let y = sideR dryDepth (bedAt bed i) (s i) in (
-        subst Sound (sym (left-in n bed s d w i l)) (sound-left (inside i l) (or-l (fastSide x) (fastSide y) (slow i l))),
-        subst Sound (sym (right-in n bed s d w i l)) (sound-right (inside i l) (or-r (fastSide x) (fastSide y) (slow i l))),
+      let b = bedAt bed i in let x = s i in let f = cell-sizes (inside i l) .faces in
+      let left = fastSide (sideL dryDepth b x) in let right = fastSide (sideR dryDepth b x) in (
+        subst Sound (sym (left-in n bed s d w i l))
+            (sound (ql x) (depthL-is b x (f .left)) (f .left) (f .left-most) (or-l left right (slow i l))),
+        subst Sound (sym (right-in n bed s d w i l))
+            (sound (qr x) (depthR-is b x (f .right)) (f .right) (f .right-most) (or-r left right (slow i l))),
       )
 
 -- ---- Gauss points that passed check 6

@@ -1,4 +1,4 @@
-use mathlib.Core.Path.{_≡_, sym, _∙_, subst}
+use mathlib.Core.Path.{_≡_, sym, _∙_}
 use mathlib.Core.Bool.{Bool}
 use mathlib.Core.List.{List}
 use Prim.Native.Nat.{ℕ, _≤_, _-_}
@@ -9,10 +9,8 @@ use lib.IntN.{ℤ}
 use Rattle.tables.specs.Scan.{Clear, clear-none, clear-more, found, clear-all}
 use Rattle.tables.specs.Cells.{seen}
 use Rattle.rules.specs.Limits.{dryDepth}
-use Rattle.rules.specs.Reach.{Bed}
 use Rattle.rules.specs.Refusals.{fastCell}
 use Rattle.reach.specs.Told.{bedAt}
-use Rattle.stage.specs.Ranges.{Inside}
 use Rattle.stage.proofs.checks.fast.Statement.{statement}
 use Rattle.stage.proofs.checks.fast.Tie as tie
 
@@ -31,8 +29,7 @@ loop-holds c = (omega arith, clear-none _)
 fast-cell-requires : tie.Need-fast-cell-requires Inv-loop μ-loop
 fast-cell-requires c κs =
     let b = c .before in let e = b .before in let l = e .before in let s = l .before in
-    subst (λ (z : Bed). Inside z (seen (now (s .args .t)) (l .loop .i))) (sym (b .under .ensures))
-    (s .pre .1 (l .loop .i) (e .loop-test .taken))
+    rw (b .under .ensures) (s .pre .1 (l .loop .i) (e .loop-test .taken))
 
 -- what the test of this turn says
 here : (c : tie.After-fast-cell Inv-loop μ-loop) →

@@ -1,5 +1,5 @@
 -- Each turn writes the momentum of a cell's points or, at the first that is too fast, ends the loop.
-use mathlib.Core.Path.{_≡_, sym, ap, _∙_, subst}
+use mathlib.Core.Path.{_≡_, sym, ap, _∙_}
 use mathlib.Core.List.{List}
 use Prim.Native.Nat.{_-_}
 use native.Mathlib.Omega.{arith}
@@ -10,11 +10,9 @@ use lib.IntN.{ℤ, pos}
 use Rattle.whole.specs.Machine.{back, back64}
 use Rattle.tables.specs.Filling.{Filling, fill-none, fill-more, fill-stops, fill-ends}
 use Rattle.tables.specs.Cells.{seen}
-use Rattle.rules.specs.Reach.{Bed}
 use Rattle.rules.specs.Refusals.{fastPoints}
 use Rattle.reach.specs.Told.{bedAt}
 use Rattle.stage.specs.Rows.{pointRow, fastPointsAt, momentumAt}
-use Rattle.stage.specs.Ranges.{Inside}
 use Rattle.stage.proofs.points.points.Statement.{statement}
 use Rattle.stage.proofs.points.points.Tie as tie
 
@@ -30,8 +28,7 @@ loop-holds c = fill-none (pos 0) _ _ _ (now (c .args .g))
 points-of-requires : tie.Need-points-of-requires Inv-loop μ-loop
 points-of-requires c κs =
     let b = c .before in let e = b .before in let l = e .before in let s = l .before in
-    subst (λ (z : Bed). Inside z (seen (now (s .args .t)) (l .loop .i))) (sym (b .under .ensures))
-    (s .pre .1 (l .loop .i) (e .loop-test .taken))
+    rw (b .under .ensures) (s .pre .1 (l .loop .i) (e .loop-test .taken))
 
 -- what a turn finds: the row of its cell, and whether that is too fast
 row : (c : tie.After-points-of Inv-loop μ-loop) →

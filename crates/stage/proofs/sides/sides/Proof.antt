@@ -1,5 +1,5 @@
 -- Each turn writes a cell's sides or, at the first that is too fast, ends the loop.
-use mathlib.Core.Path.{_≡_, sym, _∙_, subst}
+use mathlib.Core.Path.{_≡_, sym, _∙_}
 use mathlib.Core.List.{[]}
 use Prim.Native.Nat.{_-_}
 use native.Mathlib.Omega.{arith}
@@ -8,9 +8,7 @@ use denote.Ref.{now}
 use Rattle.whole.specs.Machine.{back}
 use Rattle.tables.specs.Filling.{Filling, fill-none, fill-more, fill-stops, fill-ends}
 use Rattle.tables.specs.Cells.{seen}
-use Rattle.rules.specs.Reach.{Bed}
 use Rattle.stage.specs.Rows.{sidesAt, fastSides}
-use Rattle.stage.specs.Ranges.{Inside}
 use Rattle.stage.proofs.sides.sides.Statement.{statement}
 use Rattle.stage.proofs.sides.sides.Tie as tie
 
@@ -26,8 +24,7 @@ loop-holds c = fill-none [] _ _ _ (now (c .args .d))
 sides-of-requires : tie.Need-sides-of-requires Inv-loop μ-loop
 sides-of-requires c κs =
     let b = c .before in let e = b .before in let l = e .before in let s = l .before in
-    subst (λ (z : Bed). Inside z (seen (now (s .args .t)) (l .loop .i))) (sym (b .under .ensures))
-    (s .pre .1 (l .loop .i) (e .loop-test .taken))
+    rw (b .under .ensures) (s .pre .1 (l .loop .i) (e .loop-test .taken))
 
 -- what a turn finds: the row of its cell, and whether that is too fast
 row : (c : tie.After-sides-of Inv-loop μ-loop) →

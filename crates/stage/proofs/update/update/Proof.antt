@@ -1,5 +1,5 @@
 -- Below i every cell is the rule's.
-use mathlib.Core.Path.{_≡_, _∙_, sym, subst}
+use mathlib.Core.Path.{_≡_, _∙_}
 use mathlib.Core.List.{[]}
 use Prim.Native.Nat.{suc, _+_, _-_, _≤_, _<_}
 use native.Mathlib.Omega.{arith}
@@ -11,9 +11,7 @@ use mir.Facts.{toZ-ofZ}
 use Rattle.whole.specs.Parts.{fit}
 use Rattle.tables.specs.Rows.{Filled, filled-none, filled-more}
 use Rattle.tables.specs.Cells.{asList, seen}
-use Rattle.rules.specs.Reach.{Bed}
 use Rattle.stage.specs.Rows.{updateBy, updateAt}
-use Rattle.stage.specs.Ranges.{Inside}
 use Rattle.stage.proofs.update.update.Statement.{statement}
 use Rattle.stage.proofs.update.update.Tie as tie
 
@@ -35,8 +33,8 @@ updated-requires c κs =
     let a = s .args in
     let i = l .loop .i in
     let given = s .pre .1 .1 in let rows = given .0 in let g = given .1 .0 i (e .loop-test .taken) in
-    rw (toZ-ofZ (fit g tt)) (
-      subst (λ (z : Bed). Inside z (seen (now (a .t)) i)) (sym (b .under .ensures)) (s .pre .1 .0 i (e .loop-test .taken)),
+    rw (toZ-ofZ (fit g tt), b .under .ensures) (
+      s .pre .1 .0 i (e .loop-test .taken),
       ((rows i (omega arith), rows (i + 1) (omega arith)), (g, given .1 .1)),
     )
 
