@@ -96,8 +96,8 @@ module _
             → TablesSay reach call bed friction state (Done w v) old new
         both-done filled p q = let d = both .done y in record {
           none = sym both-number ∙ y;
-          left = p ∙ volume-is r c o s f x b d 0 (omega arith);
-          right = q ∙ volume-is r c o s f x b d n (omega arith);
+          left = p ∙ volume-is d 0 (omega arith);
+          right = q ∙ volume-is d n (omega arith);
           cells = record { size = filled .size; below = λ i l. filled .below i l ∙ d .cells i l; above = filled .above };
           left-in = subst Volume (sym p) (volume-in 0 (omega arith));
           right-in = subst Volume (sym q) (volume-in n (omega arith));

@@ -18,47 +18,47 @@ use Rattle.stage.specs.Rows.{faceRow, volumeOf, volumeAt}
 use Rattle.stage.specs.Says.{halfChecks, Shows, FacesOf, StageDone, StageSays, JoinSays, EndSays, HalfSays, BothDone, StepSays}
 
 -- ---- a half, in a reach and a call of any kind
-module _ (r : Reach) (c : Call) (o : 0 < r .n) where
-  faces-same : (s t : State) (f : List (List ℤ)) → Same r s t → FacesOf r c s f → FacesOf r c t f
-  faces-same s t f e h = record { rows = λ i l. h .rows i l ∙ ap (faceRow (r .dx) (c .dt)) (faceAt-same r c s t e o i l); sized = h .sized }
+module _ {r : Reach} {c : Call} (o : 0 < r .n) where
+  faces-same : {s t : State} {f : List (List ℤ)} → Same r s t → FacesOf r c s f → FacesOf r c t f
+  faces-same {s} {t} e h =
+      record { rows = λ i l. h .rows i l ∙ ap (faceRow (r .dx) (c .dt)) (faceAt-same r c s t e o i l); sized = h .sized }
 
   -- the table a shows s; the stage from it may stop,
-  module _ (a : List (List ℤ)) (s t : State) (e : Shows r a s) (k : ℕ) (f u : List (List ℤ)) (one : StageSays r c (seen a) k f u) where
+  module _ (a : List (List ℤ)) {s : State} (e : Shows r a s) {k : ℕ} {f u : List (List ℤ)} (one : StageSays r c (seen a) k f u) where
     number : k ≡ verdict (stageChecks r c s)
     number = one .number ∙ ap verdict (stageChecks-same r c o (seen a) s e)
 
-    pub half-stops : (k ≡ 0 → ⊥) → (g b : List (List ℤ)) → HalfSays r c s t k g b
-    half-stops h g b =
+    pub half-stops : (k ≡ 0 → ⊥) → {t : State} {g b : List (List ℤ)} → HalfSays r c s t k g b
+    half-stops h {t} =
         record { number = stopped (stageChecks r c s) (chk 8 (some (off r t) (r .n)) ∷ []) k number h; done = λ z. absurd (h z) }
 
     -- or go on and end with a state v that is finished to t
-    pub half-ends : k ≡ 0 → (v : State) (m : ℕ) (b : List (List ℤ)) → Same r (finish r c v) t → EndSays r c v m b → HalfSays r c s t m f b
+    pub half-ends : k ≡ 0 → {v t : State} {m : ℕ} {b : List (List ℤ)} → Same r (finish r c v) t → EndSays r c v m b → HalfSays r c s t m f b
     unfolding stageChecks
-    half-ends z v m b d end = record {
+    half-ends z {v} {t} d end = record {
       number = end .number
           ∙ ap (λ x. verdict (chk 8 x ∷ [])) (off-same r c o (finish r c v) t d)
           ∙ went-on (stageChecks r c s) (chk 8 (some (off r t) (r .n)) ∷ []) tt (sym z ∙ number);
       done = λ y. record {
-        faces = faces-same (seen a) s f e (one .done z .faces);
+        faces = faces-same e (one .done z .faces);
         cells = λ i l. end .cells i l ∙ ap asList (d i l);
       };
     }
 
   -- ---- the states of the two halves, in tables
   module _ (s : State) (a : List (List ℤ)) (sa : Shows r a (rubbed r c s)) where
-    pub one-state : (f u : List (List ℤ)) → StageDone r c (seen a) f u → Same r (finish r c (seen u)) (stageOne r c s)
+    pub one-state : {f u : List (List ℤ)} → StageDone r c (seen a) f u → Same r (finish r c (seen u)) (stageOne r c s)
     unfolding stageOne
-    one-state f u d =
+    one-state {f} {u} d =
         finish-same r c (seen u) (stage r c (rubbed r c s))
         (λ i l. ap asCell (d .cells i l) ∙ stage-same r c (seen a) (rubbed r c s) sa i l)
 
-    module _ (b f h u j : List (List ℤ)) (sb : Shows r b (stageOne r c s)) (ff : FacesOf r c (rubbed r c s) f)
-        (d : StageDone r c (seen b) h u)
-        (joint : JoinSays (r .n) (seen a) (seen u) f h j) where
+    module _ (b : List (List ℤ)) (sb : Shows r b (stageOne r c s)) {f h u j : List (List ℤ)} (ff : FacesOf r c (rubbed r c s) f)
+        (d : StageDone r c (seen b) h u) (joint : JoinSays (r .n) (seen a) (seen u) f h j) where
       -- W at face i, and the cell after stage two
       across : (i : ℕ) → i < suc (r .n) → volumeAt f h i ≡ carry r c s i
       unfolding carry
-      across i l = ap₂ half (ap volumeOf (ff .rows i l)) (ap volumeOf (faces-same (seen b) (stageOne r c s) h sb (d .faces) .rows i l))
+      across i l = ap₂ half (ap volumeOf (ff .rows i l)) (ap volumeOf (faces-same sb (d .faces) .rows i l))
 
       after : (i : ℕ) → i < r .n → seen u i ≡ stage r c (stageOne r c s) i
       after i l = ap asCell (d .cells i l) ∙ stage-same r c (seen b) (stageOne r c s) sb i l
@@ -68,27 +68,28 @@ module _ (r : Reach) (c : Call) (o : 0 < r .n) where
       two-state = finish-same r c (seen j) (joined r c s) (λ i l. ap asCell (joint .cells i l)
           ∙ (λ k. joinedCell (sa i l k) (after i l k) (across i (omega arith) k) (across (suc i) (omega arith) k)))
 
-  -- ---- both
-  module _ (s : State) (k : ℕ) (f b : List (List ℤ)) (one : HalfSays r c (rubbed r c s) (stageOne r c s) k f b) where
-    pub both-stop : (k ≡ 0 → ⊥) → (h y : List (List ℤ)) → StepSays r c s k f h y
-    both-stop z h y = record {
-      number = stopped (halfChecks r c (rubbed r c s) (stageOne r c s)) (halfChecks r c (stageOne r c s) (next r c s)) k (one .number) z;
-      done = λ e. absurd (z e);
-    }
+-- ---- both
+module _ {r : Reach} {c : Call} (s : State) {k : ℕ} {f b : List (List ℤ)} (one : HalfSays r c (rubbed r c s) (stageOne r c s) k f b) where
+  pub both-stop : (k ≡ 0 → ⊥) → {h y : List (List ℤ)} → StepSays r c s k f h y
+  both-stop z = record {
+    number = stopped (halfChecks r c (rubbed r c s) (stageOne r c s)) (halfChecks r c (stageOne r c s) (next r c s)) k (one .number) z;
+    done = λ e. absurd (z e);
+  }
 
-    pub one-shown : k ≡ 0 → Shows r b (stageOne r c s)
-    one-shown z i l = ap asCell (one .done z .cells i l)
+  pub one-shown : k ≡ 0 → Shows r b (stageOne r c s)
+  one-shown z i l = ap asCell (one .done z .cells i l)
 
-    pub both-end : k ≡ 0 → (m : ℕ) (h y : List (List ℤ)) → HalfSays r c (stageOne r c s) (next r c s) m h y → StepSays r c s m f h y
-    unfolding stageChecks
-    both-end z m h y two = record {
-      number = two .number
-          ∙ went-on (halfChecks r c (rubbed r c s) (stageOne r c s)) (halfChecks r c (stageOne r c s) (next r c s)) tt
-          (sym z ∙ one .number);
-      done = λ e. record { one = one .done z .faces; two = two .done e .faces; cells = two .done e .cells };
-    }
+  pub both-end : k ≡ 0 → {m : ℕ} {h y : List (List ℤ)} → HalfSays r c (stageOne r c s) (next r c s) m h y → StepSays r c s m f h y
+  unfolding stageChecks
+  both-end z two = record {
+    number = two .number
+        ∙ went-on (halfChecks r c (rubbed r c s) (stageOne r c s)) (halfChecks r c (stageOne r c s) (next r c s)) tt
+        (sym z ∙ one .number);
+    done = λ e. record { one = one .done z .faces; two = two .done e .faces; cells = two .done e .cells };
+  }
 
-  -- the volumes of a step that both made
-  pub volume-is : (s : State) (f h b : List (List ℤ)) → BothDone r c s f h b → (i : ℕ) → i < suc (r .n) → volumeAt f h i ≡ carry r c s i
-  unfolding carry
-  volume-is s f h b d i l = ap₂ half (ap volumeOf (d .one .rows i l)) (ap volumeOf (d .two .rows i l))
+-- the volumes of a step that both made
+pub volume-is : {r : Reach} {c : Call} {s : State} {f h b : List (List ℤ)} → BothDone r c s f h b
+    → (i : ℕ) → i < suc (r .n) → volumeAt f h i ≡ carry r c s i
+unfolding carry
+volume-is d i l = ap₂ half (ap volumeOf (d .one .rows i l)) (ap volumeOf (d .two .rows i l))

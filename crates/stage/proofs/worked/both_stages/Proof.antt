@@ -1,8 +1,6 @@
 -- The two halves, in a row, are the step from stage one on.
 use native.Mathlib.Omega.{arith}
 use borrow.Author.Needs.{needs}
-use denote.Ref.{now}
-use Rattle.reach.specs.Told.{reachIn, callOn}
 use Rattle.stage.specs.Laws.TwoStages.{both-stop, one-shown, both-end}
 use Rattle.stage.proofs.worked.both_stages.Statement.{statement}
 use Rattle.stage.proofs.worked.both_stages.Tie as tie
@@ -21,10 +19,8 @@ module _ (e : tie.Else1) where
   went = e .before .before .before .before .before .before
 
 returns : tie.Need-returns
-returns c ρ v shows =
-    let w = c .before .before .before .before .before .before in let s = start w in let a = s .args in
-    both-stop (reachIn (a .reach) (now (a .bed))) (callOn (a .call) ρ) (s .pre .0 .some) v _ _ _ (w .stage-one .ensures .half ρ v shows)
-    (c .if1 .taken) _ _
+returns c ρ v shows = let w = c .before .before .before .before .before .before in
+    both-stop v (w .stage-one .ensures .half ρ v shows) (c .if1 .taken)
 
 stage-two-requires : tie.Need-stage-two-requires
 stage-two-requires c κs =
@@ -40,14 +36,8 @@ returns-2 : tie.Need-returns-2
 returns-2 c ρ v shows =
     let t = c .before .before .before .before .before in
     let e = t .before .before .before .before .before .before .before in
-    let w = went e in
-    let s = start w in
-    let a = s .args in
-    let r = reachIn (a .reach) (now (a .bed)) in
-    let d = callOn (a .call) ρ in
-    let o = s .pre .0 .some in
-    let one = w .stage-one .ensures .half ρ v shows in let z = e .if1 .left in
-    both-end r d o v _ _ _ one z _ _ _ (t .stage-two .ensures ρ v shows (one .done z .faces) (one-shown r d o v _ _ _ one z))
+    let half = went e .stage-one .ensures .half ρ v shows in let z = e .if1 .left in
+    both-end v half z (t .stage-two .ensures ρ v shows (half .done z .faces) (one-shown v half z))
 
 pub both-stages-spec : {M : Type 1} → statement M
 both-stages-spec =

@@ -3,8 +3,6 @@ use native.Mathlib.Omega.{arith}
 use borrow.Author.Needs.{needs}
 use denote.Ref.{now}
 use lib.IntN.{pos}
-use Rattle.rules.specs.Step.{rubbed, stageOne}
-use Rattle.reach.specs.Told.{reachIn, callOn}
 use Rattle.stage.specs.Laws.StateSizes.{done-small}
 use Rattle.stage.specs.Laws.EndOfStage.{end-ranged}
 use Rattle.stage.specs.Laws.TwoStages.{half-stops, half-ends, one-state}
@@ -27,9 +25,7 @@ module _ (e : tie.Else1) where
 returns : tie.Need-returns
 returns c =
     let w = c .before .before .before .before .before in let s = start w in let a = s .args in record {
-      half = λ ρ v shows. let r = reachIn (a .reach) (now (a .bed)) in let d = callOn (a .call) ρ in
-          half-stops r d (s .pre .0 .some) (now (a .a)) (rubbed r d v) (stageOne r d v) shows _ _ _ (w .stage .ensures ρ)
-          (c .if1 .taken) _ _;
+      half = λ ρ v shows. half-stops (s .pre .0 .some) (now (a .a)) shows (w .stage .ensures ρ) (c .if1 .taken);
       sized = λ z. absurd (c .if1 .taken z);
       ranged = λ z. absurd (c .if1 .taken z);
     }
@@ -50,9 +46,9 @@ returns-2 c =
     let a = s .args in
     let o = s .pre .0 .some in
     record {
-      half = λ ρ v shows. let r = reachIn (a .reach) (now (a .bed)) in let d = callOn (a .call) ρ in let says = w .stage .ensures ρ in
-          half-ends r d o (now (a .a)) (rubbed r d v) (stageOne r d v) shows _ _ _ says (e .if1 .left) _ _ _
-          (one-state r d o v (now (a .a)) shows _ _ (says .done (e .if1 .left))) (n .end .ensures ρ);
+      half = λ ρ v shows. let says = w .stage .ensures ρ in
+          half-ends o (now (a .a)) shows says (e .if1 .left)
+          (one-state o v (now (a .a)) shows (says .done (e .if1 .left))) (n .end .ensures ρ);
       sized = λ z. w .stage .ensures (λ i. pos 0) .done (e .if1 .left) .faces .sized;
       ranged = λ z. end-ranged (a .reach) (a .call) (now (a .bed)) (λ i. pos 0) (n .end .ensures (λ i. pos 0)) z
           (λ i l. s .pre .1 .1 i l .ground);

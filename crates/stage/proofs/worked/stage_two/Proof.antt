@@ -3,8 +3,6 @@ use native.Mathlib.Omega.{arith}
 use borrow.Author.Needs.{needs}
 use denote.Ref.{now}
 use lib.IntN.{pos}
-use Rattle.rules.specs.Step.{stageOne, next}
-use Rattle.reach.specs.Told.{reachIn, callOn}
 use Rattle.stage.specs.Laws.StateSizes.{small-wide, inside-small, done-small, join-small}
 use Rattle.stage.specs.Laws.TwoStages.{half-stops, half-ends, two-state}
 use Rattle.stage.proofs.worked.stage_two.Statement.{statement}
@@ -29,8 +27,7 @@ module _ (e : tie.Else1) where
 returns : tie.Need-returns
 returns c ρ v shows faces one =
     let w = c .before .before .before .before .before in let s = start w in let a = s .args in
-    let r = reachIn (a .reach) (now (a .bed)) in let d = callOn (a .call) ρ in
-    half-stops r d (s .pre .0 .some) (now (a .b)) (stageOne r d v) (next r d v) one _ _ _ (w .stage .ensures ρ) (c .if1 .taken) _ _
+    half-stops (s .pre .0 .some) (now (a .b)) one (w .stage .ensures ρ) (c .if1 .taken)
 
 join-requires : tie.Need-join-requires
 join-requires c κs =
@@ -65,12 +62,10 @@ returns-2 c ρ v shows faces one =
     let w = went e in
     let s = start w in
     let a = s .args in
-    let r = reachIn (a .reach) (now (a .bed)) in
-    let d = callOn (a .call) ρ in
     let o = s .pre .0 .some in
     let says = w .stage .ensures ρ in
-    half-ends r d o (now (a .b)) (stageOne r d v) (next r d v) one _ _ _ says (e .if1 .left) _ _ _
-    (two-state r d o v (now (a .a)) shows (now (a .b)) (now (a .f)) _ _ _ one faces (says .done (e .if1 .left)) (j .join .ensures))
+    half-ends o (now (a .b)) one says (e .if1 .left)
+    (two-state o v (now (a .a)) shows (now (a .b)) one faces (says .done (e .if1 .left)) (j .join .ensures))
     (n .end .ensures ρ)
 
 pub stage-two-spec : {M : Type 1} → statement M
