@@ -1,7 +1,6 @@
 use mathlib.Core.Path.{_≡_, sym, ap, _∙_}
 use mathlib.Core.List.{List, [], _∷_}
-use lib.IntN.{ℤ, pos, _+ℤ_, _-ℤ_}
-use Rattle.whole.specs.Flags.{yes-or, no-or}
+use lib.IntN.{ℤ, pos, _-ℤ_}
 use Rattle.whole.specs.Machine.{v, _⊕_, _⊝_, Entry, entry, need, value}
 use Rattle.rules.specs.Limits.{deepest}
 use Rattle.rules.specs.Refusals.{outside}
@@ -13,8 +12,8 @@ abbrev env : tie.Start → List Entry
 env s = entry (s .fits .m) (s .pre .0) ∷ entry (s .fits .s) (s .pre .1) ∷ []
 
 -- what the first test says
-first : (c : tie.After-outside) → let s = c .before in c .outside .result ≡ outside (pos 0) deepest (s .args .m -ℤ s .args .s)
-first c = c .outside .ensures ∙ ap (λ (z : ℤ). outside (pos 0) deepest z) (value (env (c .before)) (v 0 ⊝ v 1) tt)
+first : (c : tie.After-outside) → let s = c .before in outside (pos 0) deepest (s .args .m -ℤ s .args .s) ≡ c .outside .result
+first c = sym (c .outside .ensures ∙ ap (λ (z : ℤ). outside (pos 0) deepest z) (value (env (c .before)) (v 0 ⊝ v 1) tt))
 
 sub-outside : tie.Need-sub-outside
 sub-outside c = need (env c) (v 0 ⊝ v 1) tt
@@ -23,9 +22,7 @@ outside-requires : tie.Need-outside-requires
 outside-requires c κs = search needs
 
 returns : tie.Need-returns
-returns c = let s = c .before .before in
-    yes-or (outside (pos 0) deepest (s .args .m -ℤ s .args .s)) (outside (pos 0) deepest (s .args .m +ℤ s .args .s))
-    (sym (first (c .before)) ∙ c .if1 .taken)
+returns c = rw (first (c .before) ∙ c .if1 .taken)
 
 add-outside : tie.Need-add-outside
 add-outside c = need (env (c .before .before)) (v 0 ⊕ v 1) tt
@@ -34,10 +31,9 @@ outside-requires-2 : tie.Need-outside-requires-2
 outside-requires-2 c κs = search needs
 
 returns-2 : tie.Need-returns-2
-returns-2 c = let b = c .before in let s = b .before .before in
-    c .outside2 .ensures ∙ ap (λ (z : ℤ). outside (pos 0) deepest z) (value (env s) (v 0 ⊕ v 1) tt)
-    ∙ no-or (outside (pos 0) deepest (s .args .m -ℤ s .args .s)) (outside (pos 0) deepest (s .args .m +ℤ s .args .s))
-    (sym (first (b .before)) ∙ b .if1 .left)
+returns-2 c = let b = c .before in
+    rw (first (b .before) ∙ b .if1 .left)
+    (c .outside2 .ensures ∙ ap (λ (z : ℤ). outside (pos 0) deepest z) (value (env (b .before .before)) (v 0 ⊕ v 1) tt))
 
 pub off-depths-spec : {M : Type 1} → statement M
 off-depths-spec = tie.close (tie.spec sub-outside outside-requires returns add-outside outside-requires-2 returns-2)

@@ -1,4 +1,4 @@
-use mathlib.Core.Path.{_≡_, sym, _∙_}
+use mathlib.Core.Path.{_≡_, sym}
 use mathlib.Core.Bool.{Bool}
 use mathlib.Core.List.{List}
 use Prim.Native.Nat.{ℕ, _≤_, _-_}
@@ -36,9 +36,7 @@ here : (c : tie.After-fast-cell Inv-loop μ-loop) →
     let l = c .before .before .before .before in
     let s = l .before in
     bad (now (s .args .t)) (now (s .args .bed)) (l .loop .i) ≡ c .fast-cell .result
-here c =
-    let b = c .before .before in let l = b .before .before in let s = l .before in
-    sym (c .fast-cell .ensures ∙ (λ j. fastCell dryDepth (b .under .ensures j) (seen (now (s .args .t)) (l .loop .i))))
+here c = sym (rw (c .before .before .under .ensures) at (c .fast-cell .ensures))
 
 returns : tie.Need-returns Inv-loop μ-loop
 returns c =

@@ -1,4 +1,4 @@
-use mathlib.Core.Path.{_≡_, sym, _∙_, subst}
+use mathlib.Core.Path.{_≡_, sym}
 use mathlib.Core.Bool.{Bool}
 use mathlib.Core.List.{List}
 use Prim.Native.Nat.{ℕ, _≤_, _-_}
@@ -10,7 +10,6 @@ use Rattle.tables.specs.Scan.{Clear, clear-none, clear-more, found, clear-all}
 use Rattle.tables.specs.Cells.{seen}
 use Rattle.rules.specs.Refusals.{offCell}
 use Rattle.reach.specs.Told.{bedAt}
-use Rattle.reach.specs.Ranges.{Ground}
 use Rattle.stage.proofs.checks.off.Statement.{statement}
 use Rattle.stage.proofs.checks.off.Tie as tie
 
@@ -30,16 +29,14 @@ off-cell-requires : tie.Need-off-cell-requires Inv-loop μ-loop
 off-cell-requires c κs =
     let b = c .before in let e = b .before in let l = e .before in let s = l .before in
     let x = s .pre .1 (l .loop .i) (e .loop-test .taken) in
-    (subst Ground (sym (b .under .ensures)) (x .ground), x .wide)
+    rw (b .under .ensures) (x .ground, x .wide)
 
 -- what the test of this turn says
 here : (c : tie.After-off-cell Inv-loop μ-loop) →
     let l = c .before .before .before .before in
     let s = l .before in
     bad (now (s .args .t)) (now (s .args .bed)) (l .loop .i) ≡ c .off-cell .result
-here c =
-    let b = c .before .before in let l = b .before .before in let s = l .before in
-    sym (c .off-cell .ensures ∙ (λ j. offCell (b .under .ensures j) (seen (now (s .args .t)) (l .loop .i))))
+here c = sym (rw (c .before .before .under .ensures) at (c .off-cell .ensures))
 
 returns : tie.Need-returns Inv-loop μ-loop
 returns c =
