@@ -44,14 +44,6 @@ and-r true b e = e
 and-r false b e = clash e
 
 -- what a function that tries one test and then another answers
-pub yes-or : (a b : Bool) → a ≡ true → true ≡ (a || b)
-yes-or true b e = refl
-yes-or false b e = clash e
-
-pub no-or : (a b : Bool) → a ≡ false → b ≡ (a || b)
-no-or true b e = clash (sym e)
-no-or false b e = refl
-
 pub or-last : (b : Bool) → b ≡ (b || false)
 or-last true = refl
 or-last false = refl
