@@ -1,3 +1,4 @@
+-- Each number of the level less that of the bed fits, and is the rule's depth.
 use mathlib.Core.List.{[], _∷_}
 use borrow.Author.Needs.{needs}
 use Rattle.rules.specs.Reach.{Bed, h0, h1}

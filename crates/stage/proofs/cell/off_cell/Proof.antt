@@ -3,11 +3,9 @@ use mathlib.Core.Path.{_≡_, refl, sym, ap, ap₂, subst, _∙_}
 use mathlib.Core.Bool.{Bool, true, false, _||_}
 use mathlib.Core.List.{List, [], _∷_}
 use lib.ListN.{getD}
-use mir.Syntax.{w64}
-use mir.Val.{toZ, ofZ}
 use lib.IntN.{ℤ, pos, _+ℤ_, _-ℤ_}
 use Rattle.whole.specs.Parts.{b-up}
-use Rattle.whole.specs.Machine.{back}
+use Rattle.whole.specs.Machine.{back, rd}
 use Rattle.tables.specs.Cells.{Cell, asCell}
 use Rattle.rules.specs.Limits.{deepest, fullest}
 use Rattle.rules.specs.Reach.{Bed, h0, h1, hl, hr, ql, qr}
@@ -53,10 +51,10 @@ module _ (a : tie.After-off-depths-arg2) where
   told = a .before .before
 
   -- the two depths as they are read back
-  mean : toZ w64 (ofZ w64 (getD (told .depths .result) 0 (pos 0))) ≡ h0 (bed (told .before)) (cell (told .before))
+  mean : rd (getD (told .depths .result) 0 (pos 0)) ≡ h0 (bed (told .before)) (cell (told .before))
   mean = back (a .before .off-depths-arg .given) ∙ ap (λ (l : List ℤ). getD l 0 (pos 0)) (told .depths .ensures)
 
-  slope : toZ w64 (ofZ w64 (getD (told .depths .result) 1 (pos 0))) ≡ h1 (bed (told .before)) (cell (told .before))
+  slope : rd (getD (told .depths .result) 1 (pos 0)) ≡ h1 (bed (told .before)) (cell (told .before))
   slope = back (a .off-depths-arg2 .given) ∙ ap (λ (l : List ℤ). getD l 1 (pos 0)) (told .depths .ensures)
 
 module _ (c : tie.After-off-depths) where

@@ -1,3 +1,4 @@
+-- The second discharge is asked only where the first is in range.
 use mathlib.Core.Path.{_≡_, sym, ap, _∙_}
 use mathlib.Core.List.{List, [], _∷_}
 use lib.IntN.{ℤ, _-ℤ_}

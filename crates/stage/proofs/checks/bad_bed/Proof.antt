@@ -1,3 +1,4 @@
+-- Below i no value of the bed is out of range or odd.
 use mathlib.Core.Path.{_≡_, sym, _∙_, ap}
 use mathlib.Core.Bool.{Bool}
 use mathlib.Core.List.{List}

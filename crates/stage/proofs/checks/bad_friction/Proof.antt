@@ -1,3 +1,4 @@
+-- Below i no value of the friction is over 200.
 use mathlib.Core.Path.{_≡_, refl}
 use mathlib.Core.Bool.{Bool, true, false}
 use mathlib.Core.List.{List}

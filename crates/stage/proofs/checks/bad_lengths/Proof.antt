@@ -1,3 +1,4 @@
+-- The tests are the rule's, in its order; the room for the new cells is the caller's, and counts as right.
 use mathlib.Core.Path.{refl}
 use Prim.Native.Nat.{_*_}
 use borrow.Author.Needs.{needs}

@@ -1,3 +1,4 @@
+-- Below i no cell is too fast for friction.
 use mathlib.Core.Path.{_≡_, sym}
 use mathlib.Core.Bool.{Bool}
 use mathlib.Core.List.{List}

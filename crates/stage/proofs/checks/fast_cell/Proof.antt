@@ -1,3 +1,4 @@
+-- A cell in range has a speed at its mean depth, and the test of it is the rule's.
 use mathlib.Core.Path.{_≡_, _∙_, ap}
 use mathlib.Core.List.{List}
 use borrow.Author.Needs.{needs}

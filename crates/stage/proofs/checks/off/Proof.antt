@@ -1,3 +1,4 @@
+-- Below i every cell is in range.
 use mathlib.Core.Path.{_≡_, sym}
 use mathlib.Core.Bool.{Bool}
 use mathlib.Core.List.{List}

@@ -1,3 +1,4 @@
+-- The level stays, and of each discharge is left what friction leaves.
 use mathlib.Core.List.{[], _∷_}
 use lib.ListN.{getD}
 use lib.IntN.{pos}

@@ -1,3 +1,4 @@
+-- The level with the two volumes fits, and is the rule's.
 use mathlib.Core.List.{List, [], _∷_}
 use Rattle.whole.specs.Machine.{v, _⊕_, _⊝_, Entry, entry, need, value}
 use Rattle.stage.proofs.joining.end_level.Statement.{statement}

@@ -1,3 +1,4 @@
+-- The sum of two such numbers fits, and so its half.
 use mathlib.Core.List.{List, [], _∷_}
 use lib.Dec.{lit<}
 use lib.IntN.{pos}

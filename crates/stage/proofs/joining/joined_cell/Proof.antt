@@ -1,3 +1,4 @@
+-- The level takes the two volumes, and of the other three numbers each is the half of two.
 use mathlib.Core.List.{[], _∷_}
 use native.Mathlib.Omega.{arith}
 use mir.Facts.{toZ-ofZ}

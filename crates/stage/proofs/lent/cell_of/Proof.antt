@@ -1,3 +1,4 @@
+-- The four numbers of a cell, each as it was read.
 use mathlib.Core.List.{[], _∷_}
 use Rattle.whole.specs.Machine.{back64}
 use borrow.Author.Needs.{needs}

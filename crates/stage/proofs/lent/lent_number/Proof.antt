@@ -1,3 +1,4 @@
+-- A number of 32 bits fits 64, and is no larger than it was.
 use lib.ListN.{getD}
 use lib.IntN.{pos}
 use lib.Signed.{natAbs-le}

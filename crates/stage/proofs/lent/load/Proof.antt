@@ -1,3 +1,4 @@
+-- Below i the cells are those of the lent state, and as wide as its numbers.
 use mathlib.Core.Path.{sym, subst}
 use mathlib.Core.List.{List, []}
 use Prim.Native.Nat.{_≤_, _<_, _-_}

@@ -1,3 +1,4 @@
+-- A number of 16 bits fits 64.
 use native.Mathlib.Omega.{arith}
 use lib.ListN.{getD}
 use denote.Ref.{now}

@@ -1,3 +1,4 @@
+-- A number of 32 bits without a sign fits 64 with one.
 use native.Mathlib.Omega.{arith}
 use Rattle.whole.specs.Machine.{as-whole}
 use Rattle.stage.proofs.lent.widened.Statement.{statement}

@@ -1,3 +1,4 @@
+-- Below i the cells are those of b.
 use mathlib.Core.Path.{refl}
 use mathlib.Core.List.{[]}
 use Prim.Native.Nat.{_-_, _≤_, _<_}

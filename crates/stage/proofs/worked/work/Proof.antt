@@ -2,15 +2,13 @@
 use mathlib.Core.Path.{_≡_, refl, sym, _∙_}
 use mathlib.Core.Bool.{false}
 use mathlib.Core.List.{_++_}
-use mir.Syntax.{w64}
-use mir.Val.{toZ, ofZ}
 use Prim.Native.Nat.{ℕ, _*_, _≤_}
 use native.Mathlib.Omega.{arith}
 use borrow.Author.Needs.{needs}
 use denote.Ref.{now}
 use lib.ListN.{getD, length}
 use lib.IntN.{ℤ, pos}
-use Rattle.whole.specs.Machine.{back64}
+use Rattle.whole.specs.Machine.{back64, rd}
 use Rattle.rules.specs.Lent.{Lent, misfit, number, stateOf, reachOf, callOf}
 use Rattle.rules.specs.Refusals.{verdict, badCall}
 use Rattle.rules.specs.Laws.Lengths.{Fitted, fitted}
@@ -78,13 +76,13 @@ module _ (c : tie.After-bad-numbers) where
   abbrev fit : tie.Else2
   fit = w1 .before
 
-  dx-is : toZ w64 (ofZ w64 (w1 .widened .result)) ≡ pos (s fit .args .given .dx)
+  dx-is : rd (w1 .widened .result) ≡ pos (s fit .args .given .dx)
   dx-is = back64 (w1 .widened .ok) (w1 .widened .ensures)
 
-  dt-is : toZ w64 (ofZ w64 (w2 .widened2 .result)) ≡ pos (s fit .args .given .dt)
+  dt-is : rd (w2 .widened2 .result) ≡ pos (s fit .args .given .dt)
   dt-is = back64 (w2 .widened2 .ok) (w2 .widened2 .ensures)
 
-  jump-is : toZ w64 (ofZ w64 (w3 .widened3 .result)) ≡ pos (s fit .args .given .jump)
+  jump-is : rd (w3 .widened3 .result) ≡ pos (s fit .args .given .jump)
   jump-is = back64 (w3 .widened3 .ok) (w3 .widened3 .ensures)
 
   abbrev rough : ℕ → ℤ
@@ -110,10 +108,10 @@ module _ (e : tie.Else3) where
   abbrev start : tie.Start
   start = s (fit m)
 
-  in-range : Numbers (record { n = n start; dx = toZ w64 (ofZ w64 (w1 m .widened .result)) })
+  in-range : Numbers (record { n = n start; dx = rd (w1 m .widened .result) })
       (record {
-        dt = toZ w64 (ofZ w64 (w2 m .widened2 .result));
-        jump = toZ w64 (ofZ w64 (w3 m .widened3 .result));
+        dt = rd (w2 m .widened2 .result);
+        jump = rd (w3 m .widened3 .result);
         left = start .args .given .left;
         right = start .args .given .right;
       })
