@@ -35,6 +35,15 @@ module _ (n : ℕ) (bed : List ℤ) (s : State) (d : List (List ℤ)) (w : Writt
   unfolding sidesAt
   right-in i l = λ j. record { h = getD (w i l j) 2 (pos 0); u = getD (w i l j) 3 (pos 0) }
 
+-- the two sides of a cell, where no cell has one that is too fast
+pub slow-sides : (n : ℕ) (bed : List ℤ) (s : State) → some (fastSides bed s) n ≡ false → (i : ℕ) → i < n
+    → (fastSide (sideL dryDepth (bedAt bed i) (s i)) ≡ false) × (fastSide (sideR dryDepth (bedAt bed i) (s i)) ≡ false)
+unfolding fastSides
+slow-sides n bed s e i l =
+    let b = bedAt bed i in let left = fastSide (sideL dryDepth b (s i)) in let right = fastSide (sideR dryDepth b (s i)) in
+    let f = some-none (fastSides bed s) n e i l in
+    (or-l left right f, or-r left right f)
+
 module _ (reach : Reach) (call : Call) (bed : List ℤ) (ρ : ℕ → ℤ) (s : State) where
   abbrev r : rules.Reach
   r = reachIn reach bed
@@ -73,19 +82,12 @@ module _ (reach : Reach) (call : Call) (bed : List ℤ) (ρ : ℕ → ℤ) (s : 
     one-fast i l false true p q e = at-right i l q
     one-fast i l false false p q e = clash e
 
-    -- the two sides of a cell of which none is too fast
-    slow-sides : some (fastSides bed s) n ≡ false → (i : ℕ) → i < n
-        → (fastSide (atLeft r c s i) ≡ false) × (fastSide (atRight r c s i) ≡ false)
-    unfolding fastSides
-    slow-sides e i l = let f = some-none (fastSides bed s) n e i l in
-        (or-l (fastSide (atLeft r c s i)) (fastSide (atRight r c s i)) f, or-r (fastSide (atLeft r c s i)) (fastSide (atRight r c s i)) f)
-
     none-fast : some (fastSides bed s) n ≡ false → (i : ℕ) → i < suc n → fastFace r c s i ≡ false
     unfolding fastFace
-    none-fast e zero l = slow-sides e zero o .0
+    none-fast e zero l = slow-sides n bed s e zero o .0
     none-fast e (suc i) l =
-        let p = slow-sides e i (omega arith) .1 in
-        by (eqb (suc i) n) (λ d. rw (p, d)) (λ d. rw (p, d) (slow-sides e (suc i) (inside i n (omega arith) d) .0))
+        let p = slow-sides n bed s e i (omega arith) .1 in
+        by (eqb (suc i) n) (λ d. rw (p, d)) (λ d. rw (p, d) (slow-sides n bed s e (suc i) (inside i n (omega arith) d) .0))
 
     pub fast-faces : some (fastSides bed s) n ≡ some (fastFace r c s) (suc n)
     unfolding fastSides fastL fastR

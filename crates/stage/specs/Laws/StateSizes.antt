@@ -1,9 +1,9 @@
 -- How large the numbers of a step's states can be: sides and faces of a state in range, the unfinished states, the finished ones.
 -- Assumes nothing.
 use mathlib.Core.Path.{_≡_, sym, subst}
-use mathlib.Core.Bool.{false, cond, _||_}
+use mathlib.Core.Bool.{false, cond}
 use mathlib.Core.List.{List, []}
-use Prim.Native.Nat.{ℕ, suc, _<_}
+use Prim.Native.Nat.{ℕ, suc}
 use native.Mathlib.Omega.{arith}
 use lib.ListN.{getD}
 use lib.IntN.{ℤ, pos}
@@ -12,7 +12,7 @@ use Rattle.whole.specs.Flags.{cond-ind, or-l, or-r}
 use Rattle.whole.specs.Parts.{b-add, b-sub, b-mul, b-lit, b-up}
 use Rattle.whole.specs.Quotient.{b-quot-by}
 use Rattle.whole.specs.Choice.{within-past}
-use Rattle.tables.specs.Some.{some, some-none}
+use Rattle.tables.specs.Some.{some}
 use Rattle.tables.specs.Rows.{Written}
 use Rattle.tables.specs.Cells.{Cell, asCell, seen, Holds}
 use Rattle.rules.specs.Limits.{dryDepth, deepest, fastest}
@@ -21,7 +21,7 @@ use Rattle.rules.specs.Reach.{Reach, Call, State, Bed, h0, h1, hl, hr, ql, qr, 
 use Rattle.rules.specs.Stage.{carried, gauss, flowBefore, flowBehind, depthBefore, depthBehind, stage}
 use Rattle.rules.specs.Finishing.{limit, beyond, cut, dried}
 use Rattle.rules.specs.Step.{half, joinedCell}
-use Rattle.rules.specs.Refusals.{past, fastSide, fastPoints}
+use Rattle.rules.specs.Refusals.{past, fastPoints}
 use Rattle.rules.specs.Laws.Positive.{depthL-is, depthR-is}
 use Rattle.rules.specs.Laws.Sizes.{Sound}
 use Rattle.reach.specs.Told.{bedAt}
@@ -31,7 +31,7 @@ use Rattle.stage.specs.Rows.{sidesAt, fastSides, Sounds, volumeOf, joinA
 use Rattle.stage.specs.Ranges.{widestLevel, mostMomentum, Small, Smalls, Inside, Ranged, Row, FaceRows}
 use Rattle.stage.specs.Says.{StageDone, JoinSays}
 use Rattle.stage.specs.Laws.CellSizes.{cell-sizes}
-use Rattle.stage.specs.Laws.RowsAreRules.{left-in, right-in}
+use Rattle.stage.specs.Laws.RowsAreRules.{left-in, right-in, slow-sides}
 
 -- ---- sides that passed check 6
 -- a side of depth d, which is the depth h of the level over the bed
@@ -43,22 +43,14 @@ sound {d} q e l m f = record {
   speed = within-past 131072 (speed dryDepth q d) f;
 }
 
-module _ (n : ℕ) (bed : List ℤ) (s : State) (inside : Ranged bed n s) (e : some (fastSides bed s) n ≡ false) where
-  -- neither side of cell i is too fast
-  slow : (i : ℕ) → i < n → (fastSide (sideL dryDepth (bedAt bed i) (s i)) || fastSide (sideR dryDepth (bedAt bed i) (s i))) ≡ false
-  unfolding fastSides
-  slow i l = some-none (fastSides bed s) n e i l
-
-  pub sounds : (d : List (List ℤ)) → Written [] d n (sidesAt bed s) → Sounds d n
-  unfolding sideL sideR hl hr
-  sounds d w i l =
-      let b = bedAt bed i in let x = s i in let f = cell-sizes (inside i l) .faces in
-      let left = fastSide (sideL dryDepth b x) in let right = fastSide (sideR dryDepth b x) in (
-        subst Sound (sym (left-in n bed s d w i l))
-            (sound (ql x) (depthL-is b x (f .left)) (f .left) (f .left-most) (or-l left right (slow i l))),
-        subst Sound (sym (right-in n bed s d w i l))
-            (sound (qr x) (depthR-is b x (f .right)) (f .right) (f .right-most) (or-r left right (slow i l))),
-      )
+pub sounds : (n : ℕ) (bed : List ℤ) (s : State) → Ranged bed n s → some (fastSides bed s) n ≡ false
+    → (d : List (List ℤ)) → Written [] d n (sidesAt bed s) → Sounds d n
+unfolding sideL sideR hl hr
+sounds n bed s inside e d w i l =
+    let b = bedAt bed i in let x = s i in let f = cell-sizes (inside i l) .faces in let slow = slow-sides n bed s e i l in (
+      subst Sound (sym (left-in n bed s d w i l)) (sound (ql x) (depthL-is b x (f .left)) (f .left) (f .left-most) (slow .0)),
+      subst Sound (sym (right-in n bed s d w i l)) (sound (qr x) (depthR-is b x (f .right)) (f .right) (f .right-most) (slow .1)),
+    )
 
 -- ---- Gauss points that passed check 6
 pub gauss-size : (b : Bed) (x : Cell) → Inside b x → fastPoints dryDepth b x ≡ false → UpTo mostMomentum (gauss dryDepth b x)
