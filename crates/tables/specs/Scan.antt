@@ -10,19 +10,20 @@ use borrow.Author.Count.{below-more}
 use Rattle.tables.specs.Some.{some, none-some, yes-some}
 
 -- no place below i has p
-abbrev pub Clear : (ℕ → Bool) → ℕ → Type 0
-Clear p i = (k : ℕ) → k < i → p k ≡ false
+pub record Scanned (p : ℕ → Bool) (n i : ℕ) : Type 0 where
+  pub most : i ≤ n
+  pub none : (k : ℕ) → k < i → p k ≡ false
 
-module _ (p : ℕ → Bool) where
-  pub clear-none : Clear p 0
-  clear-none k h = absurd (not-suc-le-zero h)
+pub scan-none : (p : ℕ → Bool) (n : ℕ) → Scanned p n 0
+scan-none p n = record { most = omega arith; none = λ k h. absurd (not-suc-le-zero h) }
 
+module _ {p : ℕ → Bool} {n i : ℕ} (so-far : Scanned p n i) where
   -- `r` is what the test of place i gave
-  pub clear-more : (i : ℕ) {r : Bool} → Clear p i → p i ≡ r → r ≡ false → Clear p (i + 1)
-  clear-more i old e left = below-more (λ k. p k ≡ false) i old (e ∙ left)
+  pub scan-more : {r : Bool} → i < n → p i ≡ r → r ≡ false → Scanned p n (i + 1)
+  scan-more h e left = record { most = omega arith; none = below-more (λ k. p k ≡ false) i (so-far .none) (e ∙ left) }
 
-  pub found : (n i : ℕ) {r : Bool} → i < n → p i ≡ r → r ≡ true → true ≡ some p n
-  found n i h e taken = sym (yes-some p n i h (e ∙ taken))
+  pub scan-found : {r : Bool} → i < n → p i ≡ r → r ≡ true → true ≡ some p n
+  scan-found h e taken = sym (yes-some p n i h (e ∙ taken))
 
-  pub clear-all : (n i : ℕ) → n ≤ i → Clear p i → false ≡ some p n
-  clear-all n i h old = sym (none-some p n (λ k l. old k (omega arith)))
+  pub scan-all : n ≤ i → false ≡ some p n
+  scan-all h = sym (none-some p n (λ k l. so-far .none k (omega arith)))

@@ -1,13 +1,12 @@
 use mathlib.Core.Path.{_≡_, sym, _∙_}
 use mathlib.Core.Bool.{Bool}
 use mathlib.Core.List.{List}
-use Prim.Native.Nat.{ℕ, _≤_, _-_}
-use native.Mathlib.Omega.{arith}
+use Prim.Native.Nat.{ℕ, _-_}
 use borrow.Author.Needs.{needs}
 use denote.Ref.{now}
 use lib.IntN.{ℤ}
 use Rattle.tables.specs.Cells.{seen}
-use Rattle.tables.specs.Scan.{Clear, clear-none, clear-more, found, clear-all}
+use Rattle.tables.specs.Scan.{Scanned, scan-none, scan-more, scan-found, scan-all}
 use Rattle.reach.specs.Told.{bedAt}
 use Rattle.finishing.specs.Unfit.{tooLarge}
 use Rattle.finishing.proofs.range.large_table.Statement.{statement}
@@ -17,13 +16,13 @@ abbrev large : List (List ℤ) → List ℤ → ℕ → Bool
 large u bed k = tooLarge (bedAt bed k) (seen u k)
 
 abbrev Inv-loop : tie.InvT-loop
-Inv-loop u bed n i₀ i = (i ≤ n) × Clear (large u bed) i
+Inv-loop u bed n i₀ i = Scanned (large u bed) n i
 
 abbrev μ-loop : tie.MeasureT-loop
 μ-loop u bed n i₀ i = n - i
 
 loop-holds : tie.Need-loop-holds Inv-loop μ-loop
-loop-holds c = (omega arith, clear-none _)
+loop-holds c = scan-none _ _
 
 under-requires : tie.Need-under-requires Inv-loop μ-loop
 under-requires c κs = search needs
@@ -45,9 +44,8 @@ here c =
     sym (c .too-large .ensures ∙ (λ k. tooLarge (b .under .ensures k) (seen (now (l .before .args .u)) (l .loop .i))))
 
 returns : tie.Need-returns Inv-loop μ-loop
-returns c =
-    let b = c .before in let t = b .before .before .before in let s = t .before .before in
-    found (large (now (s .args .u)) (now (s .args .bed))) (s .args .n) (t .before .loop .i) (t .loop-test .taken) (here b) (c .if1 .taken)
+returns c = let b = c .before in let e = b .before .before .before in
+    scan-found (e .before .loop .inv) (e .loop-test .taken) (here b) (c .if1 .taken)
 
 add-i : tie.Need-add-i Inv-loop μ-loop
 add-i c = search needs
@@ -56,14 +54,11 @@ loop-less : tie.Need-loop-less Inv-loop μ-loop
 loop-less c = search needs
 
 loop-again : tie.Need-loop-again Inv-loop μ-loop
-loop-again c =
-    let b = c .before in let l = b .before .before .before .before in let s = l .before in
-    (omega arith, clear-more (large (now (s .args .u)) (now (s .args .bed))) (l .loop .i) (l .loop .inv .1) (here b) (c .if1 .left))
+loop-again c = let b = c .before in let e = b .before .before .before in
+    scan-more (e .before .loop .inv) (e .loop-test .taken) (here b) (c .if1 .left)
 
 returns-2 : tie.Need-returns-2 Inv-loop μ-loop
-returns-2 c =
-    let l = c .before in let s = l .before in
-    clear-all (large (now (s .args .u)) (now (s .args .bed))) (s .args .n) (l .loop .i) (c .loop-test .left) (l .loop .inv .1)
+returns-2 c = scan-all (c .before .loop .inv) (c .loop-test .left)
 
 pub large-table-spec : {M : Type 1} → statement M
 large-table-spec =

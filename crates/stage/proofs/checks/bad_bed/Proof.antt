@@ -2,15 +2,14 @@
 use mathlib.Core.Path.{_≡_, sym, _∙_, ap}
 use mathlib.Core.Bool.{Bool}
 use mathlib.Core.List.{List}
-use Prim.Native.Nat.{ℕ, _≤_, _-_}
-use native.Mathlib.Omega.{arith}
+use Prim.Native.Nat.{ℕ, _-_}
 use borrow.Author.Needs.{needs}
 use denote.Ref.{now}
 use lib.ListN.{getD, length}
 use lib.IntN.{ℤ, pos}
 use Rattle.whole.specs.Machine.{back64}
 use Rattle.rules.specs.Refusals.{badBed}
-use Rattle.tables.specs.Scan.{Clear, clear-none, clear-more, found, clear-all}
+use Rattle.tables.specs.Scan.{Scanned, scan-none, scan-more, scan-found, scan-all}
 use Rattle.stage.proofs.checks.bad_bed.Statement.{statement}
 use Rattle.stage.proofs.checks.bad_bed.Tie as tie
 
@@ -18,13 +17,13 @@ abbrev bad : List ℤ → ℕ → Bool
 bad bed k = badBed (getD bed k (pos 0))
 
 abbrev Inv-loop : tie.InvT-loop
-Inv-loop bed i₀ i = (i ≤ length bed) × Clear (bad bed) i
+Inv-loop bed i₀ i = Scanned (bad bed) (length bed) i
 
 abbrev μ-loop : tie.MeasureT-loop
 μ-loop bed i₀ i = length bed - i
 
 loop-holds : tie.Need-loop-holds Inv-loop μ-loop
-loop-holds c = (omega arith, clear-none _)
+loop-holds c = scan-none _ _
 
 bed-at-requires : tie.Need-bed-at-requires Inv-loop μ-loop
 bed-at-requires c κs = search needs
@@ -38,9 +37,8 @@ here : (c : tie.After-bad-value Inv-loop μ-loop) →
 here c = let a = c .before .bed-at in sym (c .bad-value .ensures ∙ ap badBed (back64 (a .ok) (a .ensures)))
 
 returns : tie.Need-returns Inv-loop μ-loop
-returns c =
-    let b = c .before in let a = b .before .before in let bed = now (a .before .before .args .bed) in
-    found (bad bed) (length bed) (a .before .loop .i) (a .loop-test .taken) (here b) (c .if1 .taken)
+returns c = let b = c .before in let e = b .before .before in
+    scan-found (e .before .loop .inv) (e .loop-test .taken) (here b) (c .if1 .taken)
 
 add-i : tie.Need-add-i Inv-loop μ-loop
 add-i c = search needs
@@ -49,14 +47,11 @@ loop-less : tie.Need-loop-less Inv-loop μ-loop
 loop-less c = search needs
 
 loop-again : tie.Need-loop-again Inv-loop μ-loop
-loop-again c =
-    let b = c .before in let l = b .before .before .before in
-    (omega arith, clear-more (bad (now (l .before .args .bed))) (l .loop .i) (l .loop .inv .1) (here b) (c .if1 .left))
+loop-again c = let b = c .before in let e = b .before .before in
+    scan-more (e .before .loop .inv) (e .loop-test .taken) (here b) (c .if1 .left)
 
 returns-2 : tie.Need-returns-2 Inv-loop μ-loop
-returns-2 c =
-    let l = c .before in let bed = now (l .before .args .bed) in
-    clear-all (bad bed) (length bed) (l .loop .i) (c .loop-test .left) (l .loop .inv .1)
+returns-2 c = scan-all (c .before .loop .inv) (c .loop-test .left)
 
 pub bad-bed-spec : {M : Type 1} → statement M
 bad-bed-spec =

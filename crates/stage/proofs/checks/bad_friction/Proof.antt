@@ -10,7 +10,7 @@ use denote.Ref.{now}
 use lib.ListN.{getD, length}
 use lib.IntN.{pos}
 use Rattle.rules.specs.Refusals.{badRough}
-use Rattle.tables.specs.Scan.{Clear, clear-none, clear-more, found, clear-all}
+use Rattle.tables.specs.Scan.{Scanned, scan-none, scan-more, scan-found, scan-all}
 use Rattle.stage.proofs.checks.bad_friction.Statement.{statement}
 use Rattle.stage.proofs.checks.bad_friction.Tie as tie
 
@@ -27,13 +27,13 @@ unfolding badRough
 fine x h = rw (le-ltb x 0 (omega arith), le-ltb 200 x h)
 
 abbrev Inv-loop : tie.InvT-loop
-Inv-loop friction i₀ i = (i ≤ length friction) × Clear (bad friction) i
+Inv-loop friction i₀ i = Scanned (bad friction) (length friction) i
 
 abbrev μ-loop : tie.MeasureT-loop
 μ-loop friction i₀ i = length friction - i
 
 loop-holds : tie.Need-loop-holds Inv-loop μ-loop
-loop-holds c = (omega arith, clear-none _)
+loop-holds c = scan-none _ _
 
 mul-if1 : tie.Need-mul-if1 Inv-loop μ-loop
 mul-if1 c = search needs
@@ -42,9 +42,8 @@ shared-slice-read-if1 : tie.Need-shared-slice-read-if1 Inv-loop μ-loop
 shared-slice-read-if1 c = search needs
 
 returns : tie.Need-returns Inv-loop μ-loop
-returns c =
-    let a = c .before .before in let f = now (a .before .before .args .friction) in let i = a .before .loop .i in
-    found (bad f) (length f) i (a .loop-test .taken) (over (getD f i 0) (c .if1 .taken)) refl
+returns c = let e = c .before .before in let l = e .before in
+    scan-found (l .loop .inv) (e .loop-test .taken) (over (getD (now (l .before .args .friction)) (l .loop .i) 0) (c .if1 .taken)) refl
 
 add-i : tie.Need-add-i Inv-loop μ-loop
 add-i c = search needs
@@ -53,14 +52,11 @@ loop-less : tie.Need-loop-less Inv-loop μ-loop
 loop-less c = search needs
 
 loop-again : tie.Need-loop-again Inv-loop μ-loop
-loop-again c =
-    let l = c .before .before .before in let f = now (l .before .args .friction) in let i = l .loop .i in
-    (omega arith, clear-more (bad f) i (l .loop .inv .1) (fine (getD f i 0) (c .if1 .left)) refl)
+loop-again c = let e = c .before .before in let l = e .before in
+    scan-more (l .loop .inv) (e .loop-test .taken) (fine (getD (now (l .before .args .friction)) (l .loop .i) 0) (c .if1 .left)) refl
 
 returns-2 : tie.Need-returns-2 Inv-loop μ-loop
-returns-2 c =
-    let l = c .before in let f = now (l .before .args .friction) in
-    clear-all (bad f) (length f) (l .loop .i) (c .loop-test .left) (l .loop .inv .1)
+returns-2 c = scan-all (c .before .loop .inv) (c .loop-test .left)
 
 pub bad-friction-spec : {M : Type 1} → statement M
 bad-friction-spec =

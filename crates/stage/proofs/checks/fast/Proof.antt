@@ -2,12 +2,11 @@
 use mathlib.Core.Path.{_≡_, sym}
 use mathlib.Core.Bool.{Bool}
 use mathlib.Core.List.{List}
-use Prim.Native.Nat.{ℕ, _≤_, _-_}
-use native.Mathlib.Omega.{arith}
+use Prim.Native.Nat.{ℕ, _-_}
 use borrow.Author.Needs.{needs}
 use denote.Ref.{now}
 use lib.IntN.{ℤ}
-use Rattle.tables.specs.Scan.{Clear, clear-none, clear-more, found, clear-all}
+use Rattle.tables.specs.Scan.{Scanned, scan-none, scan-more, scan-found, scan-all}
 use Rattle.tables.specs.Cells.{seen}
 use Rattle.rules.specs.Limits.{dryDepth}
 use Rattle.rules.specs.Refusals.{fastCell}
@@ -19,13 +18,13 @@ abbrev bad : List (List ℤ) → List ℤ → ℕ → Bool
 bad t bed k = fastCell dryDepth (bedAt bed k) (seen t k)
 
 abbrev Inv-loop : tie.InvT-loop
-Inv-loop t bed n i₀ i = (i ≤ n) × Clear (bad t bed) i
+Inv-loop t bed n i₀ i = Scanned (bad t bed) n i
 
 abbrev μ-loop : tie.MeasureT-loop
 μ-loop t bed n i₀ i = n - i
 
 loop-holds : tie.Need-loop-holds Inv-loop μ-loop
-loop-holds c = (omega arith, clear-none _)
+loop-holds c = scan-none _ _
 
 fast-cell-requires : tie.Need-fast-cell-requires Inv-loop μ-loop
 fast-cell-requires c κs =
@@ -40,19 +39,15 @@ here : (c : tie.After-fast-cell Inv-loop μ-loop) →
 here c = sym (rw (c .before .before .under .ensures) at (c .fast-cell .ensures))
 
 returns : tie.Need-returns Inv-loop μ-loop
-returns c =
-    let o = c .before in let e = o .before .before .before in let l = e .before in let s = l .before in
-    found (bad (now (s .args .t)) (now (s .args .bed))) (s .args .reach .n) (l .loop .i) (e .loop-test .taken) (here o) (c .if1 .taken)
+returns c = let o = c .before in let e = o .before .before .before in
+    scan-found (e .before .loop .inv) (e .loop-test .taken) (here o) (c .if1 .taken)
 
 loop-again : tie.Need-loop-again Inv-loop μ-loop
-loop-again c =
-    let o = c .before in let l = o .before .before .before .before in let s = l .before in
-    (omega arith, clear-more (bad (now (s .args .t)) (now (s .args .bed))) (l .loop .i) (l .loop .inv .1) (here o) (c .if1 .left))
+loop-again c = let o = c .before in let e = o .before .before .before in
+    scan-more (e .before .loop .inv) (e .loop-test .taken) (here o) (c .if1 .left)
 
 returns-2 : tie.Need-returns-2 Inv-loop μ-loop
-returns-2 c =
-    let l = c .before in let s = l .before in
-    clear-all (bad (now (s .args .t)) (now (s .args .bed))) (s .args .reach .n) (l .loop .i) (c .loop-test .left) (l .loop .inv .1)
+returns-2 c = scan-all (c .before .loop .inv) (c .loop-test .left)
 
 pub fast-spec : {M : Type 1} → statement M
 fast-spec =
