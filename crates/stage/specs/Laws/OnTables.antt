@@ -28,14 +28,14 @@ use Rattle.stage.specs.Laws.LentChecks.{lent-ranged, lent-slow, ready-sa
 use Rattle.stage.specs.Laws.TwoStages.{volume-is}
 
 -- the state lent for a step, as the table a has it, and the number k of the checks before the stages
-pub record Lent (reach : ToldReach) (call : ToldCall) (bed : List ℤ) (friction : List ℕ) (state : List ℤ) (a : List (List ℤ))
+pub record Loaded (reach : ToldReach) (call : ToldCall) (bed : List ℤ) (friction : List ℕ) (state : List ℤ) (a : List (List ℤ))
     (k : ℕ) : Type 0 where
   pub cells : Holds a (reach .n) (cellAt state)
   pub number : k ≡ verdict (readyChecks (reach .n) bed friction (seen a))
 
 module _
     {reach : ToldReach} {call : ToldCall} {bed : List ℤ} {friction : List ℕ} {state : List ℤ} {a : List (List ℤ)} {k : ℕ}
-    (lent : Lent reach call bed friction state a k) where
+    (lent : Loaded reach call bed friction state a k) where
   abbrev n : ℕ
   n = reach .n
 

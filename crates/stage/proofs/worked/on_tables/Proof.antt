@@ -10,7 +10,7 @@ use Rattle.tables.specs.Cells.{cellAt}
 use Rattle.rules.specs.Reach.{Reach, Call, State}
 use Rattle.reach.specs.Told.{reachIn, callOn}
 use Rattle.stage.specs.Says.{StepSays}
-use Rattle.stage.specs.Laws.OnTables.{Lent, ready-stops, loaded-ranged, loaded-slow}
+use Rattle.stage.specs.Laws.OnTables.{Loaded, ready-stops, loaded-ranged, loaded-slow}
 use Rattle.stage.specs.Laws.OnTables.{rubbed-shown, rubbed-ranged, both-stops, both-done}
 use Rattle.stage.proofs.worked.on_tables.Statement.{statement}
 use Rattle.stage.proofs.worked.on_tables.Tie as tie
@@ -24,7 +24,7 @@ module _ (w : tie.After-ready) where
   s = loaded .before .before .before
 
   lent : let p = s .args in
-      Lent (p .reach) (p .call) (now (p .bed)) (now (p .friction)) (now (p .state)) (loaded .load .last .1 .1 .0) (w .ready .result)
+      Loaded (p .reach) (p .call) (now (p .bed)) (now (p .friction)) (now (p .state)) (loaded .load .last .1 .1 .0) (w .ready .result)
   lent = record { cells = loaded .load .ensures .cells .below; number = w .ready .ensures }
 
 returns : tie.Need-returns
