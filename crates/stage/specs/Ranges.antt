@@ -59,6 +59,13 @@ mostChange = pos 4365877248
 abbrev pub mostPressure : ℤ
 mostPressure = pos 2000000000000
 
+-- what a slope is then changed by, and what such a pressure moves a discharge by
+abbrev pub mostTurn : ℤ
+mostTurn = pos 53647899623424
+
+abbrev pub mostThrust : ℤ
+mostThrust = pos 9810000000000
+
 -- ---- tables
 -- a table has room for the cells of a reach, or for its faces
 abbrev pub Room : {A : Type 0} → Reach → List A → Type 0

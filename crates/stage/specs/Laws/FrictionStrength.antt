@@ -4,14 +4,16 @@ use Prim.Native.Nat.{suc, _*_}
 use native.Mathlib.Omega.{arith}
 use lib.IntN.{ℤ, pos, negsuc, _*ℤ_}
 use lib.Signed.{_≤ℤ_, _<ℤ_}
-use Rattle.whole.specs.Parts.{Within, b-mul, b-lit, b-up, b-nonneg, cross, le-lit, le-trans}
+use Rattle.whole.specs.Parts.{b-mul, b-lit, b-up, b-nonneg, cross, le-lit, le-trans}
 use Rattle.whole.specs.Parts.{lt-le, le-lt-trans, lt-le-trans, lt-suc, nat-nonneg}
 use Rattle.whole.specs.Difference.{lit, nonneg, _⊠_, le!, le?, mul-nonneg}
 use Rattle.whole.specs.Quotient.{quot-nonneg, b-quot-ge}
 use Rattle.whole.specs.Choice.{sizeZ, size-nonneg, b-size}
-use Rattle.rules.specs.Limits.{dryDepth, deepest}
+use Rattle.rules.specs.Limits.{dryDepth, deepest, fastest, roughest, longestStep}
 use Rattle.rules.specs.Friction.{cube, drag}
 use Rattle.rules.specs.Laws.Speeds.{cube-least}
+use Rattle.reach.specs.Ranges.{UpTo}
+use Rattle.stage.specs.Ranges.{strongest}
 
 -- whatever the friction and the speed
 pub drag-nonneg : (dt f h u : ℤ) → pos 0 ≤ℤ dt → pos 0 ≤ℤ h → pos 0 ≤ℤ drag dt f h u
@@ -32,7 +34,7 @@ module _ (h : ℤ) (low : dryDepth <ℤ h) (high : h ≤ℤ deepest) where
   pub wet : pos 0 <ℤ h
   wet = le-lt-trans (le-lit (pos 0) dryDepth tt) low
 
-  pub wet-size : Within 262144 h
+  pub wet-size : UpTo deepest h
   wet-size = b-nonneg (lt-le wet) high
 
   -- the divisor: at least 390,625 times the least depth, 5, times its cube-root number, no less than 256
@@ -46,7 +48,7 @@ module _ (h : ℤ) (low : dryDepth <ℤ h) (high : h ≤ℤ deepest) where
   pub divisor-pos : pos 0 <ℤ (pos 390625 *ℤ h *ℤ cube h)
   divisor-pos = lt-le-trans (record { lt = tt }) divisor-least
 
-  pub drag-most : (dt f u : ℤ) → Within 4096 dt → Within 200 f → Within 131072 u → Within 10786209068 (drag dt f h u)
+  pub drag-most : (dt f u : ℤ) → UpTo longestStep dt → UpTo roughest f → UpTo fastest u → UpTo strongest (drag dt f h u)
   unfolding drag
   drag-most dt f u p q r =
       b-up 10786209068 (b-quot-ge 499999999 (b-mul (b-mul (b-mul (b-lit (pos 256 *ℤ pos 981)) p) (b-mul q q)) (b-size u r)) divisor-least)

@@ -18,7 +18,7 @@ use Rattle.rules.specs.Refusals.{outside, badBed, badRough, offCell, fastCell, 
 use Rattle.rules.specs.Laws.Inside.{above-least, below-most}
 use Rattle.rules.specs.Laws.Verdicts.{cleared, checkAt, clear-at}
 use Rattle.reach.specs.Told.{bedAt}
-use Rattle.reach.specs.Ranges.{Grounds}
+use Rattle.reach.specs.Ranges.{UpTo, Grounds}
 use Rattle.stage.specs.Ranges.{Ranged, Slows}
 use Rattle.stage.specs.Says.{readyChecks}
 
@@ -31,7 +31,7 @@ pub grounds : (n : ℕ) (bed : List ℤ) → some (λ i. badBed (getD bed i (pos
 unfolding badBed
 grounds n bed e i l = record { zl = value i (omega arith); zr = value (suc i) (omega arith) }
   where
-    value : (j : ℕ) → j < suc n → Within 1048576 (getD bed j (pos 0))
+    value : (j : ℕ) → j < suc n → UpTo highestBed (getD bed j (pos 0))
     value j m = let z = getD bed j (pos 0) in
         between (pos 0) 1048576 z (nat-nonneg 0)
         (or-l (outside (pos 0) highestBed z) (not (eqb (natAbs z % 2) 0)) (some-none (λ i. badBed (getD bed i (pos 0))) (suc n) e j m))

@@ -17,17 +17,17 @@ use Rattle.rules.specs.Reach.{Bed, h0, h1, hl, hr, short}
 use Rattle.rules.specs.Laws.Positive.{no-short}
 use Rattle.reach.specs.Ranges.{UpTo}
 use Rattle.stage.specs.Rows.{slopeOf, thrust, pushOf, tiltOf, updateBy}
-use Rattle.stage.specs.Ranges.{mostSquare, mostMomentum, mostChange, mostPressure, Inside, Small, Row, Pressed}
+use Rattle.stage.specs.Ranges.{mostSquare, mostMomentum, mostChange, mostPressure, Inside, Small, Row, Pressed, mostThrust, mostTurn}
 use Rattle.stage.specs.Laws.CellSizes.{cell-sizes}
 
 pub wide-pos : (dx : ℤ) → pos 0 <ℤ dx → pos 0 <ℤ (pos 819200 *ℤ dx)
 wide-pos dx h = lt! (lit 0) (lit 819200 ⊠ at dx) (omega (arith, of-lt h))
 
-pub slope-size : (a dx dt : ℤ) → UpTo mostChange a → UpTo longestStep dt → Within 53647899623424 (slopeOf a dx dt)
+pub slope-size : (a dx dt : ℤ) → UpTo mostChange a → UpTo longestStep dt → UpTo mostTurn (slopeOf a dx dt)
 unfolding slopeOf
 slope-size a dx dt p q = b-quot dx (b-mul (b-mul (b-lit (pos 3)) p) q)
 
-pub thrust-size : (e dx dt : ℤ) → UpTo mostPressure e → pos 0 <ℤ dx → UpTo longestStep dt → Within 9810000000000 (thrust e dx dt)
+pub thrust-size : (e dx dt : ℤ) → UpTo mostPressure e → pos 0 <ℤ dx → UpTo longestStep dt → UpTo mostThrust (thrust e dx dt)
 unfolding thrust
 thrust-size e dx dt p h q =
     b-quot-ge 819199 (b-mul (b-mul (b-lit (pos 981)) p) q) (le! (lit 819200) (lit 819200 ⊠ at dx) (omega (arith, of-lt h)))

@@ -8,10 +8,11 @@ use borrow.Author.Needs.{needs}
 use Rattle.whole.specs.Parts.{Within, b-nonneg, le-trans, lt-le, nat-nonneg}
 use Rattle.whole.specs.Choice.{sizeZ, b-size}
 use Rattle.whole.specs.Machine.{X, v, k, _⊗_, _⊘_, Entry, entry, need, value, divisor, g-var}
-use Rattle.rules.specs.Limits.{dryDepth, deepest}
+use Rattle.rules.specs.Limits.{dryDepth, deepest, fastest}
 use Rattle.rules.specs.Friction.{cube, drag}
 use Rattle.rules.specs.Laws.Speeds.{cube-least, cube-most}
 use Rattle.reach.specs.Size.{sized as size-got}
+use Rattle.reach.specs.Ranges.{UpTo}
 use Rattle.stage.specs.Laws.UpdateSizes.{sized}
 use Rattle.stage.specs.Laws.FrictionStrength.{wet, wet-size, divisor-pos}
 use Rattle.stage.proofs.friction.drag_of.Statement.{statement}
@@ -24,7 +25,7 @@ module _ (s : tie.Start) where
   low : pos 0 ≤ℤ s .args .h
   low = lt-le (wet (s .args .h) (depth .0) (depth .1))
 
-  deep : Within 262144 (s .args .h)
+  deep : UpTo deepest (s .args .h)
   deep = wet-size (s .args .h) (depth .0) (depth .1)
 
   cube-size : Within 16384 (cube (s .args .h))
@@ -49,8 +50,8 @@ module _ (c : tie.After-struct-told) where
   abbrev s : tie.Start
   s = size .before .before
 
-  size-in : Within 131072 (size .size .result)
-  size-in = subst (Within 131072) (sym (s-is size)) (b-size (s .args .u) (s .pre .1 .1 .1))
+  size-in : UpTo fastest (size .size .result)
+  size-in = subst (UpTo fastest) (sym (s-is size)) (b-size (s .args .u) (s .pre .1 .1 .1))
 
   cube-in : Within 16384 (size .before .cube-of .result)
   cube-in = subst (Within 16384) (sym (c-is (size .before))) (cube-size s)

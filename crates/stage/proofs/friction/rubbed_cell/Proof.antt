@@ -6,7 +6,6 @@ use lib.IntN.{ℤ, pos}
 use lib.Signed.{leZ, _≤ℤ_, _<ℤ_}
 use mir.Facts.{toZ-ofZ}
 use borrow.Author.Needs.{needs}
-use Rattle.whole.specs.Parts.{Within}
 use Rattle.whole.specs.Tests.{le-no}
 use Rattle.whole.specs.Machine.{back, back64}
 use Rattle.tables.specs.Cells.{Cell, asCell}
@@ -19,6 +18,8 @@ use Rattle.rules.specs.Refusals.{fastCell}
 use Rattle.tables.specs.Cells.{of-four}
 use Rattle.whole.specs.Choice.{within-past}
 use Rattle.reach.specs.Told.{bedIn}
+use Rattle.reach.specs.Ranges.{UpTo}
+use Rattle.stage.specs.Ranges.{strongest}
 use Rattle.stage.specs.Laws.CellSizes.{cell-sizes}
 use Rattle.stage.specs.Laws.FrictionStrength.{drag-nonneg, drag-most}
 use Rattle.stage.proofs.friction.rubbed_cell.Statement.{statement}
@@ -86,7 +87,7 @@ x-is c =
     rw (toZ-ofZ (s .fits .f), back (b .strength-arg2 .given), back (a .strength-arg .given), d .depths .ensures) at (c .strength .ensures)
 
 x-size : (c : tie.After-strength) → let s = c .before .before .before .before .before .before in
-    (pos 0 ≤ℤ strong s) × Within 10786209068 (strong s)
+    (pos 0 ≤ℤ strong s) × UpTo strongest (strong s)
 unfolding bed cell strong fastCell
 x-size c =
     let e = c .before .before .before in let s = e .before .before .before in let m = cell-sizes (s .pre .1 .1 .0) in let p = s .args in

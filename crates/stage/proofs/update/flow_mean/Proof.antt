@@ -4,8 +4,9 @@ use mathlib.Core.List.{List, [], _∷_}
 use lib.IntN.{ℤ, _+ℤ_}
 use mir.Facts.{toZ-ofZ}
 use borrow.Author.Needs.{needs}
-use Rattle.whole.specs.Parts.{Within}
 use Rattle.whole.specs.Machine.{X, v, _⊕_, _⊝_, _⊗_, _⊘_, Entry, ideal, need, value, divisor}
+use Rattle.reach.specs.Ranges.{UpTo}
+use Rattle.stage.specs.Ranges.{mostThrust}
 use Rattle.stage.specs.Laws.UpdateSizes.{sized, thrust-size}
 use Rattle.stage.specs.Rows.{thrust}
 use Rattle.stage.proofs.update.flow_mean.Statement.{statement}
@@ -57,10 +58,10 @@ start c = c .before .before .before .before .before .before .before .before
 moved : (c : tie.After-thrust-of) → c .thrust-of .result ≡ thrust (start c .args .e) (start c .args .reach .dx) (start c .args .call .dt)
 moved c = let s = start c in rw (toZ-ofZ (s .fits .e)) at (c .thrust-of .ensures)
 
-moved-size : (c : tie.After-thrust-of) → Within 9810000000000 (c .thrust-of .result)
+moved-size : (c : tie.After-thrust-of) → UpTo mostThrust (c .thrust-of .result)
 moved-size c =
     let s = start c in
-    subst (Within 9810000000000) (sym (moved c)) (thrust-size _ _ _ (s .pre .0 .1) (s .pre .1 .1 .dx-pos) (s .pre .1 .1 .dt-in))
+    subst (UpTo mostThrust) (sym (moved c)) (thrust-size _ _ _ (s .pre .0 .1) (s .pre .1 .1 .dx-pos) (s .pre .1 .1 .dt-in))
 
 abbrev after : tie.After-thrust-of → List Entry
 after c = and-then (start c) (sized (moved-size c) tt ∷ [])

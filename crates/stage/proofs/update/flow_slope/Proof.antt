@@ -5,8 +5,10 @@ use lib.ListN.{getD}
 use lib.IntN.{pos, _-ℤ_}
 use mir.Facts.{toZ-ofZ}
 use borrow.Author.Needs.{needs}
-use Rattle.whole.specs.Parts.{Within, b-up}
+use Rattle.whole.specs.Parts.{b-up}
 use Rattle.whole.specs.Machine.{X, v, _⊕_, _⊝_, Entry, entry, ideal, got, need, value}
+use Rattle.reach.specs.Ranges.{UpTo}
+use Rattle.stage.specs.Ranges.{mostThrust, mostTurn, mostChange}
 use Rattle.stage.specs.Laws.UpdateSizes.{sized, slope-size, thrust-size}
 use Rattle.stage.specs.Rows.{slopeOf, thrust}
 use Rattle.stage.proofs.update.flow_slope.Statement.{statement}
@@ -18,7 +20,7 @@ env s = sized (s .pre .1 .0 .0 .A) tt ∷ sized (s .pre .1 .0 .1 .A) tt ∷ entr
 abbrev change : X
 change = v 1 ⊕ v 0 ⊝ v 2
 
-change-size : (s : tie.Start) → Within 4365877248 (ideal (env s) change)
+change-size : (s : tie.Start) → UpTo mostChange (ideal (env s) change)
 change-size s = b-up 4365877248 (got (env s) change tt .bound) tt
 
 array-copy-out-result : tie.Need-array-copy-out-result
@@ -49,8 +51,8 @@ changed : (c : tie.After-slope-change)
     → c .slope-change .result ≡ slopeOf (ideal (env (start c)) change) (start c .args .reach .dx) (start c .args .call .dt)
 changed c = let s = start c in rw (value (env s) change tt) at (c .slope-change .ensures)
 
-changed-size : (c : tie.After-slope-change) → Within 53647899623424 (c .slope-change .result)
-changed-size c = subst (Within 53647899623424) (sym (changed c)) (slope-size _ _ _ (change-size (start c)) (start c .pre .1 .1 .dt-in))
+changed-size : (c : tie.After-slope-change) → UpTo mostTurn (c .slope-change .result)
+changed-size c = subst (UpTo mostTurn) (sym (changed c)) (slope-size _ _ _ (change-size (start c)) (start c .pre .1 .1 .dt-in))
 
 sub-result : tie.Need-sub-result
 sub-result c = need (sized (start c .pre .0 .0) tt ∷ sized (changed-size c) tt ∷ []) (v 0 ⊝ v 1) tt
@@ -65,10 +67,10 @@ moved : (c : tie.After-thrust-of) → let s = start (c .before) in
     c .thrust-of .result ≡ thrust (s .args .d) (s .args .reach .dx) (s .args .call .dt)
 moved c = let s = start (c .before) in rw (toZ-ofZ (s .fits .d)) at (c .thrust-of .ensures)
 
-moved-size : (c : tie.After-thrust-of) → Within 9810000000000 (c .thrust-of .result)
+moved-size : (c : tie.After-thrust-of) → UpTo mostThrust (c .thrust-of .result)
 moved-size c =
     let s = start (c .before) in
-    subst (Within 9810000000000) (sym (moved c)) (thrust-size _ _ _ (s .pre .0 .2) (s .pre .1 .1 .dx-pos) (s .pre .1 .1 .dt-in))
+    subst (UpTo mostThrust) (sym (moved c)) (thrust-size _ _ _ (s .pre .0 .2) (s .pre .1 .1 .dx-pos) (s .pre .1 .1 .dt-in))
 
 abbrev after : tie.After-thrust-of → List Entry
 after c = sized (start (c .before) .pre .0 .0) tt ∷ sized (changed-size (c .before)) tt ∷ sized (moved-size c) tt ∷ []

@@ -4,8 +4,10 @@ use mathlib.Core.List.{List, [], _∷_}
 use lib.ListN.{getD}
 use lib.IntN.{ℤ, pos, _-ℤ_}
 use borrow.Author.Needs.{needs}
-use Rattle.whole.specs.Parts.{Within, b-up}
+use Rattle.whole.specs.Parts.{b-up}
 use Rattle.whole.specs.Machine.{X, v, k, _⊕_, _⊝_, _⊗_, Entry, ideal, got, need, value}
+use Rattle.reach.specs.Ranges.{UpTo}
+use Rattle.stage.specs.Ranges.{mostTurn, mostChange}
 use Rattle.stage.specs.Laws.UpdateSizes.{sized, slope-size}
 use Rattle.stage.specs.Rows.{slopeOf}
 use Rattle.stage.proofs.update.level_slope.Statement.{statement}
@@ -17,7 +19,7 @@ env s = sized (s .pre .0 .0) tt ∷ sized (s .pre .0 .1) tt ∷ sized (s .pre .1
 abbrev change : X
 change = v 3 ⊕ v 2 ⊝ k (pos 2) ⊗ v 1
 
-change-size : (s : tie.Start) → Within 4365877248 (ideal (env s) change)
+change-size : (s : tie.Start) → UpTo mostChange (ideal (env s) change)
 change-size s = b-up 4365877248 (got (env s) change tt .bound) tt
 
 array-copy-out-result : tie.Need-array-copy-out-result
@@ -54,8 +56,8 @@ changed : (c : tie.After-slope-change)
     → c .slope-change .result ≡ slopeOf (ideal (env (start c)) change) (start c .args .reach .dx) (start c .args .call .dt)
 changed c = let s = start c in rw (value (env s) change tt) at (c .slope-change .ensures)
 
-changed-size : (c : tie.After-slope-change) → Within 53647899623424 (c .slope-change .result)
-changed-size c = subst (Within 53647899623424) (sym (changed c)) (slope-size _ _ _ (change-size (start c)) (start c .pre .1 .1 .dt-in))
+changed-size : (c : tie.After-slope-change) → UpTo mostTurn (c .slope-change .result)
+changed-size c = subst (UpTo mostTurn) (sym (changed c)) (slope-size _ _ _ (change-size (start c)) (start c .pre .1 .1 .dt-in))
 
 abbrev after : tie.After-slope-change → List Entry
 after c = sized (start c .pre .0 .0) tt ∷ sized (changed-size c) tt ∷ []

@@ -5,6 +5,7 @@ use lib.IntN.{_+ℤ_, _-ℤ_, _*ℤ_}
 use Rattle.whole.specs.Parts.{Within, b-up}
 use Rattle.whole.specs.Machine.{X, v, _⊕_, _⊝_, _⊗_, Entry, got, need, value}
 use Rattle.rules.specs.Reach.{short}
+use Rattle.reach.specs.Ranges.{UpTo, widest}
 use Rattle.stage.specs.Laws.UpdateSizes.{sized, and-then, left-short, right-short}
 use Rattle.stage.specs.Rows.{pushOf}
 use Rattle.stage.proofs.update.push_of.Statement.{statement}
@@ -26,12 +27,12 @@ add-right : tie.Need-add-right
 add-right c = need (env c) right tt
 
 short-of-requires : tie.Need-short-of-requires
-short-of-requires c κs = subst (Within 70368744177664) (sym (value (env c) left tt)) (b-up 70368744177664 (got (env c) left tt .bound) tt)
+short-of-requires c κs = subst (UpTo widest) (sym (value (env c) left tt)) (b-up 70368744177664 (got (env c) left tt .bound) tt)
 
 short-of-requires-2 : tie.Need-short-of-requires-2
 short-of-requires-2 c κs =
     let e = env (c .before) in
-    subst (Within 70368744177664) (sym (value e right tt)) (b-up 70368744177664 (got e right tt .bound) tt)
+    subst (UpTo widest) (sym (value e right tt)) (b-up 70368744177664 (got e right tt .bound) tt)
 
 -- ---- the shortfalls
 module _ (c : tie.After-short-of2) where
