@@ -13,19 +13,17 @@ use read::lent;
 use read::take_line;
 use show::line_of;
 use step::Answer;
+use step::Given;
 
 fn called(line: &[u8], state: &[i32], next: &mut [i32], bed: &[i32], friction: &[u16]) -> Answer {
-    step::step(
-        state,
-        next,
-        bed,
-        friction,
-        given(line, 0),
-        given(line, 1),
-        given(line, 2),
-        given(line, 3),
-        given(line, 4),
-    )
+    let call = Given {
+        dx: given(line, 0),
+        dt: given(line, 1),
+        jump: given(line, 2),
+        left: given(line, 3),
+        right: given(line, 4),
+    };
+    step::step(state, next, bed, friction, call)
 }
 
 // The answer to a case, with as much of each table lent as it says.

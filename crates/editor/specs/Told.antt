@@ -102,13 +102,16 @@ unfolding flux faceCode fluxInto
 face-none old = record { number = refl; flux = refl }
 
 -- ---- one number, and one content of each table
-pub step-one : {o : Outcome} {r r′ : ℕ} {old new new′ w v v′ : List ℤ} → StepTold o r old new w v → StepTold o r′ old new′ w v′ → (r ≡ r′) × (new ≡ new′) × (v ≡ v′)
+pub step-one : {o : Outcome} {r r′ : ℕ} {old new new′ w v v′ : List ℤ} → StepTold o r old new w v → StepTold o r′ old new′ w v′
+    → (r ≡ r′) × (new ≡ new′) × (v ≡ v′)
 step-one p q = (p .number ∙ sym (q .number), p .table ∙ sym (q .table), p .crossed ∙ sym (q .crossed))
 
-pub face-one : {p : Perhaps Flux} {r r′ : ℕ} {old new new′ : List ℤ} → FaceTold p r old new → FaceTold p r′ old new′ → (r ≡ r′) × (new ≡ new′)
+pub face-one : {p : Perhaps Flux} {r r′ : ℕ} {old new new′ : List ℤ} → FaceTold p r old new → FaceTold p r′ old new′
+    → (r ≡ r′) × (new ≡ new′)
 face-one p q = (p .number ∙ sym (q .number), p .flux ∙ sym (q .flux))
 
-pub double-one : {hl ul hr ur : Float} {r r′ : ℕ} {old new new′ : List Float} → DoubleTold hl ul hr ur r old new → DoubleTold hl ul hr ur r′ old new′ → (r ≡ r′) × (new ≡ new′)
+pub double-one : {hl ul hr ur : Float} {r r′ : ℕ} {old new new′ : List Float} → DoubleTold hl ul hr ur r old new
+    → DoubleTold hl ul hr ur r′ old new′ → (r ≡ r′) × (new ≡ new′)
 double-one {hl} {ul} {hr} {ur} {old = old} p q = let e = doubles.face-unique hl ul hr ur (p .answer) (q .answer) (p .is) (q .is) in
     (p .number ∙ ap doubleCode e ∙ sym (q .number), p .flux ∙ ap (λ (x : DoubleAnswer). doubleInto x old) e ∙ sym (q .flux))
 

@@ -4,6 +4,7 @@ use double::face::DoubleAnswer;
 use face::answer::Carried;
 use root::RootAnswer;
 use step::Answer;
+use step::Given;
 ghost use lib.ListN.{length};
 ghost use Rattle.rules.specs.Lent.{stepOf};
 ghost use Rattle.face.specs.Given.{side, faceGiven};
@@ -25,9 +26,18 @@ pub extern "C" fn bassoonsun_step(
     right: u32,
     volumes: &mut [i64; 2],
 ) -> u32
-    ensures { λ r. ⌜ StepTold (stepOf (lend (now (state .entry)) (length (now (next .entry))) (now (bed .entry)) (now (friction .entry)) dx dt jump left right)) r (now (next .entry)) (now (next .exit)) (now (volumes .entry)) (now (volumes .exit)) ⌝ }
+    ensures { λ r. ⌜ StepTold
+        (stepOf (lend (now (state .entry)) (length (now (next .entry))) (now (bed .entry)) (now (friction .entry)) dx dt jump left right))
+        r (now (next .entry)) (now (next .exit)) (now (volumes .entry)) (now (volumes .exit)) ⌝ }
 {
-    let a = step::step(state, next, bed, friction, dx, dt, jump, left, right);
+    let call = Given {
+        dx,
+        dt,
+        jump,
+        left,
+        right,
+    };
+    let a = step::step(state, next, bed, friction, call);
     match a {
         Answer::Refused(k) => k,
         Answer::Accepted(w, v) => {

@@ -41,10 +41,12 @@ use Rattle.speeds.proofs.Unique.{speed-unique, wave-unique, cube-unique}
 use Rattle.face.proofs.Unique.{face-unique}
 use Rattle.root.proofs.Unique.{root-unique}
 use Rattle.double.proofs.face.Unique as doubles
-use Rattle.finishing.specs.Says.{FinishSays}
-use Rattle.finishing.specs.Fit.{one-finish}
+use Rattle.reach.specs.declared.Reach.{Reach as ToldReach}
+use Rattle.reach.specs.declared.Call.{Call as ToldCall}
+use Rattle.finishing.specs.FinishSays.{FinishSays}
+use Rattle.finishing.specs.Laws.OneFinish.{one-finish}
 use Rattle.stage.specs.Worked.{WorkedSays}
-use Rattle.stage.specs.Unique.{one-said}
+use Rattle.stage.specs.Laws.OneAnswer.{one-said}
 use Rattle.stage.specs.declared.worked.Worked.{Worked}
 use Rattle.step.specs.Gives.{Gives, one-answer, one-table}
 use Rattle.step.specs.declared.Answer.{Answer}
@@ -63,13 +65,13 @@ pub step-table : (l : Lent) {a b : Answer} {old new new′ : List ℤ} → Gives
 step-table l p q = one-table p q
 
 -- and so of every other public function
-pub work-one : (l : Lent) (old new new′ : List (List ℤ)) (a b : Worked) → WorkedSays l a old new → WorkedSays l b old new′
+pub work-one : (l : Lent) (old new new′ : List ℤ) (a b : Worked) → WorkedSays l a old new → WorkedSays l b old new′
     → (a ≡ b) × (new ≡ new′)
 work-one l old new new′ a b p q = one-said (reachOf l) (callOf l) (stateOf l) (number l) old new new′ a b p q
 
-pub finish-one : (n : ℕ) (bed : List ℤ) (jump : ℤ) (u : List (List ℤ)) (a b : Bool) (old new new′ : List (List ℤ))
-    → FinishSays n bed jump u a old new → FinishSays n bed jump u b old new′ → (a ≡ b) × (new ≡ new′)
-finish-one n bed jump u a b old new new′ p q = one-finish n bed jump u a b old new new′ p q
+pub finish-one : (reach : ToldReach) (call : ToldCall) (bed : List ℤ) (u : List (List ℤ)) (a b : Bool) (old new new′ : List (List ℤ))
+    → FinishSays reach call bed u a old new → FinishSays reach call bed u b old new′ → (a ≡ b) × (new ≡ new′)
+finish-one reach call bed u a b old new new′ p q = one-finish reach call bed u a b old new new′ p q
 
 pub speed-one : (q h : ℤ) (a b : Whole) → valueOf a ≡ speedGiven q h → valueOf b ≡ speedGiven q h → a ≡ b
 speed-one q h a b x y = speed-unique q h a b x y

@@ -3,5 +3,6 @@
 pub mod Rows
 pub mod Ranges
 pub mod Says
+pub mod Stored
 pub mod Worked
 pub mod Laws

@@ -1,13 +1,11 @@
 -- What the public function says, by the cases of its answer.
 use mathlib.Core.Path.{_≡_}
-use mathlib.Core.Bool.{cond}
-use mathlib.Core.List.{List, [], _++_}
-use Prim.Native.Nat.{ℕ, _*_, _<_}
-use lib.Dec.{leb}
-use lib.ListN.{length, getD}
+use mathlib.Core.List.{List, _++_}
+use Prim.Native.Nat.{ℕ, _<_}
+use lib.ListN.{getD}
 use lib.IntN.{ℤ, pos}
-use Rattle.tables.specs.Rows.{Filled}
-use Rattle.tables.specs.Cells.{asList, cellAt}
+use Rattle.tables.specs.Rows.{row}
+use Rattle.tables.specs.Cells.{flat, cellAt}
 use Rattle.rules.specs.Reach.{Reach, Call, State}
 use Rattle.rules.specs.Step.{carry, next}
 use Rattle.rules.specs.Refusals.{verdict}
@@ -26,35 +24,35 @@ use Rattle.stage.specs.declared.worked.Worked.the-variants.{Refused, Don
 abbrev pub Volume : ℤ → Type 0
 Volume w = UpTo mostVolume w
 
--- a number k and the table as it was; or the two volumes, and the new cells in the first n places of the table
-pub record Stopped (k m : ℕ) (old new : List (List ℤ)) : Type 0 where
+-- a number k and the table as it was; or the two volumes, and the new state in the table
+pub record Stopped (k m : ℕ) (old new : List ℤ) : Type 0 where
   pub number : m ≡ k
   pub some : 0 < m
   pub kept : new ≡ old
 
-pub record Went (r : Reach) (c : Call) (s : State) (k : ℕ) (w v : ℤ) (old new : List (List ℤ)) : Type 0 where
+pub record Went (r : Reach) (c : Call) (s : State) (k : ℕ) (w v : ℤ) (new : List ℤ) : Type 0 where
   pub none : k ≡ 0
   pub left : w ≡ carry r c s 0
   pub right : v ≡ carry r c s (r .n)
-  pub cells : Filled [] old new (r .n) (λ i. asList (next r c s i))
+  pub cells : new ≡ flat (row (r .n) (next r c s))
   pub left-in : Volume w
   pub right-in : Volume v
 
-abbrev pub Says : Reach → Call → State → ℕ → Worked → List (List ℤ) → List (List ℤ) → Type 0
+abbrev pub Says : Reach → Call → State → ℕ → Worked → List ℤ → List ℤ → Type 0
 Says r c s k (Refused m) old new = Stopped k m old new
-Says r c s k (Done w v) old new = Went r c s k w v old new
+Says r c s k (Done w v) old new = Went r c s k w v new
 
 -- the checks after 2, and the step on tables
-abbrev pub TablesSay : ToldReach → ToldCall → List ℤ → List ℕ → List ℤ → Worked → List (List ℤ) → List (List ℤ) → Type 0
+abbrev pub TablesSay : ToldReach → ToldCall → List ℤ → List ℕ → List ℤ → Worked → List ℤ → List ℤ → Type 0
 TablesSay reach call bed friction state w old new =
     let r : Reach = reachIn reach bed in let c : Call = callOn call (λ i. pos (getD friction i 0)) in let s : State = cellAt state in
     Says r c s (verdict (readyChecks (reach .n) bed friction s ++ bothChecks r c s)) w old new
 
--- what is lent; a table that has no room for the n cells counts as one of the wrong length
-abbrev pub lentBy : List ℤ → List ℤ → List ℕ → Given → ℕ → Lent
-lentBy now bed friction g room = record {
-  now = now;
-  room = cond (leb (length friction) room) (4 * length friction) 0;
+-- what is lent and given
+abbrev pub lentBy : List ℤ → ℕ → List ℤ → List ℕ → Given → Lent
+lentBy state room bed friction g = record {
+  now = state;
+  room = room;
   bed = bed;
   friction = friction;
   dx = g .dx;
@@ -64,5 +62,5 @@ lentBy now bed friction g room = record {
   right = g .right;
 }
 
-abbrev pub WorkedSays : Lent → Worked → List (List ℤ) → List (List ℤ) → Type 0
+abbrev pub WorkedSays : Lent → Worked → List ℤ → List ℤ → Type 0
 WorkedSays a w old new = Says (reachOf a) (callOf a) (stateOf a) (number a) w old new

@@ -31,9 +31,9 @@ ghost use Rattle.reach.specs.Told.{reachIn, callOn, bedIn, bedAt};
 ghost use Rattle.reach.specs.Ranges.{AllUnfinished};
 ghost use Rattle.stage.specs.Ranges.{Room, Inside, Ranged};
 
-// 1: do the tables not fit the n cells? What `next` lends is the caller's to check.
-pub fn bad_lengths(state: usize, bed: usize, n: usize) -> bool
-    ensures { λ r. ⌜ r ≡ misfit state (4 * n) bed n ⌝ }
+// 1: do the tables not fit the n cells?
+pub fn bad_lengths(state: usize, next: usize, bed: usize, n: usize) -> bool
+    ensures { λ r. ⌜ r ≡ misfit state next bed n ⌝ }
 {
     if n == 0 {
         return true;
@@ -42,6 +42,9 @@ pub fn bad_lengths(state: usize, bed: usize, n: usize) -> bool
         return true;
     }
     if state != 4 * n {
+        return true;
+    }
+    if next != 4 * n {
         return true;
     }
     if bed != n + 1 {

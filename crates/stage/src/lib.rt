@@ -12,5 +12,6 @@ mod points;
 mod rows;
 mod sides;
 mod stages;
+mod store;
 mod update;
 pub mod worked;

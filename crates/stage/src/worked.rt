@@ -1,4 +1,4 @@
-// The whole step, worked on tables of this crate's own and handed out at its end.
+// The whole step, worked on tables of this crate's own and stored in the lent one at its end.
 use crate::checks::bad_bed;
 use crate::checks::bad_friction;
 use crate::checks::bad_lengths;
@@ -14,6 +14,7 @@ use crate::lent::widened;
 use crate::rows::FaceRow;
 use crate::rows::Sides;
 use crate::stages::stage;
+use crate::store::store;
 use reach::Call;
 use reach::Cell;
 use reach::Given;
@@ -147,23 +148,11 @@ fn both_stages(
     stage_two(a, f, bed, reach, call, d, g, h, u, b)
 }
 
-// The first n cells of b, handed out.
-fn hand_out(b: &[Cell], reach: Reach, out: &mut [Cell])
-    requires { ⌜ Room reach (now b) × Room reach (now out) ⌝ }
-    ensures { λ _. ⌜ Filled [] (now (out .entry)) (now (out .exit)) (reach .n) (λ i. getD (now (b .entry)) i []) ⌝ }
-{
-    let n = reach.n;
-    let mut i: usize = 0;
-    while i < n {
-        out[i] = b[i];
-        i += 1;
-    }
-}
-
 // The step of a reach and a call that are in order, on the tables lent for it: a has the lent state and
 // then that after friction, b stage one and then the end state; the others are as both stages have them.
 fn on_tables(
     state: &[i32],
+    next: &mut [i32],
     bed: &[i32],
     friction: &[u16],
     reach: Reach,
@@ -175,14 +164,13 @@ fn on_tables(
     h: &mut [FaceRow],
     u: &mut [Cell],
     b: &mut [Cell],
-    out: &mut [Cell],
 ) -> Worked
-    requires { ⌜ InOrder reach call (now bed) × (length (now state) ≡ 4 * reach .n) × (length (now friction) ≡ reach .n) ⌝ }
-    requires { ⌜ Room reach (now a) × Room reach (now d) × Room reach (now g) × Room reach (now u)
-        × Room reach (now b) × Room reach (now out) ⌝ }
+    requires { ⌜ InOrder reach call (now bed) × (length (now state) ≡ 4 * reach .n)
+        × (length (now next) ≡ 4 * reach .n) × (length (now friction) ≡ reach .n) ⌝ }
+    requires { ⌜ Room reach (now a) × Room reach (now d) × Room reach (now g) × Room reach (now u) × Room reach (now b) ⌝ }
     requires { ⌜ FaceRoom reach (now f) × FaceRoom reach (now h) ⌝ }
     ensures { λ r. ⌜ TablesSay reach call (now (bed .entry)) (now (friction .entry)) (now (state .entry))
-        r (now (out .entry)) (now (out .exit)) ⌝ }
+        r (now (next .entry)) (now (next .exit)) ⌝ }
 {
     load(state, reach, a);
     let k = ready(a, bed, friction, reach);
@@ -194,24 +182,29 @@ fn on_tables(
     if m != 0 {
         return Worked::Refused(m);
     }
-    hand_out(b, reach, out);
+    store(b, reach.n, next);
     Worked::Done(end_volume(f, h, 0), end_volume(f, h, reach.n))
 }
 
-// The same on tables made for a short reach, and for a long one.
+// The same on tables made for a short reach; a longer one is handed on. So `long_step` is called from two
+// places, and the compiler, which merges what is called from one place alone into its caller, tables and
+// all, keeps the long tables off the stack of a short reach.
 fn short_step(
     state: &[i32],
+    next: &mut [i32],
     bed: &[i32],
     friction: &[u16],
     reach: Reach,
     call: Call,
-    out: &mut [Cell],
 ) -> Worked
-    requires { ⌜ InOrder reach call (now bed) × (length (now state) ≡ 4 * reach .n) × (length (now friction) ≡ reach .n) ⌝ }
-    requires { ⌜ (reach .n ≤ 64) × Room reach (now out) ⌝ }
+    requires { ⌜ InOrder reach call (now bed) × (length (now state) ≡ 4 * reach .n)
+        × (length (now next) ≡ 4 * reach .n) × (length (now friction) ≡ reach .n) ⌝ }
     ensures { λ r. ⌜ TablesSay reach call (now (bed .entry)) (now (friction .entry)) (now (state .entry))
-        r (now (out .entry)) (now (out .exit)) ⌝ }
+        r (now (next .entry)) (now (next .exit)) ⌝ }
 {
+    if 4 * SHORT_CELLS < state.len() {
+        return long_step(state, next, bed, friction, reach, call);
+    }
     let mut a = [[0i64; 4]; SHORT_CELLS];
     let mut d = [[0i64; 4]; SHORT_CELLS];
     let mut g = [0i64; SHORT_CELLS];
@@ -221,6 +214,7 @@ fn short_step(
     let mut b = [[0i64; 4]; SHORT_CELLS];
     on_tables(
         state,
+        next,
         bed,
         friction,
         reach,
@@ -232,22 +226,22 @@ fn short_step(
         &mut h,
         &mut u,
         &mut b,
-        out,
     )
 }
 
+// And on tables made for the longest.
 fn long_step(
     state: &[i32],
+    next: &mut [i32],
     bed: &[i32],
     friction: &[u16],
     reach: Reach,
     call: Call,
-    out: &mut [Cell],
 ) -> Worked
-    requires { ⌜ InOrder reach call (now bed) × (length (now state) ≡ 4 * reach .n) × (length (now friction) ≡ reach .n) ⌝ }
-    requires { ⌜ Room reach (now out) ⌝ }
+    requires { ⌜ InOrder reach call (now bed) × (length (now state) ≡ 4 * reach .n)
+        × (length (now next) ≡ 4 * reach .n) × (length (now friction) ≡ reach .n) ⌝ }
     ensures { λ r. ⌜ TablesSay reach call (now (bed .entry)) (now (friction .entry)) (now (state .entry))
-        r (now (out .entry)) (now (out .exit)) ⌝ }
+        r (now (next .entry)) (now (next .exit)) ⌝ }
 {
     let mut a = [[0i64; 4]; CELLS];
     let mut d = [[0i64; 4]; CELLS];
@@ -258,6 +252,7 @@ fn long_step(
     let mut b = [[0i64; 4]; CELLS];
     on_tables(
         state,
+        next,
         bed,
         friction,
         reach,
@@ -269,21 +264,18 @@ fn long_step(
         &mut h,
         &mut u,
         &mut b,
-        out,
     )
 }
 
-// One step from the lent state, bed and friction: the refusal's number, or the two end volumes and
-// the new cells in the first n places of `out`. Only an accepted step writes there.
-pub fn work(state: &[i32], bed: &[i32], friction: &[u16], given: Given, out: &mut [Cell]) -> Worked
-    ensures { λ r. ⌜ WorkedSays (lentBy (now (state .entry)) (now (bed .entry)) (now (friction .entry)) given (length (now (out .entry))))
-        r (now (out .entry)) (now (out .exit)) ⌝ }
+// One step from the lent state, bed and friction: the refusal's number, or the two end volumes and the new
+// state in `next`. Only an accepted step writes there.
+pub fn work(state: &[i32], next: &mut [i32], bed: &[i32], friction: &[u16], given: Given) -> Worked
+    ensures { λ r. ⌜ WorkedSays
+        (lentBy (now (state .entry)) (length (now (next .entry))) (now (bed .entry)) (now (friction .entry)) given)
+        r (now (next .entry)) (now (next .exit)) ⌝ }
 {
     let n = friction.len();
-    if out.len() < n {
-        return Worked::Refused(1);
-    }
-    if bad_lengths(state.len(), bed.len(), n) {
+    if bad_lengths(state.len(), next.len(), bed.len(), n) {
         return Worked::Refused(1);
     }
     let reach = Reach {
@@ -300,7 +292,7 @@ pub fn work(state: &[i32], bed: &[i32], friction: &[u16], given: Given, out: &mu
         return Worked::Refused(2);
     }
     if n <= SHORT_CELLS {
-        return short_step(state, bed, friction, reach, call, out);
+        return short_step(state, next, bed, friction, reach, call);
     }
-    long_step(state, bed, friction, reach, call, out)
+    long_step(state, next, bed, friction, reach, call)
 }

@@ -1,4 +1,3 @@
--- What the public call says, and why an accepted state fits the table that it is written to.
+-- What the public call says, and why what was worked is that.
 pub mod Gives
 pub mod Answered
-pub mod Stored

@@ -28,6 +28,7 @@ use spoil::third;
 use std::num::wrapping_add_u64;
 use std::num::wrapping_sub_u64;
 use step::Answer;
+use step::Given;
 
 // Where a block has come to: what the last call was drawn from, its answer, 0 for accepted, and the
 // running sum; and the reach, which is tried again with another dt while tries are left: `low` was
@@ -140,17 +141,14 @@ fn made(
     friction: &[u16],
 ) -> Answer {
     let c = third(x);
-    step::step(
-        state,
-        next,
-        bed,
-        friction,
-        given(0, dx(r), x),
-        given(1, dt, x),
-        given(2, jump(c), x),
-        given(3, (c >> 8) % 2, x),
-        given(4, (c >> 9) % 2, x),
-    )
+    let call = Given {
+        dx: given(0, dx(r), x),
+        dt: given(1, dt, x),
+        jump: given(2, jump(c), x),
+        left: given(3, (c >> 8) % 2, x),
+        right: given(4, (c >> 9) % 2, x),
+    };
+    step::step(state, next, bed, friction, call)
 }
 
 // The answer to the call drawn from x, with as much of each table lent as its faults leave.

@@ -30,7 +30,8 @@ module _ {A : Type 0} (d : A) (n : ℕ) (p : ℕ → Bool) (f : ℕ → A) where
     pub fill-none : Filling old 0
     fill-none = record { most = omega arith; room = refl; none = λ k h. absurd (not-suc-le-zero h); done = written-none d old f }
 
-    pub fill-more : (a : List A) (i : ℕ) (x : A) → n ≤ length old → i < n → Filling a i → p i ≡ false → x ≡ f i → Filling (set a i x) (i + 1)
+    pub fill-more : (a : List A) (i : ℕ) (x : A) → n ≤ length old → i < n → Filling a i → p i ≡ false → x ≡ f i
+        → Filling (set a i x) (i + 1)
     fill-more a i x m l h e new = record {
       most = omega arith;
       room = length-set a i x ∙ h .room;

@@ -35,19 +35,30 @@ enum-told : tie.Need-enum-told
 enum-told c = search needs
 
 -- what the face is given, in the numbers themselves
-meant : (c : tie.After-face) → let s = c .before in flux (c .face .result) ≡ faceGiven (side (s .args .hl) (s .args .ul)) (side (s .args .hr) (s .args .ur))
-meant c = let s = c .before in rw (toZ-ofZ (s .fits .hl), toZ-ofZ (s .fits .ul), toZ-ofZ (s .fits .hr), toZ-ofZ (s .fits .ur)) at (c .face .ensures)
+meant : (c : tie.After-face) → let s = c .before in
+    flux (c .face .result) ≡ faceGiven (side (s .args .hl) (s .args .ul)) (side (s .args .hr) (s .args .ur))
+meant c =
+    let s = c .before in
+    rw (toZ-ofZ (s .fits .hl), toZ-ofZ (s .fits .ul), toZ-ofZ (s .fits .hr), toZ-ofZ (s .fits .ur)) at (c .face .ensures)
 
 returns : tie.Need-returns
 returns c =
     let f = c .before .before .before in let s = f .before in let z = c .before .c .given in let t = c .known-told .given in
-    rw (back {z = z .0 .0} (t .0 .1), back {z = z .0 .1 .0} (t .1 .0 .1), back {z = z .0 .1 .1 .0} (t .1 .1 .0 .1), back {z = z .0 .1 .1 .1 .0} (t .1 .1 .1 .0 .1))
-    (subst (λ (p : Perhaps Flux). FaceTold p 0 (now (s .args .flux)) (set (set (set (set (now (s .args .flux)) 0 (z .0 .0)) 1 (z .0 .1 .0)) 2 (z .0 .1 .1 .0)) 3 (z .0 .1 .1 .1 .0))) (sym (ap flux (z .1)) ∙ meant f) (face-flux (z .0 .0) (z .0 .1 .0) (z .0 .1 .1 .0) (z .0 .1 .1 .1 .0) (now (s .args .flux))))
+    rw (
+      back {z = z .0 .0} (t .0 .1),
+      back {z = z .0 .1 .0} (t .1 .0 .1),
+      back {z = z .0 .1 .1 .0} (t .1 .1 .0 .1),
+      back {z = z .0 .1 .1 .1 .0} (t .1 .1 .1 .0 .1),
+    )
+    (subst (λ (p : Perhaps Flux). FaceTold p 0 (now (s .args .flux))
+    (set (set (set (set (now (s .args .flux)) 0 (z .0 .0)) 1 (z .0 .1 .0)) 2 (z .0 .1 .1 .0)) 3 (z .0 .1 .1 .1 .0)))
+    (sym (ap flux (z .1)) ∙ meant f) (face-flux (z .0 .0) (z .0 .1 .0) (z .0 .1 .1 .0) (z .0 .1 .1 .1 .0) (now (s .args .flux))))
 
 returns-2 : tie.Need-returns-2
 returns-2 c =
     let f = c .before .before in
-    subst (λ (p : Perhaps Flux). FaceTold p 1 (now (f .before .args .flux)) (now (f .before .args .flux))) (sym (ap flux (c .enum-told .given .1)) ∙ meant f) (face-none (now (f .before .args .flux)))
+    subst (λ (p : Perhaps Flux). FaceTold p 1 (now (f .before .args .flux)) (now (f .before .args .flux)))
+    (sym (ap flux (c .enum-told .given .1)) ∙ meant f) (face-none (now (f .before .args .flux)))
 
 pub bassoonsun-face-spec : {M : Type 1} → statement M
 bassoonsun-face-spec =

@@ -34,17 +34,32 @@ enum-told-2 c = search needs
 returns : tie.Need-returns
 unfolding doubleCode doubleInto
 returns c = let f = c .before .before .before in let e = sym (c .before .c .given .1) in
-    record { answer = f .face .result; is = f .face .ensures; number = ap doubleCode e; flux = ap (λ (x : DoubleAnswer). doubleInto x (now (f .before .args .flux))) e }
+    record {
+      answer = f .face .result;
+      is = f .face .ensures;
+      number = ap doubleCode e;
+      flux = ap (λ (x : DoubleAnswer). doubleInto x (now (f .before .args .flux))) e;
+    }
 
 returns-2 : tie.Need-returns-2
 unfolding doubleCode doubleInto
 returns-2 c = let f = c .before .before in let e = sym (c .enum-told .given .1) in
-    record { answer = f .face .result; is = f .face .ensures; number = ap doubleCode e; flux = ap (λ (x : DoubleAnswer). doubleInto x (now (f .before .args .flux))) e }
+    record {
+      answer = f .face .result;
+      is = f .face .ensures;
+      number = ap doubleCode e;
+      flux = ap (λ (x : DoubleAnswer). doubleInto x (now (f .before .args .flux))) e;
+    }
 
 returns-3 : tie.Need-returns-3
 unfolding doubleCode doubleInto
 returns-3 c = let f = c .before .before in let e = sym (c .enum-told2 .given .1) in
-    record { answer = f .face .result; is = f .face .ensures; number = ap doubleCode e; flux = ap (λ (x : DoubleAnswer). doubleInto x (now (f .before .args .flux))) e }
+    record {
+      answer = f .face .result;
+      is = f .face .ensures;
+      number = ap doubleCode e;
+      flux = ap (λ (x : DoubleAnswer). doubleInto x (now (f .before .args .flux))) e;
+    }
 
 pub bassoonsun-face-double-spec : {M : Type 1} → statement M
 bassoonsun-face-double-spec =

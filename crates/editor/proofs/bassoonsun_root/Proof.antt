@@ -22,12 +22,22 @@ enum-told c = search needs
 returns : tie.Need-returns
 unfolding rootCode rootInto
 returns c = let f = c .before .before .before in let e = sym (c .before .c .given .1) in
-    record { answer = f .root .result; is = f .root .ensures; number = ap rootCode e; root = ap (λ (x : RootAnswer). rootInto x (now (f .before .args .root))) e }
+    record {
+      answer = f .root .result;
+      is = f .root .ensures;
+      number = ap rootCode e;
+      root = ap (λ (x : RootAnswer). rootInto x (now (f .before .args .root))) e;
+    }
 
 returns-2 : tie.Need-returns-2
 unfolding rootCode rootInto
 returns-2 c = let f = c .before .before in let e = sym (c .enum-told .given .1) in
-    record { answer = f .root .result; is = f .root .ensures; number = ap rootCode e; root = ap (λ (x : RootAnswer). rootInto x (now (f .before .args .root))) e }
+    record {
+      answer = f .root .result;
+      is = f .root .ensures;
+      number = ap rootCode e;
+      root = ap (λ (x : RootAnswer). rootInto x (now (f .before .args .root))) e;
+    }
 
 pub bassoonsun-root-spec : {M : Type 1} → statement M
 bassoonsun-root-spec =

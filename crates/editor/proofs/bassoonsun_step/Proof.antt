@@ -37,7 +37,11 @@ same-length-2 c = search needs
 returns-2 : tie.Need-returns-2
 unfolding code
 returns-2 c =
-    let st = c .before .before .before .before in let g = st .step .ensures in let z = c .before .a2 .given in let t = c .known-told2 .given in let e = sym (z .1) ∙ g .says in
+    let st = c .before .before .before .before in
+    let g = st .step .ensures in
+    let z = c .before .a2 .given in
+    let t = c .known-told2 .given in
+    let e = sym (z .1) ∙ g .says in
     rw (back {z = z .0 .0} (t .0 .1), back {z = z .0 .1 .0} (t .1 .0 .1))
     (record { number = ap code e; table = g .table; crossed = both-crossed _ (z .0 .0) (z .0 .1 .0) e _ })
 

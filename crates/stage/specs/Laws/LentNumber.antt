@@ -49,38 +49,29 @@ abbrev pub callBy : Given → Call
 callBy g = record { dt = pos (g .dt); jump = pos (g .jump); left = g .left; right = g .right }
 
 -- ---- the step's number, by the check that stopped it
-module _ (state bed : List ℤ) (friction : List ℕ) (given : Given) (size : ℕ) where
+module _ (state : List ℤ) (room : ℕ) (bed : List ℤ) (friction : List ℕ) (given : Given) where
   abbrev lent : Lent
-  lent = lentBy state bed friction given size
+  lent = lentBy state room bed friction given
 
   abbrev n : ℕ
   n = length friction
 
-  pub short-number : size < n → number lent ≡ 1
-  short-number l = first-number lent
-      (ap (λ (k : Bool). misfit (length state) (cond k (4 * n) 0) (length bed) n)
-      (fails (leb n size) (λ t. let h = leb→le n size t in let z : ⊥ = omega arith in z))
-      ∙ wrong-room (length state) 0 (length bed) n (λ e. let z : ⊥ = omega arith in z))
+  pub length-number : misfit (length state) room (length bed) n ≡ true → number lent ≡ 1
+  length-number e = first-number lent e
 
-  module _ (l : n ≤ size) where
-    roomed : misfits lent ≡ misfit (length state) (4 * n) (length bed) n
-    roomed = ap (λ (k : Bool). misfit (length state) (cond k (4 * n) 0) (length bed) n) (holds (leb n size) (le→leb n size l))
+  module _ (e : misfit (length state) room (length bed) n ≡ false) where
+    after : number lent
+        ≡ verdict (chk 2 (badCall (reachOf lent) (callOf lent)) ∷ readyChecks n bed friction (stateOf lent)
+        ++ bothChecks (reachOf lent) (callOf lent) (stateOf lent))
+    unfolding refusal checks early stageChecks off fastFriction
+    after = later-number lent e
 
-    pub length-number : misfit (length state) (4 * n) (length bed) n ≡ true → number lent ≡ 1
-    length-number e = first-number lent (roomed ∙ e)
+    pub call-number : badCall (reachOf lent) (callOf lent) ≡ true → number lent ≡ 2
+    unfolding verdict
+    call-number b = after ∙ rw b
 
-    module _ (e : misfit (length state) (4 * n) (length bed) n ≡ false) where
-      after : number lent ≡ verdict (chk 2 (badCall (reachOf lent) (callOf lent)) ∷ readyChecks n bed friction (stateOf lent)
-          ++ bothChecks (reachOf lent) (callOf lent) (stateOf lent))
-      unfolding refusal checks early stageChecks off fastFriction
-      after = later-number lent (roomed ∙ e)
-
-      pub call-number : badCall (reachOf lent) (callOf lent) ≡ true → number lent ≡ 2
-      unfolding verdict
-      call-number b = after ∙ rw b
-
-      -- the checks after 2 are those of the step on tables
-      pub later-checks : badCall (reachOf lent) (callOf lent) ≡ false
-          → number lent ≡ verdict (readyChecks n bed friction (stateOf lent) ++ bothChecks (reachOf lent) (callOf lent) (stateOf lent))
-      unfolding verdict
-      later-checks b = after ∙ rw b
+    -- the checks after 2 are those of the step on tables
+    pub later-checks : badCall (reachOf lent) (callOf lent) ≡ false
+        → number lent ≡ verdict (readyChecks n bed friction (stateOf lent) ++ bothChecks (reachOf lent) (callOf lent) (stateOf lent))
+    unfolding verdict
+    later-checks b = after ∙ rw b

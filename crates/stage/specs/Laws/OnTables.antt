@@ -1,5 +1,6 @@
 -- The step on tables: the lent state is loaded, checked and rubbed, and both stages follow.
 -- Assumes nothing.
+use mathlib.Core.Bool.{false}
 use mathlib.Core.Path.{_≡_, sym, _∙_, ap, subst}
 use mathlib.Core.List.{List, [], _++_}
 use Prim.Native.Nat.{ℕ, suc, _<_}
@@ -7,25 +8,32 @@ use native.Mathlib.Omega.{arith}
 use lib.ListN.{getD}
 use lib.IntN.{ℤ, pos}
 use lib.Signed.{_≤ℤ_}
-use Rattle.tables.specs.Rows.{Filled}
-use Rattle.tables.specs.Cells.{asCell, asList, cellAt, seen, Holds}
+use Rattle.whole.specs.Parts.{b-up}
+use Rattle.tables.specs.Some.{some, some-none}
+use Rattle.tables.specs.Rows.{Filled, row, row-same}
+use Rattle.tables.specs.Cells.{asCell, asList, cellAt, flat, seen, Holds}
 use Rattle.rules.specs.Limits.{dryDepth}
 use Rattle.rules.specs.Reach.{Reach, Call, State}
-use Rattle.rules.specs.Step.{rubbedCell, rubbed}
-use Rattle.rules.specs.Refusals.{verdict}
-use Rattle.rules.specs.Laws.Verdicts.{stopped, went-on}
+use Rattle.rules.specs.Step.{rubbedCell, rubbed, next}
+use Rattle.rules.specs.Refusals.{verdict, off, stageChecks}
+use Rattle.rules.specs.Laws.Verdicts.{stopped, cleared, clear-at, went-on}
 use Rattle.reach.specs.declared.Reach.{Reach as ToldReach}
 use Rattle.reach.specs.declared.Call.{Call as ToldCall}
 use Rattle.reach.specs.Told.{reachIn, callOn, bedAt}
 use Rattle.stage.specs.Rows.{volumeAt, rubbedAt}
 use Rattle.stage.specs.Ranges.{Inside, Ranged, Slows}
 use Rattle.stage.specs.Says.{readyChecks, bothChecks, Shows, StepSays}
+use Rattle.stage.specs.Stored.{Fits, AllFit}
 use Rattle.stage.specs.Worked.{Volume, TablesSay}
 use Rattle.stage.specs.declared.worked.Worked.the-variants.{Refused, Done}
-use Rattle.stage.specs.Laws.CellSizes.{volume-size}
+use Rattle.stage.specs.Laws.CellSizes.{cell-sizes, volume-size}
 use Rattle.stage.specs.Laws.FrictionRange.{rubbed-inside}
 use Rattle.stage.specs.Laws.LentChecks.{lent-ranged, lent-slow, ready-same}
 use Rattle.stage.specs.Laws.TwoStages.{volume-is}
+
+-- the place of the end state's range among the checks of both stages
+abbrev end : ℕ
+end = 7
 
 -- the state lent for a step, as the table a has it, and the number k of the checks before the stages
 pub record Loaded (reach : ToldReach) (call : ToldCall) (bed : List ℤ) (friction : List ℕ) (state : List ℤ) (a : List (List ℤ))
@@ -54,7 +62,7 @@ module _
   number : k ≡ verdict (readyChecks n bed friction s)
   number = lent .number ∙ ap verdict (ready-same n bed friction (seen a) s (λ i l. ap asCell (lent .cells i l)))
 
-  pub ready-stops : (k ≡ 0 → ⊥) → (old : List (List ℤ)) → TablesSay reach call bed friction state (Refused k) old old
+  pub ready-stops : (k ≡ 0 → ⊥) → (old : List ℤ) → TablesSay reach call bed friction state (Refused k) old old
   ready-stops z old = record {
     number = stopped (readyChecks n bed friction s) (bothChecks r c s) k number z;
     some = omega (arith, z);
@@ -84,21 +92,34 @@ module _
       both-number : m ≡ verdict (readyChecks n bed friction s ++ bothChecks r c s)
       both-number = both .number ∙ went-on (readyChecks n bed friction s) (bothChecks r c s) tt (sym z ∙ number)
 
-      pub both-stops : (m ≡ 0 → ⊥) → (old : List (List ℤ)) → TablesSay reach call bed friction state (Refused m) old old
+      pub both-stops : (m ≡ 0 → ⊥) → (old : List ℤ) → TablesSay reach call bed friction state (Refused m) old old
       both-stops y old = record { number = both-number; some = omega (arith, y); kept = λ i. old }
 
       module _ (y : m ≡ 0) where
         volume-in : (i : ℕ) → i < suc n → Volume (volumeAt f x i)
         volume-in i l = let d = both .done y in volume-size (d .one .sized i l .vol) (d .two .sized i l .vol)
 
-        pub both-done : {old new : List (List ℤ)} {w v : ℤ} → Filled [] old new n (λ i. getD b i [])
-            → w ≡ volumeAt f x 0 → v ≡ volumeAt f x n
+        in-range : some (off r (next r c s)) n ≡ false
+        unfolding stageChecks
+        in-range = let checks = bothChecks r c s in clear-at checks (cleared checks tt (sym y ∙ both .number)) end
+
+        shown : (i : ℕ) → i < n → seen b i ≡ next r c s i
+        shown i l = ap asCell (both .done y .cells i l)
+
+        -- the end state fits the lent table
+        pub both-fits : AllFit n (seen b)
+        unfolding off
+        both-fits i l =
+            let k = cell-sizes (record { ground = loaded-ranged i l .ground; range = some-none (off r (next r c s)) n in-range i l }) in
+            subst Fits (sym (shown i l)) (record { e0 = k .e0; e1 = b-up 1310720 (k .e1) tt; q0 = k .q0; q1 = k .q1 })
+
+        pub both-done : (old : List ℤ) {new : List ℤ} {w v : ℤ} → new ≡ flat (row n (seen b)) → w ≡ volumeAt f x 0 → v ≡ volumeAt f x n
             → TablesSay reach call bed friction state (Done w v) old new
-        both-done filled p q = let d = both .done y in record {
+        both-done old e p q = let d = both .done y in record {
           none = sym both-number ∙ y;
           left = p ∙ volume-is d 0 (omega arith);
           right = q ∙ volume-is d n (omega arith);
-          cells = record { size = filled .size; below = λ i l. filled .below i l ∙ d .cells i l; above = filled .above };
+          cells = e ∙ ap flat (row-same n (seen b) (next r c s) shown);
           left-in = subst Volume (sym p) (volume-in 0 (omega arith));
           right-in = subst Volume (sym q) (volume-in n (omega arith));
         }

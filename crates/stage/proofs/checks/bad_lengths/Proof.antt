@@ -1,6 +1,4 @@
--- The tests are the rule's, in its order; the room for the new cells is the caller's, and counts as right.
-use mathlib.Core.Path.{refl}
-use Prim.Native.Nat.{_*_}
+-- The tests are the rule's, in its order.
 use borrow.Author.Needs.{needs}
 use borrow.Author.Tests.{eq-eqb, ne-eqb, lt-ltb, le-ltb}
 use Rattle.rules.specs.Refusals.{any}
@@ -23,22 +21,42 @@ returns-3 : tie.Need-returns-3
 unfolding misfit any
 returns-3 c = let e = c .before in rw (ne-eqb _ _ (e .before .if1 .left), le-ltb _ _ (e .if2 .left), ne-eqb _ _ (c .if3 .taken))
 
-add-if4 : tie.Need-add-if4
-add-if4 c = search needs
+mul-if4 : tie.Need-mul-if4
+mul-if4 c = search needs
 
 returns-4 : tie.Need-returns-4
 unfolding misfit any
 returns-4 c =
-    let f = c .before in let e = f .before in let m = 4 * e .before .before .args .n in
-    rw
-    (ne-eqb _ _ (e .before .if1 .left), le-ltb _ _ (e .if2 .left), eq-eqb _ _ (f .if3 .left), eq-eqb m m refl, ne-eqb _ _ (c .if4 .taken))
+    let f = c .before in let e = f .before in
+    rw (ne-eqb _ _ (e .before .if1 .left), le-ltb _ _ (e .if2 .left), eq-eqb _ _ (f .if3 .left), ne-eqb _ _ (c .if4 .taken))
+
+add-if5 : tie.Need-add-if5
+add-if5 c = search needs
 
 returns-5 : tie.Need-returns-5
 unfolding misfit any
 returns-5 c =
-    let f = c .before in let e = f .before in let m = 4 * e .before .before .args .n in
-    rw (ne-eqb _ _ (e .before .if1 .left), le-ltb _ _ (e .if2 .left), eq-eqb _ _ (f .if3 .left), eq-eqb m m refl, eq-eqb _ _ (c .if4 .left))
+    let g = c .before in let f = g .before in let e = f .before in
+    rw (
+      ne-eqb _ _ (e .before .if1 .left),
+      le-ltb _ _ (e .if2 .left),
+      eq-eqb _ _ (f .if3 .left),
+      eq-eqb _ _ (g .if4 .left),
+      ne-eqb _ _ (c .if5 .taken),
+    )
+
+returns-6 : tie.Need-returns-6
+unfolding misfit any
+returns-6 c =
+    let g = c .before in let f = g .before in let e = f .before in
+    rw (
+      ne-eqb _ _ (e .before .if1 .left),
+      le-ltb _ _ (e .if2 .left),
+      eq-eqb _ _ (f .if3 .left),
+      eq-eqb _ _ (g .if4 .left),
+      eq-eqb _ _ (c .if5 .left),
+    )
 
 pub bad-lengths-spec : {M : Type 1} → statement M
 bad-lengths-spec =
-    tie.close (tie.spec returns returns-2 mul-if3 returns-3 add-if4 returns-4 returns-5)
+    tie.close (tie.spec returns returns-2 mul-if3 returns-3 mul-if4 returns-4 add-if5 returns-5 returns-6)

@@ -6,10 +6,10 @@ use Rattle.stage.proofs.worked.long_step.Tie as tie
 
 on-tables-requires : tie.Need-on-tables-requires
 on-tables-requires c κs =
-    let s = c .before .before .before .before .before .before .before .before .before in let w = s .pre .0 .0 .most in (
-      s .pre .0,
+    let s = c .before .before .before .before .before .before .before .before .before in let w = s .pre .0 .most in (
+      s .pre,
       (
-        (omega (arith, w), omega (arith, w), omega (arith, w), omega (arith, w), omega (arith, w), s .pre .1),
+        (omega (arith, w), omega (arith, w), omega (arith, w), omega (arith, w), omega (arith, w)),
         (omega (arith, w), omega (arith, w)),
       ),
     )

@@ -11,7 +11,7 @@ use Rattle.rules.specs.Reach.{Reach, Call, State}
 use Rattle.reach.specs.Told.{reachIn, callOn}
 use Rattle.stage.specs.Says.{StepSays}
 use Rattle.stage.specs.Laws.OnTables.{Loaded, ready-stops, loaded-ranged, loaded-slow}
-use Rattle.stage.specs.Laws.OnTables.{rubbed-shown, rubbed-ranged, both-stops, both-done}
+use Rattle.stage.specs.Laws.OnTables.{rubbed-shown, rubbed-ranged, both-stops, both-fits, both-done}
 use Rattle.stage.proofs.worked.on_tables.Statement.{statement}
 use Rattle.stage.proofs.worked.on_tables.Tie as tie
 
@@ -33,7 +33,7 @@ returns c = ready-stops (lent (c .before)) (c .if1 .taken) _
 ready-requires : tie.Need-ready-requires
 ready-requires c κs =
     let l = c .before .before in let b = l .before .before .before in
-    ((omega arith, b .pre .0 .0 .beds, b .pre .0 .2), l .load .ensures .wide)
+    ((omega arith, b .pre .0 .0 .beds, b .pre .0 .3), l .load .ensures .wide)
 
 rub-requires : tie.Need-rub-requires
 rub-requires c κs = let e = c .before in let w = e .before in let b = s w in (
@@ -93,15 +93,18 @@ returns-2 c =
     let m = c .before .before .before .before .before .before .before in let t = rubbed m in
     both-stops (lent (checked t)) (passed t .if1 .left) (start m .pre .0 .0 .some) (both m) (c .if2 .taken) _
 
--- ---- what is handed out
+-- ---- what is stored
 module _ (e : tie.Else2) where
   abbrev made : tie.After-both-stages
   made = e .before .before .before .before .before .before .before
 
-hand-out-requires : tie.Need-hand-out-requires
-hand-out-requires c κs =
-    let m = made (c .before .before) in
-    (omega (arith, m .both-stages .kept, start m .pre .1 .0), omega (arith, m .both-stages .kept, start m .pre .1 .0))
+store-requires : tie.Need-store-requires
+store-requires c κs = let e = c .before .before in let m = made e in let t = rubbed m in let o = start m .pre .0 in (
+  omega (arith, m .both-stages .kept, start m .pre .1 .0),
+  o .0 .most,
+  o .2,
+  both-fits (lent (checked t)) (passed t .if1 .left) (o .0 .some) (both m) (e .if2 .left),
+)
 
 end-volume-requires : tie.Need-end-volume-requires
 end-volume-requires c κs =
@@ -120,16 +123,17 @@ end-volume-requires-2 c κs =
 
 -- ---- the end
 module _ (c : tie.After-end-volume2) where
-  abbrev handed : tie.After-hand-out
-  handed = c .before .before .before .before .before .before .before
+  abbrev stored : tie.After-store
+  stored = c .before .before .before .before .before .before .before
 
   abbrev last : tie.Else2
-  last = handed .before .before .before
+  last = stored .before .before .before
 
 returns-3 : tie.Need-returns-3
 returns-3 c =
     let v = c .before .before .before in let e = last c in let m = made e in let t = rubbed m in
-    both-done (lent (checked t)) (passed t .if1 .left) (start m .pre .0 .0 .some) (both m) (e .if2 .left) (handed c .hand-out .ensures)
+    both-done (lent (checked t)) (passed t .if1 .left) (start m .pre .0 .0 .some) (both m) (e .if2 .left) (now (start m .args .next))
+    (stored c .store .ensures)
     (back64 (v .end-volume .ok) (v .end-volume .ensures)) (back64 (c .end-volume2 .ok) (c .end-volume2 .ensures))
 
 pub on-tables-spec : {M : Type 1} → statement M
@@ -150,9 +154,10 @@ on-tables-spec =
     (λ c. search needs)
     (λ c. search needs)
     returns-2
-    hand-out-requires
+    store-requires
     end-volume-requires
     end-volume-requires-2
+    (λ c. search (needs, stored c .store .kept))
     (λ c. search (needs, loaded (checked (rubbed (made (last c)))) .load .kept, rubbed (made (last c)) .rub .kept))
     (λ c. search (needs, made (last c) .both-stages .kept))
     (λ c. search (needs, made (last c) .both-stages .kept))
@@ -160,5 +165,4 @@ on-tables-spec =
     (λ c. search (needs, made (last c) .both-stages .kept))
     (λ c. search (needs, made (last c) .both-stages .kept))
     (λ c. search (needs, made (last c) .both-stages .kept))
-    (λ c. search (needs, handed c .hand-out .kept))
     returns-3)

@@ -1,4 +1,4 @@
--- The tables are as long as the reach may be.
+-- A state of at most 256 numbers has at most 64 cells, for which the tables are long enough.
 use native.Mathlib.Omega.{arith}
 use borrow.Author.Needs.{needs}
 use Rattle.stage.proofs.worked.short_step.Statement.{statement}
@@ -6,11 +6,12 @@ use Rattle.stage.proofs.worked.short_step.Tie as tie
 
 on-tables-requires : tie.Need-on-tables-requires
 on-tables-requires c κs =
-    let s = c .before .before .before .before .before .before .before .before .before in let w = s .pre .1 .0 in (
-      s .pre .0,
+    let e = c .before .before .before .before .before .before .before .before in let s = e .before .before in
+    let w = e .if1 .left in let l = s .pre .1 in (
+      s .pre,
       (
-        (omega (arith, w), omega (arith, w), omega (arith, w), omega (arith, w), omega (arith, w), s .pre .1 .1),
-        (omega (arith, w), omega (arith, w)),
+        (omega (arith, w, l), omega (arith, w, l), omega (arith, w, l), omega (arith, w, l), omega (arith, w, l)),
+        (omega (arith, w, l), omega (arith, w, l)),
       ),
     )
 
@@ -18,6 +19,10 @@ pub short-step-spec : {M : Type 1} → statement M
 short-step-spec =
     tie.close
     (tie.spec
+    (λ c. search needs)
+    (λ c κs. search needs)
+    (λ c. search needs)
+    (λ c. search needs)
     (λ c. search needs)
     (λ c. search needs)
     (λ c. search needs)

@@ -2,7 +2,7 @@
 use mathlib.Core.Path.{_≡_, refl, sym, _∙_}
 use mathlib.Core.Bool.{false}
 use mathlib.Core.List.{_++_}
-use Prim.Native.Nat.{ℕ, _*_, _≤_}
+use Prim.Native.Nat.{ℕ}
 use native.Mathlib.Omega.{arith}
 use borrow.Author.Needs.{needs}
 use denote.Ref.{now}
@@ -14,9 +14,10 @@ use Rattle.rules.specs.Refusals.{verdict, badCall}
 use Rattle.rules.specs.Laws.Lengths.{Fitted, fitted}
 use Rattle.reach.specs.Ranges.{Numbers}
 use Rattle.reach.specs.Told.{reachIn, callOn}
+use Rattle.stage.specs.Ranges.{InOrder}
 use Rattle.stage.specs.Says.{readyChecks, bothChecks}
 use Rattle.stage.specs.Worked.{lentBy}
-use Rattle.stage.specs.Laws.LentNumber.{numbers, reachBy, callBy, short-number, length-number, call-number, later-checks}
+use Rattle.stage.specs.Laws.LentNumber.{numbers, reachBy, callBy, length-number, call-number, later-checks}
 use Rattle.stage.proofs.worked.work.Statement.{statement}
 use Rattle.stage.proofs.worked.work.Tie as tie
 
@@ -25,39 +26,29 @@ module _ (s : tie.Start) where
   abbrev states : ℕ
   states = length (now (s .args .state))
 
+  abbrev room : ℕ
+  room = length (now (s .args .next))
+
   abbrev beds : ℕ
   beds = length (now (s .args .bed))
 
   abbrev n : ℕ
   n = length (now (s .args .friction))
 
-  abbrev room : ℕ
-  room = length (now (s .args .out))
-
-module _ (c : tie.Else2) where
+module _ (c : tie.Else1) where
   abbrev s : tie.Start
-  s = c .before .before .before .before
+  s = c .before .before .before
 
-  lengths : misfit (states s) (4 * n s) (beds s) (n s) ≡ false
-  lengths = sym (c .before .bad-lengths .ensures) ∙ c .if2 .left
+  lengths : misfit (states s) (room s) (beds s) (n s) ≡ false
+  lengths = sym (c .before .bad-lengths .ensures) ∙ c .if1 .left
 
-  fits : Fitted (states s) (4 * n s) (beds s) (n s)
-  fits = fitted (states s) (4 * n s) (beds s) (n s) lengths
-
-  roomy : n s ≤ room s
-  roomy = omega (arith, c .before .before .if1 .left)
+  fits : Fitted (states s) (room s) (beds s) (n s)
+  fits = fitted (states s) (room s) (beds s) (n s) lengths
 
 returns : tie.Need-returns
-returns c = let b = c .before .before in let p = b .args in record {
-  number = sym (short-number (now (p .state)) (now (p .bed)) (now (p .friction)) (p .given) (room b) (c .if1 .taken));
-  some = omega arith;
-  kept = refl;
-}
-
-returns-2 : tie.Need-returns-2
-returns-2 c = let b = c .before .before .before .before in let p = b .args in record {
-  number = sym (length-number (now (p .state)) (now (p .bed)) (now (p .friction)) (p .given) (room b)
-      (omega (arith, c .before .before .if1 .left)) (sym (c .before .bad-lengths .ensures) ∙ c .if2 .taken));
+returns c = let b = c .before .before .before in let p = b .args in record {
+  number = sym (length-number (now (p .state)) (room b) (now (p .bed)) (now (p .friction)) (p .given)
+      (sym (c .before .bad-lengths .ensures) ∙ c .if1 .taken));
   some = omega arith;
   kept = refl;
 }
@@ -73,7 +64,7 @@ module _ (c : tie.After-bad-numbers) where
   abbrev w1 : tie.After-widened
   w1 = w2 .before
 
-  abbrev fit : tie.Else2
+  abbrev fit : tie.Else1
   fit = w1 .before
 
   dx-is : rd (w1 .widened .result) ≡ pos (s fit .args .given .dx)
@@ -92,79 +83,75 @@ module _ (c : tie.After-bad-numbers) where
       c .bad-numbers .result ≡ badCall (reachIn (reachBy (n (s fit)) (p .given)) (now (p .bed))) (callOn (callBy (p .given)) rough)
   judged = simp (dx-is, dt-is, jump-is) at (c .bad-numbers .ensures (now (s fit .args .bed)) rough)
 
-returns-3 : tie.Need-returns-3
-returns-3 c = let m = c .before in let e = fit m in let p = s e .args in record {
-  number = sym (call-number (now (p .state)) (now (p .bed)) (now (p .friction)) (p .given) (room (s e))
-      (roomy e) (lengths e) (sym (judged m) ∙ c .if3 .taken));
+returns-2 : tie.Need-returns-2
+returns-2 c = let m = c .before in let e = fit m in let p = s e .args in record {
+  number = sym (call-number (now (p .state)) (room (s e)) (now (p .bed)) (now (p .friction)) (p .given)
+      (lengths e) (sym (judged m) ∙ c .if2 .taken));
   some = omega arith;
   kept = refl;
 }
 
 -- ---- a call in order
-module _ (e : tie.Else3) where
+module _ (e : tie.Else2) where
   abbrev m : tie.After-bad-numbers
   m = e .before
 
   abbrev start : tie.Start
   start = s (fit m)
 
-  in-range : Numbers (record { n = n start; dx = rd (w1 m .widened .result) })
+  in-order : InOrder (record { n = n start; dx = rd (w1 m .widened .result) })
       (record {
         dt = rd (w2 m .widened2 .result);
         jump = rd (w3 m .widened3 .result);
         left = start .args .given .left;
         right = start .args .given .right;
       })
-  in-range =
-      let bed = now (start .args .bed) in numbers _ _ bed (rough m) (sym (m .bad-numbers .ensures bed (rough m)) ∙ e .if3 .left)
+      (now (start .args .bed))
+  in-order = let f = fits (fit m) in let bed = now (start .args .bed) in record {
+    some = f .some;
+    most = f .most;
+    beds = f .beds;
+    numbers = numbers _ _ bed (rough m) (sym (m .bad-numbers .ensures bed (rough m)) ∙ e .if2 .left);
+  }
 
   abbrev lent : Lent
-  lent = let p = start .args in lentBy (now (p .state)) (now (p .bed)) (now (p .friction)) (p .given) (room start)
+  lent = let p = start .args in lentBy (now (p .state)) (room start) (now (p .bed)) (now (p .friction)) (p .given)
 
   later : number lent
       ≡ verdict (readyChecks (n start) (lent .bed) (lent .friction) (stateOf lent)
       ++ bothChecks (reachOf lent) (callOf lent) (stateOf lent))
   later = let p = start .args in
-      later-checks (now (p .state)) (now (p .bed)) (now (p .friction)) (p .given) (room start)
-      (roomy (fit m)) (lengths (fit m)) (sym (judged m) ∙ e .if3 .left)
+      later-checks (now (p .state)) (room start) (now (p .bed)) (now (p .friction)) (p .given)
+      (lengths (fit m)) (sym (judged m) ∙ e .if2 .left)
 
 short-step-requires : tie.Need-short-step-requires
-short-step-requires c κs =
-    let e = c .before .before in let f = fits (fit (m e)) in (
-      (record { some = f .some; most = f .most; beds = f .beds; numbers = in-range e }, f .now, refl),
-      (c .before .if4 .taken, roomy (fit (m e))),
-    )
+short-step-requires c κs = let e = c .before .before in let f = fits (fit (m e)) in (in-order e, f .now, f .next, refl)
 
-returns-4 : tie.Need-returns-4
-returns-4 c = let e = c .before .before .before .before in let w = m e in
+returns-3 : tie.Need-returns-3
+returns-3 c = let e = c .before .before .before .before in let w = m e in
     rw (later e) (simp (dx-is w, dt-is w, jump-is w) at (c .before .short-step .ensures))
 
 long-step-requires : tie.Need-long-step-requires
-long-step-requires c κs =
-    let e = c .before .before in let f = fits (fit (m e)) in (
-      (record { some = f .some; most = f .most; beds = f .beds; numbers = in-range e }, f .now, refl),
-      roomy (fit (m e)),
-    )
+long-step-requires c κs = let e = c .before .before in let f = fits (fit (m e)) in (in-order e, f .now, f .next, refl)
 
-returns-5 : tie.Need-returns-5
-returns-5 c = let e = c .before .before .before .before in let w = m e in
+returns-4 : tie.Need-returns-4
+returns-4 c = let e = c .before .before .before .before in let w = m e in
     rw (later e) (simp (dx-is w, dt-is w, jump-is w) at (c .before .long-step .ensures))
 
 pub work-spec : {M : Type 1} → statement M
 work-spec =
     tie.close
     (tie.spec
+    (λ c κs. search needs)
     returns
     (λ c κs. search needs)
+    (λ c κs. search needs)
+    (λ c κs. search needs)
+    (λ c κs. search needs)
     returns-2
-    (λ c κs. search needs)
-    (λ c κs. search needs)
-    (λ c κs. search needs)
-    (λ c κs. search needs)
-    returns-3
     short-step-requires
     (λ c. search needs)
-    returns-4
+    returns-3
     long-step-requires
     (λ c. search needs)
-    returns-5)
+    returns-4)

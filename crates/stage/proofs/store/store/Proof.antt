@@ -8,8 +8,8 @@ use lib.IntN.{ℤ}
 use denote.Ref.{now}
 use Rattle.tables.specs.Cells.{seen, putCell, length-put, Stores, stores-more, flat-is}
 use borrow.Author.Needs.{needs}
-use Rattle.step.proofs.store.store.Statement.{statement}
-use Rattle.step.proofs.store.store.Tie as tie
+use Rattle.stage.proofs.store.store.Statement.{statement}
+use Rattle.stage.proofs.store.store.Tie as tie
 
 abbrev Inv-loop : tie.InvT-loop
 Inv-loop y n s₀ i₀ s i = (i ≤ n) × (length s ≡ 4 * n) × Stores s i (seen y)
@@ -18,16 +18,19 @@ abbrev μ-loop : tie.MeasureT-loop
 μ-loop y n s₀ i₀ s i = n - i
 
 loop-holds : tie.Need-loop-holds Inv-loop μ-loop
-loop-holds c = (omega arith, c .pre .1, (λ k h. absurd (not-suc-le-zero h)))
+loop-holds c = (omega arith, c .pre .2, (λ k h. absurd (not-suc-le-zero h)))
 
 mul-put-cell : tie.Need-mul-put-cell Inv-loop μ-loop
 mul-put-cell c = search needs
 
-element-copy-out-put-cell : tie.Need-element-copy-out-put-cell Inv-loop μ-loop
-element-copy-out-put-cell c = omega arith
+shared-slice-copy-out-put-cell : tie.Need-shared-slice-copy-out-put-cell Inv-loop μ-loop
+shared-slice-copy-out-put-cell c = omega arith
 
 put-cell-requires : tie.Need-put-cell-requires Inv-loop μ-loop
-put-cell-requires c κs = let l = c .before .before .before .loop in let s = c .before .before .before .before in (omega arith, omega arith, s .pre .2 (l .i) (omega arith))
+put-cell-requires c κs =
+    let l = c .before .before .before .loop in
+    let s = c .before .before .before .before in
+    (omega arith, omega arith, s .pre .3 (l .i) (omega arith))
 
 add-i : tie.Need-add-i Inv-loop μ-loop
 add-i c = search needs
@@ -43,14 +46,18 @@ loop-again c =
     let e : b .put-cell .last .0 ≡ putCell (l .next) (l .i) x = b .put-cell .ensures in (
       omega arith,
       ap length e ∙ length-put (l .next) (l .i) x ∙ l .inv .1,
-      subst (λ (t : List ℤ). Stores t (l .i + 1) (seen (now (s .args .y)))) (sym e) (stores-more (l .next) (l .i) (seen (now (s .args .y))) x room (l .inv .2) refl),
+      subst (λ (t : List ℤ). Stores t (l .i + 1) (seen (now (s .args .y)))) (sym e)
+          (stores-more (l .next) (l .i) (seen (now (s .args .y))) x room (l .inv .2) refl),
     )
 
 same-length : tie.Need-same-length Inv-loop μ-loop
-same-length c = c .before .loop .inv .1 ∙ sym (c .before .before .pre .1)
+same-length c = c .before .loop .inv .1 ∙ sym (c .before .before .pre .2)
 
 returns : tie.Need-returns Inv-loop μ-loop
-returns c = let l = c .before .loop in let s = c .before .before in flat-is (s .args .n) (l .next) (seen (now (s .args .y))) (l .inv .1) (λ k h. l .inv .2 k (omega arith))
+returns c =
+    let l = c .before .loop in
+    let s = c .before .before in
+    flat-is (s .args .n) (l .next) (seen (now (s .args .y))) (l .inv .1) (λ k h. l .inv .2 k (omega arith))
 
 pub store-spec : {M : Type 1} → statement M
 store-spec =
@@ -60,7 +67,7 @@ store-spec =
     μ-loop
     loop-holds
     mul-put-cell
-    element-copy-out-put-cell
+    shared-slice-copy-out-put-cell
     put-cell-requires
     add-i
     loop-less

@@ -1,4 +1,5 @@
 // The new state, written into the lent table: the last thing that an accepted step does.
+use reach::Cell;
 ghost use mathlib.Core.Path.{_≡_};
 ghost use Prim.Native.Nat.{_+_, _*_, _≤_, _<_};
 ghost use lib.ListN.{getD, set, length};
@@ -6,10 +7,10 @@ ghost use lib.IntN.{pos};
 ghost use Rattle.whole.specs.Parts.{Within};
 ghost use Rattle.tables.specs.Rows.{row};
 ghost use Rattle.tables.specs.Cells.{asCell, putCell, flat, seen};
-ghost use Rattle.step.specs.Stored.{Fits, AllFit};
+ghost use Rattle.stage.specs.Stored.{Fits, AllFit};
 
 // Number m of a cell, into place j.
-fn put(next: &mut [i32], j: usize, x: [i64; 4], m: usize)
+fn put(next: &mut [i32], j: usize, x: Cell, m: usize)
     requires { ⌜ (j < length (now next)) × (m < 4) × Within 8388608 (getD x m (pos 0)) ⌝ }
     ensures { λ _. ⌜ now (next .exit) ≡ set (now (next .entry)) j (getD x m (pos 0)) ⌝ }
 {
@@ -17,7 +18,7 @@ fn put(next: &mut [i32], j: usize, x: [i64; 4], m: usize)
 }
 
 // Cell i: the others are as they were.
-fn put_cell(next: &mut [i32], i: usize, x: [i64; 4])
+fn put_cell(next: &mut [i32], i: usize, x: Cell)
     requires { ⌜ (i < 1024) × (4 * i + 3 < length (now next)) × Fits (asCell x) ⌝ }
     ensures { λ _. ⌜ now (next .exit) ≡ putCell (now (next .entry)) i (asCell x) ⌝ }
 {
@@ -29,8 +30,8 @@ fn put_cell(next: &mut [i32], i: usize, x: [i64; 4])
 }
 
 // The first n cells of y, as the whole lent table.
-pub fn store(y: &[[i64; 4]; 1024], n: usize, next: &mut [i32])
-    requires { ⌜ (n ≤ 1024) × (length (now next) ≡ 4 * n) × AllFit n (seen (now y)) ⌝ }
+pub fn store(y: &[Cell], n: usize, next: &mut [i32])
+    requires { ⌜ (n ≤ length (now y)) × (n ≤ 1024) × (length (now next) ≡ 4 * n) × AllFit n (seen (now y)) ⌝ }
     ensures { λ _. ⌜ now (next .exit) ≡ flat (row n (seen (now (y .entry)))) ⌝ }
 {
     let mut i: usize = 0;

@@ -9,8 +9,8 @@ use denote.Ref.{now}
 use Rattle.whole.specs.Parts.{Within, mag-abs}
 use Rattle.whole.specs.Machine.{narrows, narrowed}
 use borrow.Author.Needs.{needs}
-use Rattle.step.proofs.store.put.Statement.{statement}
-use Rattle.step.proofs.store.put.Tie as tie
+use Rattle.stage.proofs.store.put.Statement.{statement}
+use Rattle.stage.proofs.store.put.Tie as tie
 
 small : (z : ℤ) → Within 8388608 z → mag z < 2 ^ 31
 small z w = omega (arith, mag-abs z, w .abs)
