@@ -13,6 +13,22 @@ use Rattle.rules.specs.Limits.{deepest, fullest}
 use Rattle.reach.specs.Ranges.{UpTo}
 use Rattle.stage.specs.Ranges.{Around}
 
+-- ---- the mean and the slope of a discharge, of which sum and difference are within the greatest
+module _ (p q : ℤ) (left : UpTo fullest (p -ℤ q)) (right : UpTo fullest (p +ℤ q)) where
+  pub flow-sum : natAbs p + natAbs q ≤ 8388608
+  flow-sum =
+      let k = lit 8388608 in let l = range-b left in let r = range-b right in
+      let x = le? (⊖ k) (at p ⊟ at q) (l .0) in let y = le? (at p ⊟ at q) k (l .1) in
+      let z = le? (⊖ k) (at p ⊞ at q) (r .0) in let w = le? (at p ⊞ at q) k (r .1) in
+      ⊎-elim (λ e. ⊎-elim (λ f. omega (arith, abs-parts p, abs-parts q)) (λ f. omega (arith, abs-parts p, abs-parts q)) (one-part q))
+      (λ e. ⊎-elim (λ f. omega (arith, abs-parts p, abs-parts q)) (λ f. omega (arith, abs-parts p, abs-parts q)) (one-part q)) (one-part p)
+
+  pub flow-mean : UpTo fullest p
+  flow-mean = record { abs = omega (arith, flow-sum) }
+
+  pub flow-slope : UpTo fullest q
+  flow-slope = record { abs = omega (arith, flow-sum) }
+
 module _ {m d p q : ℤ} (a : Around m d p q) where
   -- ---- the two places
   pub left-size : UpTo deepest (m -ℤ d)
@@ -60,21 +76,6 @@ module _ {m d p q : ℤ} (a : Around m d p q) where
       le! (at m ⊞ lit (natAbs d)) (lit 262144)
       (⊎-elim (λ z. omega (arith, abs-parts d, l)) (λ z. omega (arith, abs-parts d, r)) (one-part d))
 
-  -- ---- the discharge's mean and slope
-  pub flow-sum : natAbs p + natAbs q ≤ 8388608
-  flow-sum =
-      let k = lit 8388608 in let l = range-b (a .ql) in let r = range-b (a .qr) in
-      let x = le? (⊖ k) (at p ⊟ at q) (l .0) in let y = le? (at p ⊟ at q) k (l .1) in
-      let z = le? (⊖ k) (at p ⊞ at q) (r .0) in let w = le? (at p ⊞ at q) k (r .1) in
-      ⊎-elim (λ e. ⊎-elim (λ f. omega (arith, abs-parts p, abs-parts q)) (λ f. omega (arith, abs-parts p, abs-parts q)) (one-part q))
-      (λ e. ⊎-elim (λ f. omega (arith, abs-parts p, abs-parts q)) (λ f. omega (arith, abs-parts p, abs-parts q)) (one-part q)) (one-part p)
-
-  pub flow-mean : UpTo fullest p
-  flow-mean = record { abs = omega (arith, flow-sum) }
-
-  pub flow-slope : UpTo fullest q
-  flow-slope = record { abs = omega (arith, flow-sum) }
-
   -- ---- two places nearer to the middle
   pub nearer : (e f : ℤ) → Within (natAbs d) e → Within (natAbs q) f → Around m e p f
   nearer e f w v =
@@ -85,6 +86,6 @@ module _ {m d p q : ℤ} (a : Around m d p q) where
         left-most = le! (at m ⊟ at e) (lit 262144) (omega arith);
         right = le! (lit 0) (at m ⊞ at e) (omega arith);
         right-most = le! (at m ⊞ at e) (lit 262144) (omega arith);
-        ql = record { abs = omega (arith, flow-sum, b-sub (b-lit p) v .abs) };
-        qr = record { abs = omega (arith, flow-sum, b-add (b-lit p) v .abs) };
+        ql = record { abs = omega (arith, flow-sum p q (a .ql) (a .qr), b-sub (b-lit p) v .abs) };
+        qr = record { abs = omega (arith, flow-sum p q (a .ql) (a .qr), b-add (b-lit p) v .abs) };
       }

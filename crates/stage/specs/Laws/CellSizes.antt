@@ -94,7 +94,7 @@ cell-sizes {b} {x} i =
     let mid = z0-size b (i .ground) in let tilt = z1-size b (i .ground) in
     let e0 : UpTo highestLevel (x .e0) = subst (UpTo highestLevel) (back (x .e0) (z0 b)) (b-add (mean-size f) mid) in
     let e1 : UpTo steepestLevel (x .e1) = subst (UpTo steepestLevel) (back (x .e1) (z1 b)) (b-add (slope-size f) tilt) in
-    let q0 = flow-mean f in let q1 = flow-slope f in
+    let q0 = flow-mean (x .q0) (x .q1) (f .ql) (f .qr) in let q1 = flow-slope (x .q0) (x .q1) (f .ql) (f .qr) in
     record {
       wide = record {
         e0 = b-up 70368744177664 e0 tt;

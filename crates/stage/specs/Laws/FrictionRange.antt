@@ -45,7 +45,7 @@ pub rubbed-inside : (dt f : ℤ) (b : Bed) (x : Cell) → pos 0 ≤ℤ dt → In
 unfolding rubbedCell hl hr h0 h1
 rubbed-inside dt f b x p i =
     let g = in-range b x (i .range) in let y = rubbedCell dt dryDepth f b x in
-    let w = flow-sum (cell-sizes i .faces) in
+    let k = cell-sizes i .faces in let w = flow-sum (x .q0) (x .q1) (k .ql) (k .qr) in
     let u : natAbs (y .q0) ≤ natAbs (x .q0) = rub-size dt f b x (x .q0) p in
     let v : natAbs (y .q1) ≤ natAbs (x .q1) = rub-size dt f b x (x .q1) p in
     record {

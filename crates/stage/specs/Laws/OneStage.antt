@@ -44,11 +44,20 @@ module _ (reach : Reach) (call : Call) (bed : List ℤ) (s : State) (ρ : ℕ �
   unfolding stageChecks fastGauss
   says-points e f = stops-at checks 1 (sides-pass e, tt) f
 
+-- ---- the momenta of points that are not too fast, and the rows of faces whose sides are not, have the sizes that an update asks
+pub momenta : (n : ℕ) (bed : List ℤ) (s : State) → Ranged bed n s → some (fastPointsAt bed s) n ≡ false
+    → (g : List ℤ) → Written (pos 0) g n (momentumAt bed s) → Momenta g n
+momenta n bed s inside e g h i l =
+    subst (UpTo mostMomentum) (sym (h i l)) (gauss-size (bedAt bed i) (s i) (inside i l) (some-none (fastPointsAt bed s) n e i l))
+
+pub rows-sized : (reach : Reach) (call : Call) (bed : List ℤ) (s : State) → 0 < reach .n → Ranged bed (reach .n) s → Numbers reach call
+    → some (fastSides bed s) (reach .n) ≡ false → (d x : List (List ℤ)) → Written [] d (reach .n) (sidesAt bed s)
+    → Written [] x (suc (reach .n)) (faceRowAt reach call d) → FaceRows x (reach .n)
+rows-sized reach call bed s o inside num e d x w h = face-rows reach call d x (num .dt-in) o (sounds (reach .n) bed s inside e d w) h
+
 -- ---- a stage from s that passed them, with its sides in d
 pub record Slowed (reach : Reach) (call : Call) (bed : List ℤ) (s : State) (d : List (List ℤ)) : Type 0 where
   pub least : 0 < reach .n
-  pub numbers : Numbers reach call
-  pub inside : Ranged bed (reach .n) s
   pub sides : Written [] d (reach .n) (sidesAt bed s)
   pub slow-sides : some (fastSides bed s) (reach .n) ≡ false
   pub slow-points : some (fastPointsAt bed s) (reach .n) ≡ false
@@ -56,14 +65,6 @@ pub record Slowed (reach : Reach) (call : Call) (bed : List ℤ) (s : State) (d 
 module _ {reach : Reach} {call : Call} {bed : List ℤ} {s : State} {d : List (List ℤ)} (p : Slowed reach call bed s d) where
   abbrev n : ℕ
   n = reach .n
-
-  -- the momenta and the rows of the faces have the sizes that an update asks
-  pub momenta : (g : List ℤ) → Written (pos 0) g n (momentumAt bed s) → Momenta g n
-  momenta g h i l = subst (UpTo mostMomentum) (sym (h i l))
-      (gauss-size (bedAt bed i) (s i) (p .inside i l) (some-none (fastPointsAt bed s) n (p .slow-points) i l))
-
-  pub rows-sized : (x : List (List ℤ)) → Written [] x (suc n) (faceRowAt reach call d) → FaceRows x n
-  rows-sized x h = face-rows reach call d x (p .numbers .dt-in) (p .least) (sounds n bed s (p .inside) (p .slow-sides) d (p .sides)) h
 
   module _ (ρ : ℕ → ℤ) where
     abbrev r : rules.Reach
@@ -91,10 +92,13 @@ module _ {reach : Reach} {call : Call} {bed : List ℤ} {s : State} {d : List (L
         none-stops (stageChecks r c s) (sides-pass reach call bed s ρ (p .least) (p .slow-sides), (p .slow-points, (sym long-is ∙ h, tt)))
 
     -- ---- what it leaves
-    module _ (x : List (List ℤ)) (g : List ℤ) (wx : Written [] x (suc n) (faceRowAt reach call d))
-        (wg : Written (pos 0) g n (momentumAt bed s)) where
+    module _ (inside : Ranged bed n s) (num : Numbers reach call) (x : List (List ℤ)) (g : List ℤ)
+        (wx : Written [] x (suc n) (faceRowAt reach call d)) (wg : Written (pos 0) g n (momentumAt bed s)) where
       faces : FacesOf r c s x
-      faces = record { rows = λ i l. wx i l ∙ ap (faceRow (reach .dx) (call .dt)) (face-is i l); sized = rows-sized x wx }
+      faces = record {
+        rows = λ i l. wx i l ∙ ap (faceRow (reach .dx) (call .dt)) (face-is i l);
+        sized = rows-sized reach call bed s (p .least) inside num (p .slow-sides) d x (p .sides) wx;
+      }
 
       cell-is : (i : ℕ) → i < n → updateAt reach call bed s x g i ≡ stage r c s i
       unfolding stage faceAt
@@ -103,10 +107,10 @@ module _ {reach : Reach} {call : Call} {bed : List ℤ} {s : State} {d : List (L
           ∙ update-is (reach .dx) (call .dt) (bedAt bed i) (s i) (faceAt r c s i) (faceRight r c s i)
 
       small : Smalls n (stage r c s)
-      small i l = let w = p .numbers in let sized = faces .sized in
+      small i l = let sized = faces .sized in
           subst Small (cell-is i l)
-          (update-small (p .inside i l) (reach .dx) (call .dt) (getD x i []) (getD x (suc i) []) (getD g i (pos 0)) (w .dx-pos) (w .dt-in)
-          (sized i (omega arith)) (sized (suc i) (omega arith)) (momenta g wg i l))
+          (update-small (inside i l) (reach .dx) (call .dt) (getD x i []) (getD x (suc i) []) (getD g i (pos 0)) (num .dx-pos) (num .dt-in)
+          (sized i (omega arith)) (sized (suc i) (omega arith)) (momenta n bed s inside (p .slow-points) g wg i l))
 
       pub stage-done : (u : List (List ℤ)) → Holds u n (updateAt reach call bed s x g) → StageDone r c s x u
       stage-done u h = record { faces = faces; cells = λ i l. h i l ∙ ap asList (cell-is i l); small = small }

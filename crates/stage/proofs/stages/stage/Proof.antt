@@ -49,8 +49,6 @@ module _ (e : tie.Else2) where
   slowed : let s = start sided in Slowed (s .args .reach) (s .args .call) (now (s .args .bed)) (state s) (d sided)
   slowed = let s = start sided in record {
     least = s .pre .0 .0;
-    numbers = s .pre .1 .1 .0;
-    inside = s .pre .1 .1 .1;
     sides = worked sided .sides .ensures .filled (sided .if1 .left);
     slow-sides = slow-sides sided;
     slow-points = sym (pointed .points .ensures .stops) ∙ e .if2 .left;
@@ -75,7 +73,7 @@ faces-requires : tie.Need-faces-requires
 faces-requires c κs =
     let h = c .before .before in let p = slowed h in let s = start (sided h) in let a = s .args in (
       (s .pre .0 .0, omega arith, omega arith),
-      (p .numbers, sounds (a .reach .n) (now (a .bed)) (state s) (p .inside) (p .slow-sides) (d (sided h)) (p .sides)),
+      (s .pre .1 .1 .0, sounds (a .reach .n) (now (a .bed)) (state s) (s .pre .1 .1 .1) (p .slow-sides) (d (sided h)) (p .sides)),
     )
 
 returns-3 : tie.Need-returns-3
@@ -105,16 +103,25 @@ module _ (t : tie.Else3) where
 
 update-requires : tie.Need-update-requires
 update-requires c κs =
-    let t = c .before .before .before in let p = slowed (passed t) in let s = start (sided (passed t)) in (
+    let t = c .before .before .before in let h = passed t in let p = slowed h in
+    let s = start (sided h) in let a = s .args in let given = s .pre .1 .1 in (
       (omega arith, omega arith, omega arith, omega arith),
-      (p .inside, (rows-sized p (f t) (rows t), (momenta p (g (passed t)) (points t), p .numbers))),
+      (
+        given .1,
+        (
+          rows-sized (a .reach) (a .call) (now (a .bed)) (state s) (p .least) (given .1) (given .0) (p .slow-sides)
+              (d (sided h)) (f t) (p .sides) (rows t),
+          (momenta (a .reach .n) (now (a .bed)) (state s) (given .1) (p .slow-points) (g h) (points t), given .0),
+        ),
+      ),
     )
 
 returns-4 : tie.Need-returns-4
 returns-4 c ρ =
-    let u = c .before in let t = u .before .before .before .before in let p = slowed (passed t) in record {
+    let u = c .before in let t = u .before .before .before .before in let p = slowed (passed t) in
+    let given = start (sided (passed t)) .pre .1 .1 in record {
       number = says-none p ρ (sym (faced t .faces .ensures .stops) ∙ t .if3 .left);
-      done = λ z. stage-done p ρ (f t) (g (passed t)) (rows t) (points t) _ (u .update .ensures);
+      done = λ z. stage-done p ρ (given .1) (given .0) (f t) (g (passed t)) (rows t) (points t) _ (u .update .ensures);
     }
 
 pub stage-spec : {M : Type 1} → statement M
