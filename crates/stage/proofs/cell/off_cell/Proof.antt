@@ -94,9 +94,7 @@ pub off-cell-spec : {M : Type 1} → statement M
 off-cell-spec =
     tie.close
     (tie.spec
-    (λ c κs. search needs)
-    (λ c. search needs)
-    (λ c. search needs)
+    (λ c κs. search needs) (λ c. search needs) (λ c. search needs)
     off-depths-requires
     returns
     (λ c. search needs)

@@ -56,9 +56,7 @@ fast-spec =
     Inv-loop
     μ-loop
     loop-holds
-    (λ c κs. search needs)
-    (λ c. search needs)
-    (λ c. search needs)
+    (λ c κs. search needs) (λ c. search needs) (λ c. search needs)
     fast-cell-requires
     returns
     (λ c. search needs)

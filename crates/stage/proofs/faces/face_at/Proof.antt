@@ -82,15 +82,10 @@ face-at-spec =
     (λ c κs. first-sound c)
     crossing-requires
     returns
-    (λ c. search needs)
-    (λ c. search needs)
-    (λ c. search needs)
-    (λ c κs. search needs)
+    (λ c. search needs) (λ c. search needs) (λ c. search needs) (λ c κs. search needs)
     (λ c κs. before-sound (c .before .before))
     crossing-requires-2
     returns-2
-    (λ c. search needs)
-    (λ c. search needs)
-    (λ c κs. search needs)
+    (λ c. search needs) (λ c. search needs) (λ c κs. search needs)
     crossing-requires-3
     returns-3)

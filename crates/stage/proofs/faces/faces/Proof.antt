@@ -66,9 +66,7 @@ faces-spec =
     (λ c. c .before .before .before .before .loop .inv .room)
     returns
     (λ c κs. let f = c .before .before in (sized-here f, f .before .before .before .pre .1 .0))
-    (λ c. search needs)
-    (λ c. search needs)
-    (λ c. search needs)
+    (λ c. search needs) (λ c. search needs) (λ c. search needs)
     (λ c. omega arith)
     loop-again
     (λ c. c .before .loop .inv .room)

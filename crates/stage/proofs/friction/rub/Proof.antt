@@ -57,14 +57,9 @@ rub-spec =
     μ-loop
     loop-holds
     (λ c κs. omega arith)
-    (λ c κs. search needs)
-    (λ c. search needs)
-    (λ c. search needs)
+    (λ c κs. search needs) (λ c. search needs) (λ c. search needs)
     rubbed-cell-requires
-    (λ c. search needs)
-    (λ c. search needs)
-    (λ c. search needs)
-    (λ c. search needs)
+    (λ c. search needs) (λ c. search needs) (λ c. search needs) (λ c. search needs)
     loop-again
     (λ c. c .before .loop .inv .1 .size)
     returns)

@@ -48,10 +48,7 @@ load-spec =
     μ-loop
     loop-holds
     (λ c κs. omega arith)
-    (λ c. search needs)
-    (λ c. search needs)
-    (λ c. search needs)
-    (λ c. search needs)
+    (λ c. search needs) (λ c. search needs) (λ c. search needs) (λ c. search needs)
     loop-again
     (λ c. c .before .loop .inv .1 .size)
     returns)
