@@ -89,8 +89,8 @@ extern "C" {
  * dry ground, count a twice. In 1 m of still water (h 4096, u 0) S is 12829, and cells of 1 m
  * (dx 4096) take a dt of 435.
  *
- * The call works on the stack, in about 200 KiB however short the reach: lend a worker thread that
- * calls it 512 KiB. */
+ * The call works on the stack: in about 16 KiB for a reach of at most 64 cells, and in about 214 KiB
+ * for a longer one. Lend a worker thread that calls it with long reaches 512 KiB. */
 uint32_t bassoonsun_step(const int32_t *now, size_t now_len, int32_t *next, size_t next_len,
                          const int32_t *bed, size_t bed_len, const uint16_t *friction,
                          size_t friction_len, uint32_t dx, uint32_t dt, uint32_t jump,

@@ -4,14 +4,15 @@ ghost use mathlib.Core.Path.{_≡_};
 ghost use Prim.Native.Nat.{_+_, _*_, _≤_, _<_};
 ghost use lib.ListN.{getD, set, length};
 ghost use lib.IntN.{pos};
-ghost use Rattle.whole.specs.Parts.{Within};
 ghost use Rattle.tables.specs.Rows.{row};
 ghost use Rattle.tables.specs.Cells.{asCell, putCell, flat, seen};
+ghost use Rattle.rules.specs.Limits.{mostCells, fullest};
+ghost use Rattle.reach.specs.Ranges.{UpTo};
 ghost use Rattle.stage.specs.Stored.{Fits, AllFit};
 
 // Number m of a cell, into place j.
 fn put(next: &mut [i32], j: usize, x: Cell, m: usize)
-    requires { ⌜ (j < length (now next)) × (m < 4) × Within 8388608 (getD x m (pos 0)) ⌝ }
+    requires { ⌜ (j < length (now next)) × (m < 4) × UpTo fullest (getD x m (pos 0)) ⌝ }
     ensures { λ _. ⌜ now (next .exit) ≡ set (now (next .entry)) j (getD x m (pos 0)) ⌝ }
 {
     next[j] = x[m] as i32;
@@ -19,7 +20,7 @@ fn put(next: &mut [i32], j: usize, x: Cell, m: usize)
 
 // Cell i: the others are as they were.
 fn put_cell(next: &mut [i32], i: usize, x: Cell)
-    requires { ⌜ (i < 1024) × (4 * i + 3 < length (now next)) × Fits (asCell x) ⌝ }
+    requires { ⌜ (i < mostCells) × (4 * i + 3 < length (now next)) × Fits (asCell x) ⌝ }
     ensures { λ _. ⌜ now (next .exit) ≡ putCell (now (next .entry)) i (asCell x) ⌝ }
 {
     let at = 4 * i;
@@ -31,7 +32,7 @@ fn put_cell(next: &mut [i32], i: usize, x: Cell)
 
 // The first n cells of y, as the whole lent table.
 pub fn store(y: &[Cell], n: usize, next: &mut [i32])
-    requires { ⌜ (n ≤ length (now y)) × (n ≤ 1024) × (length (now next) ≡ 4 * n) × AllFit n (seen (now y)) ⌝ }
+    requires { ⌜ (n ≤ length (now y)) × (n ≤ mostCells) × (length (now next) ≡ 4 * n) × AllFit n (seen (now y)) ⌝ }
     ensures { λ _. ⌜ now (next .exit) ≡ flat (row n (seen (now (y .entry)))) ⌝ }
 {
     let mut i: usize = 0;

@@ -1,21 +1,20 @@
 -- What the numbers that passed check 2 are; and the step's number by the check that stopped it.
 -- Assumes nothing.
-use mathlib.Core.Path.{_≡_, _∙_, ap}
-use mathlib.Core.Bool.{Bool, true, false, cond}
+use mathlib.Core.Path.{_≡_, _∙_}
+use mathlib.Core.Bool.{true, false}
 use mathlib.Core.List.{List, _∷_, _++_}
-use Prim.Native.Nat.{ℕ, _*_, _≤_, _<_}
+use Prim.Native.Nat.{ℕ}
 use native.Mathlib.Omega.{arith}
-use lib.Dec.{leb, leb→le, le→leb}
 use lib.ListN.{length}
 use lib.IntN.{ℤ, pos}
-use Rattle.whole.specs.Flags.{holds, fails}
+use Rattle.whole.specs.Flags.{fails}
 use Rattle.whole.specs.Parts.{of-le, lt-of, le-trans, nat-nonneg}
 use Rattle.rules.specs.Limits.{longestCell, longestStep, largestJump}
 use Rattle.rules.specs.Refusals.{callTests, badCall, off, fastFriction, chk, verdict, stageChecks, early, checks, refusal}
 use Rattle.rules.specs.Laws.Accept.{none-at}
 use Rattle.rules.specs.Laws.Inside.{above-least}
-use Rattle.rules.specs.Laws.Lengths.{wrong-room, first-number, later-number}
-use Rattle.rules.specs.Lent.{Lent, reachOf, callOf, stateOf, misfit, misfits, number}
+use Rattle.rules.specs.Laws.Lengths.{first-number, later-number}
+use Rattle.rules.specs.Lent.{Lent, reachOf, callOf, stateOf, misfit, number}
 use Rattle.reach.specs.declared.Reach.{Reach}
 use Rattle.reach.specs.declared.Call.{Call}
 use Rattle.reach.specs.declared.Given.{Given}

@@ -1,6 +1,5 @@
 -- Below nought the test of -1 - x against the limit is that of the size; from nought on a number is its own size.
 use mathlib.Core.Path.{sym, _∙_, ap, ap₂}
-use mathlib.Core.List.{[]}
 use lib.IntN.{pos, negsuc, _-ℤ_}
 use lib.Signed.{leZ, ltZ}
 use mir.Facts.{toZ-ofZ}

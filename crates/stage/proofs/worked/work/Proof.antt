@@ -12,7 +12,6 @@ use Rattle.whole.specs.Machine.{back64, rd}
 use Rattle.rules.specs.Lent.{Lent, misfit, number, stateOf, reachOf, callOf}
 use Rattle.rules.specs.Refusals.{verdict, badCall}
 use Rattle.rules.specs.Laws.Lengths.{Fitted, fitted}
-use Rattle.reach.specs.Ranges.{Numbers}
 use Rattle.reach.specs.Told.{reachIn, callOn}
 use Rattle.stage.specs.Ranges.{InOrder}
 use Rattle.stage.specs.Says.{readyChecks, bothChecks}
