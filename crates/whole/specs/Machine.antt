@@ -6,7 +6,6 @@
 --     need ρ e tt : SFits w64 (raw ρ e)             what an operation asks
 --     value ρ e tt : loc ρ e ≡ ideal ρ e            what a local holds
 --     divisor ρ e tt h : 0 < ofZ w64 (raw ρ e)      where h : pos 0 <ℤ ideal ρ e
---     lt-is ρ a b tt tt                             a test of two
 -- Assumes nothing.
 use mathlib.Core.Path.{_≡_, refl, sym, _∙_, ap, ap₂, subst}
 use mathlib.Core.List.{List, [], _∷_}
@@ -16,7 +15,7 @@ use native.Mathlib.Omega.{arith}
 use borrow.Author.Tests.{not-true, not-false}
 use lib.Dec.{T, ltb, lit≤}
 use lib.IntN.{ℤ, pos, negsuc, natAbs, _+ℤ_, _-ℤ_, _*ℤ_}
-use lib.Signed.{mag, natAbs-le, quotZ, ltZ, _<ℤ_}
+use lib.Signed.{mag, natAbs-le, quotZ, _<ℤ_}
 use mir.Syntax.{w32, w64}
 use mir.Val.{SFits, toZ, ofZ}
 use mir.ValLaws.{toZ-ofZ}
@@ -62,9 +61,6 @@ g-back {t} a l = record { same = toZ-ofZ w64 t (g-fits a l) ∙ a .same; bound =
 pub bits-pos : {x : ℤ} → pos 0 <ℤ x → 0 < ofZ w64 x
 bits-pos {x = pos n} h = omega (arith, of-lt h)
 bits-pos {x = negsuc n} h = absurd (h .lt)
-
-pub g-lt : {A B : ℕ} {t z s y : ℤ} {b : Bool} → Got A t z → Got B s y → ltZ t s ≡ b → ltZ z y ≡ b
-g-lt a b e = sym (ap₂ ltZ (a .same) (b .same)) ∙ e
 
 -- ---- expressions of the code, as data
 pub data X : Type 0 where
@@ -185,11 +181,6 @@ need ρ e t = g-fits (raw-got ρ e (fst (safe ρ e) (ltb (lim ρ e) (2 ^ 63)) t)
 -- the bits of a divisor are not 0
 pub divisor : (ρ : List Entry) (e : X) → T (safe ρ e) → pos 0 <ℤ ideal ρ e → 0 < ofZ w64 (raw ρ e)
 divisor ρ e t h = bits-pos (subst (λ (x : ℤ). pos 0 <ℤ x) (sym (raw-got ρ e t .same)) h)
-
--- a test of two, by its outcome
-pub lt-is : (ρ : List Entry) (a b : X) {o : Bool} → T (safe ρ a) → T (safe ρ b)
-    → ltZ (loc ρ a) (loc ρ b) ≡ o → ltZ (ideal ρ a) (ideal ρ b) ≡ o
-lt-is ρ a b s t e = g-lt (got ρ a s) (got ρ b t) e
 
 -- what a function said of a local, where the code goes on by its negation
 module _ (f : ℤ → Bool) {x : ℤ} {b : Bool} (h : SFits w64 x) (e : b ≡ f (toZ w64 (ofZ w64 x))) where

@@ -45,16 +45,6 @@ any-one (b ∷ bs) e = go b refl e (any-one bs)
     go true d e f = inl d
     go false d e f = inr (f e)
 
-pub one-any : (bs : List Bool) → One bs → any bs ≡ true
-unfolding any
-one-any [] h = absurd h
-one-any (b ∷ bs) (inl e) = rw e
-one-any (b ∷ bs) (inr h) = ⊎-true b (any bs) (one-any bs h)
-  where
-    ⊎-true : (a c : Bool) → c ≡ true → (a || c) ≡ true
-    ⊎-true true c e = refl
-    ⊎-true false c e = e
-
 -- no check of a list applies
 abbrev pub Clear : List Check → Type 0
 Clear [] = Unit {0}
