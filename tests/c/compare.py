@@ -68,18 +68,22 @@ def step_asked(call):
             + table("i", now) + table("i", bed) + table("H", friction))
 
 
+# The longest reach; the longest that is worked on short tables, and the next.
+LONG = {m.MOST_CELLS: ", longest reach", 64: ", 64 cells", 65: ", 65 cells"}
+
+
 def step_due(call):
     _, next_len, _, friction, *_ = call
     try:
         state, left, right = m.worked(*call)
     except m.Refused as r:
         return Due(r.number, "%d %s" % (r.number, r.check), MARK * (4 * next_len + 16))
-    way = "accepted" + (", longest reach" if len(friction) == m.MOST_CELLS else "")
+    way = "accepted" + LONG.get(len(friction), "")
     return Due(0, way, table("i", state) + table("q", (left, right)))
 
 
 STEP_WAYS = {
-    "accepted": 4, "accepted, longest reach": 5000,
+    "accepted": 4, "accepted, longest reach": 5000, "accepted, 64 cells": 1000, "accepted, 65 cells": 1000,
     "1 lengths": 100, "2 numbers": 100, "3 bed": 200, "4 friction": 200, "5 present state": 500,
     "6 friction speed": 100, "6 face speed, stage 1": 100, "6 inner-point speed, stage 1": 500,
     "7 faces, stage 1": 50, "8 stage one": 50,

@@ -340,7 +340,9 @@ def hard_call(rnd):
     n = rnd.choice((1, 1, 2, 2, 2, 3, 3, 3, 16, 16, rnd.randint(4, 12)))
     if rnd.randrange(400) == 0:
         n = m.MOST_CELLS
-    if rnd.randrange(4) < (3 if n == m.MOST_CELLS else 1):
+    elif rnd.randrange(100) == 0:
+        n = rnd.choice((64, 65))    # the longest reach on short tables, and the shortest on long ones
+    if rnd.randrange(4) < (3 if n > 16 else 1):
         bed, now = gentle(rnd, n)
     else:
         bed = beds(rnd, n)
