@@ -41,18 +41,16 @@ meant c =
     let s = c .before in
     rw (toZ-ofZ (s .fits .hl), toZ-ofZ (s .fits .ul), toZ-ofZ (s .fits .hr), toZ-ofZ (s .fits .ur)) at (c .face .ensures)
 
+-- the case of a flux binds its four numbers in turn, and each is told by itself
 returns : tie.Need-returns
 returns c =
-    let f = c .before .before .before in let s = f .before in let z = c .before .c .given in let t = c .known-told .given in
-    rw (
-      back {z = z .0 .0} (t .0 .1),
-      back {z = z .0 .1 .0} (t .1 .0 .1),
-      back {z = z .0 .1 .1 .0} (t .1 .1 .0 .1),
-      back {z = z .0 .1 .1 .1 .0} (t .1 .1 .1 .0 .1),
-    )
-    (subst (λ (p : Perhaps Flux). FaceTold p 0 (now (s .args .flux))
-    (set (set (set (set (now (s .args .flux)) 0 (z .0 .0)) 1 (z .0 .1 .0)) 2 (z .0 .1 .1 .0)) 3 (z .0 .1 .1 .1 .0)))
-    (sym (ap flux (z .1)) ∙ meant f) (face-flux (z .0 .0) (z .0 .1 .0) (z .0 .1 .1 .0) (z .0 .1 .1 .1 .0) (now (s .args .flux))))
+    let f = c .before .before .before in let old = now (f .before .args .flux) in let t = c .known-told .given in
+    let z = c .before .c .given in let after-m = z .0 .1 in let after-k = after-m .1 in let after-a = after-k .1 in
+    let m = z .0 .0 in let k = after-m .0 in let a = after-k .0 in let top = after-a .0 in
+    let told-k = t .1 in let told-a = told-k .1 in let told-top = told-a .1 in
+    rw (back {z = m} (t .0 .1), back {z = k} (told-k .0 .1), back {z = a} (told-a .0 .1), back {z = top} (told-top .0 .1))
+    (subst (λ (p : Perhaps Flux). FaceTold p 0 old (set (set (set (set old 0 m) 1 k) 2 a) 3 top))
+    (sym (ap flux (z .1)) ∙ meant f) (face-flux m k a top old))
 
 returns-2 : tie.Need-returns-2
 returns-2 c =
