@@ -9,9 +9,10 @@ use reach::size::size;
 use speeds::answer::Whole;
 ghost use mathlib.Core.Path.{_≡_};
 ghost use mathlib.Core.Bool.{_&&_};
-ghost use Rattle.whole.specs.Parts.{Within};
+ghost use Rattle.rules.specs.Limits.{deepest};
 ghost use Rattle.rules.specs.Face.{none, wave, mass, mixed, wet, alone, between, face};
 ghost use Rattle.rules.specs.Laws.Sizes.{Sound};
+ghost use Rattle.reach.specs.Ranges.{UpTo};
 ghost use Rattle.speeds.specs.Given.{given};
 ghost use Rattle.face.specs.Given.{side, faceGiven};
 ghost use Rattle.face.specs.Answers.{flux};
@@ -88,7 +89,7 @@ fn mixed(sl: i64, sr: i64, a: i64, b: i64, ul: i64, ur: i64) -> i64
 
 // K between the waves: a mean of the two squares, so that equal depths give their square again.
 fn pressure(sl: i64, sr: i64, hl: i64, hr: i64) -> i64
-    requires { ⌜ Apart sl sr × (Within 262144 hl × Within 262144 hr) ⌝ }
+    requires { ⌜ Apart sl sr × (UpTo deepest hl × UpTo deepest hr) ⌝ }
     ensures { λ r. ⌜ r ≡ pressureOf sl sr hl hr ⌝ }
 {
     (sr * (hl * hl) - sl * (hr * hr)) / (sr - sl)

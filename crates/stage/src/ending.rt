@@ -8,6 +8,7 @@ ghost use Prim.Native.Nat.{ℕ, _+_, _≤_};
 ghost use lib.ListN.{length};
 ghost use lib.IntN.{ℤ};
 ghost use Rattle.tables.specs.Cells.{seen};
+ghost use Rattle.rules.specs.Limits.{mostCells};
 ghost use Rattle.reach.specs.Told.{reachIn, callOn};
 ghost use Rattle.reach.specs.Ranges.{Numbers, Grounds};
 ghost use Rattle.stage.specs.Ranges.{Room, Smalls};
@@ -15,7 +16,7 @@ ghost use Rattle.stage.specs.Says.{EndSays};
 
 // The unfinished state u, finished, into b: 8 where that is out of range, else 0.
 pub fn end(u: &[Cell], bed: &[i32], reach: Reach, call: Call, b: &mut [Cell]) -> u32
-    requires { ⌜ (reach .n ≤ 1024) × (length (now bed) ≡ reach .n + 1) × Room reach (now u) × Room reach (now b) ⌝ }
+    requires { ⌜ (reach .n ≤ mostCells) × (length (now bed) ≡ reach .n + 1) × Room reach (now u) × Room reach (now b) ⌝ }
     requires { ⌜ Numbers reach call ⌝ }
     requires { ⌜ Grounds (now bed) (reach .n) × Smalls (reach .n) (seen (now u)) ⌝ }
     ensures { λ k. ⌜ ((ρ : ℕ → ℤ) →

@@ -7,6 +7,7 @@ ghost use Prim.Native.Nat.{_+_, _*_, _≤_, _<_};
 ghost use lib.ListN.{getD, length};
 ghost use lib.IntN.{pos};
 ghost use Rattle.tables.specs.Cells.{asList, cellAt};
+ghost use Rattle.rules.specs.Limits.{mostCells};
 ghost use Rattle.reach.specs.Ranges.{UpTo, widest, Wide};
 ghost use Rattle.stage.specs.Ranges.{Room};
 ghost use Rattle.stage.specs.Says.{LoadSays};
@@ -21,7 +22,7 @@ fn lent_number(s: &[i32], j: usize) -> i64
 
 // Cell i of a lent state.
 fn cell_of(s: &[i32], i: usize) -> Cell
-    requires { ⌜ (i < 1024) × (4 * i + 3 < length (now s)) ⌝ }
+    requires { ⌜ (i < mostCells) × (4 * i + 3 < length (now s)) ⌝ }
     ensures { λ r. ⌜ (r ≡ asList (cellAt (now (s .entry)) i)) × Wide (cellAt (now (s .entry)) i) ⌝ }
 {
     let at = 4 * i;
@@ -34,7 +35,7 @@ fn cell_of(s: &[i32], i: usize) -> Cell
 
 // The cells of a lent state, into t.
 pub fn load(state: &[i32], reach: Reach, t: &mut [Cell])
-    requires { ⌜ (reach .n ≤ 1024) × (length (now state) ≡ 4 * reach .n) × Room reach (now t) ⌝ }
+    requires { ⌜ (reach .n ≤ mostCells) × (length (now state) ≡ 4 * reach .n) × Room reach (now t) ⌝ }
     ensures { λ _. ⌜ LoadSays (reach .n) (now (state .entry)) (now (t .entry)) (now (t .exit)) ⌝ }
 {
     let n = reach.n;
