@@ -1,7 +1,9 @@
-"""Document 01's rules in plain whole numbers, to be compared with the library.
+"""The rules of document 01, as 02's requests amend them, in plain whole numbers, to be
+compared with the library.
 
 Exact integers throughout, in 01's order and with 01's letters.  It shares nothing
-with the library, so an answer that both give was worked twice.
+with the library, so an answer that both give was worked twice.  What a rule said
+before a request is in before.py.
 
 Public rules answer None where 01 refuses them "with no number".  `step` answers
 ("refused", number) or ("accepted", next, W0, Wn).  Labels such as S7 are those of
@@ -275,6 +277,15 @@ def marks(cells, jump):
     return marked
 
 
+def spared(cells, call):
+    """E2: a cell with mean depth at most the dry depth, and a cell next to one, "isn't limited".
+
+    "After the stage": the depths are those of the state being finished, as the marks are (R1).
+    """
+    dry = [depth_mean(cell, call.bed[i], call.bed[i + 1]) <= DRY for i, cell in enumerate(cells)]
+    return [any(dry[max(0, i - 1):i + 2]) for i in range(len(cells))]
+
+
 def minmod(*values):
     """ "the one nearest nought if all are above or all below nought, else 0" """
     if all(v > 0 for v in values):
@@ -285,7 +296,7 @@ def minmod(*values):
 
 
 def limited(cells, i):
-    """(2) Both slopes of a marked cell, from the unfinished stage only (S11, S12)."""
+    """(2) Both slopes of a marked cell that is not spared, from the unfinished stage only (S11, S12)."""
     def slope(own, mean):
         against = [own]
         if i + 1 < len(cells):
@@ -310,11 +321,11 @@ def dried(cell, zl, zr):
 
 
 def finished(cells, call):
-    marked = marks(cells, call.jump)
+    marked, kept = marks(cells, call.jump), spared(cells, call)
     done = []
     for i, cell in enumerate(cells):
         zl, zr = call.bed[i], call.bed[i + 1]
-        if marked[i]:
+        if marked[i] and not kept[i]:
             cell = limited(cells, i)
         done.append(dried(cut(cell, zl, zr), zl, zr))
     return done

@@ -7,9 +7,9 @@ use reach::limits::DRY_DEPTH;
 ghost use mathlib.Core.Path.{_≡_};
 ghost use mathlib.Core.Bool.{cond};
 ghost use lib.IntN.{pos};
-ghost use lib.Signed.{leZ};
 ghost use Rattle.tables.specs.Cells.{asCell, asList};
 ghost use Rattle.rules.specs.Limits.{dryDepth};
+ghost use Rattle.rules.specs.Reach.{shallow};
 ghost use Rattle.rules.specs.Finishing.{beyond, clipped, cut, dried};
 ghost use Rattle.reach.specs.Told.{bedIn};
 ghost use Rattle.reach.specs.Ranges.{UpTo, widest, Ground, Unfinished};
@@ -62,23 +62,21 @@ pub fn cut_cell(b: Bed, x: Cell) -> Cell
     [x[0], e1, x[2], q1]
 }
 
-// A discharge over a mean depth: none where it is dry.
-fn moving(mean: i64, q: i64) -> i64
-    ensures { λ r. ⌜ r ≡ cond (leZ mean dryDepth) (pos 0) q ⌝ }
+// Is the mean depth of a cell at most the dry depth? No slope is read, whose range a cut does not keep.
+pub fn is_shallow(b: Bed, x: Cell) -> bool
+    requires { ⌜ Ground (bedIn b) × UpTo widest (asCell x .e0) ⌝ }
+    ensures { λ r. ⌜ r ≡ shallow dryDepth (bedIn b) (asCell x) ⌝ }
 {
-    if mean <= DRY_DEPTH {
-        return 0;
-    }
-    q
+    x[0] - z0(b) <= DRY_DEPTH
 }
 
-// No discharge where it is dry. Drying reads no slope, whose range a cut does not keep.
+// No discharge where a cell is shallow.
 pub fn dried_cell(b: Bed, x: Cell) -> Cell
     requires { ⌜ Ground (bedIn b) × UpTo widest (asCell x .e0) ⌝ }
     ensures { λ r. ⌜ r ≡ asList (dried dryDepth (bedIn b) (asCell x)) ⌝ }
 {
-    let mean = x[0] - z0(b);
-    let q0 = moving(mean, x[2]);
-    let q1 = moving(mean, x[3]);
-    [x[0], x[1], q0, q1]
+    if is_shallow(b, x) {
+        return [x[0], x[1], 0, 0];
+    }
+    x
 }

@@ -1,8 +1,9 @@
-// Finishing: the marks, the limiter, the cut and the drying that end each stage. Every number read is
-// of the unfinished table, so that the order of the cells does not matter.
+// Finishing: the marks, the cells that are spared, the limiter, the cut and the drying that end each
+// stage. Every number read is of the unfinished table, so that the order of the cells does not matter.
 mod cell;
 mod limiter;
 mod range;
+mod spared;
 mod table;
 
 use crate::range::is_unfit;

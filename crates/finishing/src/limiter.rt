@@ -1,5 +1,6 @@
-// Marks and the limiter. Every mark and slope is read from the unfinished table. None depends on the
+// Marks and the limiter. Every mark and slope is read from the unfinished table. No mark depends on the
 // bed or the friction, so what is said of them holds for any.
+use crate::spared::is_spared;
 use reach::Call;
 use reach::Cell;
 use reach::Reach;
@@ -15,7 +16,7 @@ ghost use Rattle.rules.specs.Finishing as rules;
 ghost use Rattle.rules.specs.Refusals as refusals;
 ghost use Rattle.reach.specs.Told.{reachIn, callOn};
 ghost use Rattle.reach.specs.Ranges.{Wide};
-ghost use Rattle.finishing.specs.InTable.{InTable, Neighbours};
+ghost use Rattle.finishing.specs.InTable.{InTable, InReach, Neighbours};
 ghost use Rattle.finishing.specs.Column.{column};
 
 // The one nearest nought if both are above or both below nought, else 0.
@@ -107,26 +108,37 @@ fn with_left(u: &[Cell], reach: Reach, m: usize, i: usize, slope: i64) -> i64
     against(u, m, i - 1, slope)
 }
 
-// A slope of cell i, which is set against the means of the neighbours it has where the cell is marked.
-fn limited(u: &[Cell], reach: Reach, mark: bool, m: usize, i: usize, slope: i64) -> i64
+// A slope of cell i, which is set against the means of the neighbours it has where the cell is limited.
+fn limited(u: &[Cell], reach: Reach, limiting: bool, m: usize, i: usize, slope: i64) -> i64
     requires { ⌜ InTable (reach .n) (now u) i × (m < 4) ⌝ }
-    ensures { λ r. ⌜ ((bed : List ℤ) → r ≡ cond mark (rules.limited (reachIn reach bed) (column (now (u .entry)) m) i slope) slope) ⌝ }
+    ensures { λ r. ⌜ ((bed : List ℤ) → r ≡ cond limiting (rules.limited (reachIn reach bed) (column (now (u .entry)) m) i slope) slope) ⌝ }
 {
-    if !mark {
+    if !limiting {
         return slope;
     }
     with_left(u, reach, m, i, with_right(u, reach, m, i, slope))
 }
 
+// Is cell i limited: is it marked, and not spared?
+fn is_limited(u: &[Cell], bed: &[i32], reach: Reach, call: Call, i: usize) -> bool
+    requires { ⌜ InReach (reach .n) (now bed) (now u) i ⌝ }
+    ensures { λ r. ⌜ ((ρ : ℕ → ℤ) → r ≡ rules.isLimited (reachIn reach (now (bed .entry))) (callOn call ρ) (seen (now (u .entry))) i) ⌝ }
+{
+    if !marked(u, reach, call, i) {
+        return false;
+    }
+    !is_spared(u, bed, reach, i)
+}
+
 // Cell i after the limiter.
-pub fn limit(u: &[Cell], reach: Reach, call: Call, i: usize) -> Cell
-    requires { ⌜ InTable (reach .n) (now u) i ⌝ }
-    ensures { λ r. ⌜ ((bed : List ℤ) (ρ : ℕ → ℤ) →
-        r ≡ asList (rules.limit (reachIn reach bed) (callOn call ρ) (seen (now (u .entry))) i)) ⌝ }
+pub fn limit(u: &[Cell], bed: &[i32], reach: Reach, call: Call, i: usize) -> Cell
+    requires { ⌜ InReach (reach .n) (now bed) (now u) i ⌝ }
+    ensures { λ r. ⌜ ((ρ : ℕ → ℤ) →
+        r ≡ asList (rules.limit (reachIn reach (now (bed .entry))) (callOn call ρ) (seen (now (u .entry))) i)) ⌝ }
 {
     let x = u[i];
-    let mark = marked(u, reach, call, i);
-    let e1 = limited(u, reach, mark, 0, i, x[1]);
-    let q1 = limited(u, reach, mark, 2, i, x[3]);
+    let limiting = is_limited(u, bed, reach, call, i);
+    let e1 = limited(u, reach, limiting, 0, i, x[1]);
+    let q1 = limited(u, reach, limiting, 2, i, x[3]);
     [x[0], e1, x[2], q1]
 }

@@ -13,18 +13,17 @@ ghost use lib.ListN.{length};
 ghost use lib.IntN.{ℤ};
 ghost use Rattle.tables.specs.Rows.{Filled};
 ghost use Rattle.tables.specs.Cells.{seen};
-ghost use Rattle.reach.specs.Told.{bedAt};
-ghost use Rattle.reach.specs.Ranges.{Ground, AllUnfinished};
+ghost use Rattle.reach.specs.Ranges.{AllUnfinished};
 ghost use Rattle.finishing.specs.FinishedCell.{finishedCell};
-ghost use Rattle.finishing.specs.InTable.{InTable};
+ghost use Rattle.finishing.specs.InTable.{InReach};
 
 // Cell i, finished.
 fn finished(u: &[Cell], bed: &[i32], reach: Reach, call: Call, i: usize) -> Cell
-    requires { ⌜ InTable (reach .n) (now u) i × Ground (bedAt (now bed) i) ⌝ }
+    requires { ⌜ InReach (reach .n) (now bed) (now u) i ⌝ }
     ensures { λ r. ⌜ ((ρ : ℕ → ℤ) → r ≡ finishedCell reach call (now (bed .entry)) (now (u .entry)) ρ i) ⌝ }
 {
     let b = under(bed, i);
-    dried_cell(b, cut_cell(b, limit(u, reach, call, i)))
+    dried_cell(b, cut_cell(b, limit(u, bed, reach, call, i)))
 }
 
 // Every cell of u, finished, into t.

@@ -12,7 +12,7 @@ use lib.ListN.{length}
 use lib.IntN.{ℤ, _-ℤ_}
 use Rattle.tables.specs.Cells.{seen}
 use Rattle.rules.specs.Reach.{Reach, Call, State}
-use Rattle.rules.specs.Finishing.{parted, minmod, withLeft, marked}
+use Rattle.rules.specs.Finishing.{parted, marked, shallowAt, shallowLeft, minmod, withLeft}
 use Rattle.reach.specs.Ranges.{Wides}
 use Rattle.finishing.specs.InTable.{Neighbours}
 
@@ -52,3 +52,14 @@ module _ (r : Reach) (c : Call) (s : State) where
   unfolding marked
   marked-next zero f = absurd (f refl)
   marked-next (suc i) f = ap (λ (j : ℕ). parted r c s j || parted r c s (suc i)) (back-one i)
+
+module _ (d : ℤ) (r : Reach) (s : State) where
+  pub shallow-first : (i : ℕ) → i ≡ 0 → shallowLeft d r s i ≡ false
+  unfolding shallowLeft
+  shallow-first zero e = refl
+  shallow-first (suc i) e = let z : ⊥ = omega arith in absurd z
+
+  pub shallow-next : (i : ℕ) → (i ≡ 0 → ⊥) → shallowLeft d r s i ≡ shallowAt d r s (i - 1)
+  unfolding shallowLeft
+  shallow-next zero f = absurd (f refl)
+  shallow-next (suc i) f = ap (shallowAt d r s) (back-one i)

@@ -1,6 +1,6 @@
 -- What finishing keeps of a cell: a limited slope is no larger, and a cut one stays in range.
 -- Assumes nothing.
-use mathlib.Core.Bool.{cond, _&&_}
+use mathlib.Core.Bool.{Bool, cond, _&&_}
 use mathlib.Core.List.{List}
 use Prim.Native.Nat.{ℕ, zero, suc, _<_}
 use native.Mathlib.Omega.{arith}
@@ -15,7 +15,7 @@ use Rattle.whole.specs.Tests.{le-yes, le-no, lt-yes}
 use Rattle.tables.specs.Cells.{Cell, seen}
 use Rattle.rules.specs.Limits.{highestBed}
 use Rattle.rules.specs.Reach.{Reach, Call, State, Bed, z0, z1, h0, h1}
-use Rattle.rules.specs.Finishing.{minmod, withRight, withLeft, limited, marked, limit, clipped}
+use Rattle.rules.specs.Finishing.{minmod, withRight, withLeft, limited, isLimited, limit, clipped}
 use Rattle.reach.specs.Ranges.{UpTo, widest, Ground, Wide, Unfinished}
 use Rattle.finishing.specs.Column.{column}
 use Rattle.finishing.specs.Depths.{widestDepth}
@@ -60,18 +60,17 @@ pub limited-size : {A : ℕ} (r : Reach) (m : ℕ → ℤ) (i : ℕ) (x : ℤ) �
 unfolding limited
 limited-size r m i x w = with-left-size m i (withRight r m i x) (with-right-size r m i x w)
 
--- so a slope is no larger after the limiter, and a cell as wide
-pub marked-size : {A : ℕ} (r : Reach) (c : Call) (s : State) (i : ℕ) (m : ℕ → ℤ) (x : ℤ) → Within A x
-    → Within A (cond (marked r c s i) (limited r m i x) x)
-marked-size {A} r c s i m x w = cond-ind (marked r c s i) (limited r m i x) x (Within A) (λ e. limited-size r m i x w) (λ e. w)
+-- so a slope is no larger after the limiter, whether it was limited or not, and a cell as wide
+pub limited-or-not : {A : ℕ} (b : Bool) (r : Reach) (m : ℕ → ℤ) (i : ℕ) (x : ℤ) → Within A x → Within A (cond b (limited r m i x) x)
+limited-or-not {A} b r m i x w = cond-ind b (limited r m i x) x (Within A) (λ e. limited-size r m i x w) (λ e. w)
 
 pub limit-wide : (r : Reach) (c : Call) (s : State) (i : ℕ) → Wide (s i) → Wide (limit r c s i)
 unfolding limit
 limit-wide r c s i w = record {
   e0 = w .e0;
-  e1 = marked-size r c s i (λ j. s j .e0) (s i .e1) (w .e1);
+  e1 = limited-or-not (isLimited r c s i) r (λ j. s j .e0) i (s i .e1) (w .e1);
   q0 = w .q0;
-  q1 = marked-size r c s i (λ j. s j .q0) (s i .q1) (w .q1);
+  q1 = limited-or-not (isLimited r c s i) r (λ j. s j .q0) i (s i .q1) (w .q1);
 }
 
 -- ---- the mean and the slope of a bed, and of the depth of an unfinished cell over it

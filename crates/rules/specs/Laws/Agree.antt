@@ -1,7 +1,7 @@
 -- States that agree in the reach give one answer: the working tables hold no more than the n cells.
 -- Assumes nothing.
 use mathlib.Core.Path.{_≡_, refl, sym, _∙_, ap, ap₂, subst}
-use mathlib.Core.Bool.{false, cond, _||_}
+use mathlib.Core.Bool.{false, not, cond, _&&_, _||_}
 use mathlib.Core.List.{[], _∷_}
 use Prim.Native.Nat.{ℕ, zero, suc, _<_}
 use native.Mathlib.Omega.{arith}
@@ -13,9 +13,11 @@ use Rattle.whole.specs.Choice.{sizeZ}
 use Rattle.tables.specs.Some.{some, some-same}
 use Rattle.tables.specs.Cells.{Cell}
 use Rattle.rules.specs.Face.{Side, Flux}
-use Rattle.rules.specs.Reach.{Reach, Call, State, el, er, under, sideL, sideR}
+use Rattle.rules.specs.Reach.{Reach, Call, State, el, er, under, shallow, sideL, sideR}
 use Rattle.rules.specs.Stage.{leftEnd, rightEnd, atLeft, atRight, faceRight, faceAt, update, stage}
-use Rattle.rules.specs.Finishing.{parted, marked, minmod, withRight, withLeft, limited, limit, cut, dried, finish}
+use Rattle.rules.specs.Finishing.{
+  parted, marked, shallowAt, shallowLeft, shallowRight, spared, isLimited, minmod, withRight, withLeft, limited, limit, cut, dried, finish,
+}
 use Rattle.rules.specs.Refusals.{offCell, off, fastSide, fastFace, fastPoints, fastGauss, tooLong, chk, stageChecks}
 
 abbrev pub Same : Reach → State → State → Type 0
@@ -70,6 +72,23 @@ module _ (r : Reach) (c : Call) (s t : State) (e : Same r s t) where
   marked-same zero l = parted-same zero l
   marked-same (suc i) l = ap₂ _||_ (parted-same i (omega arith)) (parted-same (suc i) l)
 
+  shallow-same : (d : ℤ) (i : ℕ) → i < r .n → shallowAt d r s i ≡ shallowAt d r t i
+  shallow-same d i l = ap (shallow d (under r i)) (e i l)
+
+  shallowLeft-same : (d : ℤ) (i : ℕ) → i < r .n → shallowLeft d r s i ≡ shallowLeft d r t i
+  unfolding shallowLeft
+  shallowLeft-same d zero l = refl
+  shallowLeft-same d (suc i) l = shallow-same d i (omega arith)
+
+  shallowRight-same : (d : ℤ) (i : ℕ) → i < r .n → shallowRight d r s i ≡ shallowRight d r t i
+  unfolding shallowRight
+  shallowRight-same d i l = by (eqb (suc i) (r .n)) (λ k. rw k) (λ k. rw k (shallow-same d (suc i) (inside i (r .n) l k)))
+
+  isLimited-same : (i : ℕ) → i < r .n → isLimited r c s i ≡ isLimited r c t i
+  unfolding isLimited spared
+  isLimited-same i l = let d = c .dry in
+      λ k. marked-same i l k && not (shallow-same d i l k || shallowLeft-same d i l k || shallowRight-same d i l k)
+
   limited-same : (f : Cell → ℤ) (x : ℤ) (i : ℕ) → i < r .n → limited r (λ j. f (s j)) i x ≡ limited r (λ j. f (t j)) i x
   unfolding limited withLeft withRight
   limited-same f x i l = left (withRight r (λ j. f (s j)) i x) i l ∙ ap (withLeft (λ j. f (t j)) i) right
@@ -91,9 +110,9 @@ module _ (r : Reach) (c : Call) (s t : State) (e : Same r s t) where
       ∙ ap (λ (x : Cell). limited r (λ j. t j .q0) i (x .q1)) (e i l) in
       λ k. record {
         e0 = e i l k .e0;
-        e1 = cond (marked-same i l k) (a k) (e i l k .e1);
+        e1 = cond (isLimited-same i l k) (a k) (e i l k .e1);
         q0 = e i l k .q0;
-        q1 = cond (marked-same i l k) (b k) (e i l k .q1);
+        q1 = cond (isLimited-same i l k) (b k) (e i l k .q1);
       }
 
 pub finish-same : (r : Reach) (c : Call) (s t : State) → Same r s t → Same r (finish r c s) (finish r c t)

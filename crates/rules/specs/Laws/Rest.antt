@@ -23,7 +23,7 @@ use Rattle.rules.specs.Reach.{Reach, Call, State, el, er, ql, qr, Bed, u
 use Rattle.rules.specs.Reach.{hr, short, depthL, depthR, groundL, groundR, sideL, sideR}
 use Rattle.rules.specs.Stage.{outer, leftEnd, rightEnd, atLeft, atRight, faceRight, faceAt, volume, share}
 use Rattle.rules.specs.Stage.{depthBefore, depthBehind, carried, gauss, push, tilt, update, stage}
-use Rattle.rules.specs.Finishing.{parted, marked, limit, beyond, clipped, cut, dried, finish}
+use Rattle.rules.specs.Finishing.{parted, marked, isLimited, limit, beyond, clipped, cut, dried, finish}
 use Rattle.rules.specs.Friction.{drag, slowed}
 use Rattle.rules.specs.Step.{rub, rubbedCell, rubbed, stageOne, half, carry, joinedCell, joined, next}
 use Rattle.rules.specs.AtRest.{Dry, Flat, Calm, AtRest}
@@ -217,10 +217,14 @@ module _ (r : Reach) (ev : EvenBed r) (s : State) (a : AtRest r s) where
     unmarked j zero l = parted-none j zero l
     unmarked j (suc i) l = rw (parted-none j i (omega arith)) (parted-none j (suc i) l)
 
+    unlimited : pos 0 ≤ℤ c .jump → (i : ℕ) → i < r .n → isLimited r c s i ≡ false
+    unfolding isLimited
+    unlimited j i l = rw (unmarked j i l)
+
     pub finish-rest : pos 0 ≤ℤ c .jump → Same r (finish r c s) s
     unfolding finish dried cut limit clipped hl hr h1
     finish-rest j i l = let x = s i in let m = h0 (under r i) x in let d = h1 (under r i) x in let w = a .calm i l in
-        rw (unmarked j i l)
+        rw (unlimited j i l)
         (cell-is (dried (c .dry) (under r i) (cut (under r i) x)) x
         refl
         (rw (

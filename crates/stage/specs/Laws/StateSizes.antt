@@ -19,14 +19,14 @@ use Rattle.rules.specs.Limits.{dryDepth, deepest, fastest}
 use Rattle.rules.specs.Face.{speed}
 use Rattle.rules.specs.Reach.{Reach, Call, State, Bed, h0, h1, hl, hr, ql, qr, sideL, sideR}
 use Rattle.rules.specs.Stage.{carried, gauss, flowBefore, flowBehind, depthBefore, depthBehind, stage}
-use Rattle.rules.specs.Finishing.{limit, beyond, cut, dried}
+use Rattle.rules.specs.Finishing.{isLimited, limit, beyond, cut, dried}
 use Rattle.rules.specs.Step.{half, joinedCell}
 use Rattle.rules.specs.Refusals.{past, fastPoints}
 use Rattle.rules.specs.Laws.Positive.{depthL-is, depthR-is}
 use Rattle.rules.specs.Laws.Sizes.{Sound}
 use Rattle.reach.specs.Told.{bedAt}
 use Rattle.reach.specs.Ranges.{UpTo, widest, Ground, Wide}
-use Rattle.finishing.specs.Laws.Sizes.{marked-size, z0-size, z1-size, clip-size}
+use Rattle.finishing.specs.Laws.Sizes.{limited-or-not, z0-size, z1-size, clip-size}
 use Rattle.stage.specs.Rows.{sidesAt, fastSides, Sounds, volumeOf, joinAt}
 use Rattle.stage.specs.Ranges.{widestLevel, mostMomentum, Small, Smalls, Inside, Ranged, Row, FaceRows}
 use Rattle.stage.specs.Says.{StageDone, JoinSays}
@@ -107,8 +107,8 @@ pub finish-wide : (r : Reach) (c : Call) (s : State) (i : ℕ) (b : Bed) → Gro
 unfolding dried cut limit h0 h1
 finish-wide r c s i b g w =
     let y = limit r c s i in let m = h0 b y in let d = h1 b y in
-    let e1 : UpTo widestLevel (y .e1) = marked-size r c s i (λ j. s j .e0) (s i .e1) (w .e1) in
-    let q1 : UpTo widest (y .q1) = marked-size r c s i (λ j. s j .q0) (s i .q1) (w .q1) in
+    let e1 : UpTo widestLevel (y .e1) = limited-or-not (isLimited r c s i) r (λ j. s j .e0) i (s i .e1) (w .e1) in
+    let q1 : UpTo widest (y .q1) = limited-or-not (isLimited r c s i) r (λ j. s j .q0) i (s i .q1) (w .q1) in
     let mid = b-sub (w .e0) (z0-size b g) in let tilt = b-sub e1 (z1-size b g) in
     let nought : UpTo widest (pos 0) = b-up 70368744177664 (b-lit (pos 0)) tt in
     record {

@@ -11,7 +11,7 @@ use Rattle.finishing.proofs.limiter.limited.Statement.{statement}
 use Rattle.finishing.proofs.limiter.limited.Tie as tie
 
 returns : tie.Need-returns
-returns c = let s = c .before in λ bed. rw (not-true (s .args .mark) (c .if1 .taken)) (toZ-ofZ (s .fits .slope))
+returns c = let s = c .before in λ bed. rw (not-true (s .args .limiting) (c .if1 .taken)) (toZ-ofZ (s .fits .slope))
 
 with-right-requires : tie.Need-with-right-requires
 with-right-requires c κs = search needs
@@ -26,7 +26,7 @@ returns-2 c =
     let i = s .args .i in let mean = column (now (s .args .u)) (s .args .m) in
     λ bed. let slope = ap (withRight (reachIn (s .args .reach) bed) mean i) (toZ-ofZ (s .fits .slope)) in
     let right = back64 (r .with-right .ok) (r .with-right .ensures bed ∙ slope) in
-    rw (not-false (s .args .mark) (e .if1 .left)) (back64 (c .with-left .ok) (c .with-left .ensures ∙ ap (withLeft mean i) right))
+    rw (not-false (s .args .limiting) (e .if1 .left)) (back64 (c .with-left .ok) (c .with-left .ensures ∙ ap (withLeft mean i) right))
 
 pub limited-spec : {M : Type 1} → statement M
 limited-spec = tie.close (tie.spec returns with-right-requires with-left-requires returns-2)

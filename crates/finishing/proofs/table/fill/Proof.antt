@@ -23,8 +23,10 @@ loop-holds c = (omega arith, refl, λ ρ. filled-none [] (now (c .args .t)) _)
 
 finished-requires : tie.Need-finished-requires Inv-loop μ-loop
 finished-requires c κs =
-    let s = c .before .before in let i = c .before .loop .i in let below = c .loop-test .taken in
-    (record { below = below; room = s .pre .0 .0; wide = λ k h. s .pre .1 k h .wide }, s .pre .1 i below .ground)
+    let p = c .before .before .pre in record {
+      row = record { below = c .loop-test .taken; room = p .0 .0; wide = λ k h. p .1 k h .wide };
+      grounds = λ k h. p .1 k h .ground;
+    }
 
 mul-t10 : tie.Need-mul-t10 Inv-loop μ-loop
 mul-t10 c = search needs

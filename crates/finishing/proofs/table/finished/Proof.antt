@@ -22,14 +22,14 @@ limit-requires c κs = search needs
 
 -- the bed of the cell
 ground : (c : tie.After-under) → Ground (bedIn (c .under .result))
-ground c = subst Ground (sym (c .under .ensures)) (c .before .pre .1)
+ground c = let s = c .before in subst Ground (sym (c .under .ensures)) (s .pre .grounds (s .args .i) (s .pre .row .below))
 
 -- the cell as the limiter leaves it, of which any friction tells
 limit-in : (c : tie.After-limit) → Wide (asCell (c .limit .result))
 limit-in c =
-    let s = c .before .before in let t = s .pre .0 in let i = s .args .i in let z = now (s .args .bed) in
+    let s = c .before .before in let t = s .pre .row in let i = s .args .i in let z = now (s .args .bed) in
     let smooth : ℕ → ℤ = λ j. pos 0 in
-    subst (λ (l : List ℤ). Wide (asCell l)) (sym (c .limit .ensures z smooth))
+    subst (λ (l : List ℤ). Wide (asCell l)) (sym (c .limit .ensures smooth))
     (limit-wide (reachIn (s .args .reach) z) (callOn (s .args .call) smooth) (seen (now (s .args .u))) i (t .wide i (t .below)))
 
 cut-cell-requires : tie.Need-cut-cell-requires
@@ -44,10 +44,10 @@ dried-cell-requires c κs =
 returns : tie.Need-returns
 unfolding finish
 returns c =
-    let k = c .before in let l = k .before in let b = l .before in let z = now (b .before .args .bed) in
+    let k = c .before in let l = k .before in let b = l .before in
     λ ρ. c .dried-cell .ensures
     ∙ (λ x. asList (dried dryDepth (bedIn (b .under .result)) (asCell (k .cut-cell .ensures x))))
-    ∙ (λ x. asList (dried dryDepth (b .under .ensures x) (cut (b .under .ensures x) (asCell (l .limit .ensures z ρ x)))))
+    ∙ (λ x. asList (dried dryDepth (b .under .ensures x) (cut (b .under .ensures x) (asCell (l .limit .ensures ρ x)))))
 
 pub finished-spec : {M : Type 1} → statement M
 finished-spec = tie.close (tie.spec under-requires limit-requires cut-cell-requires dried-cell-requires returns)

@@ -1,0 +1,2 @@
+-- How the rules in force differ from those before.
+pub mod E2

@@ -1,0 +1,3 @@
+-- What rules said before requests amended them, by request; then how those in force differ.
+pub mod E2
+pub mod Laws
