@@ -8,17 +8,22 @@
 -- (`step-answer`, `step-table`): those of the rules' two stages. So what follows is said of that step, and of no other.
 -- Assumes nothing.
 use mathlib.Core.Path.{_≡_, refl, sym, _∙_, ap, ap₂, subst}
-use mathlib.Core.Bool.{Bool}
+use mathlib.Core.Bool.{Bool, true, false}
 use mathlib.Core.List.{List}
 use mathlib.Core.Logic.{_⊎_, inl, inr, ⊎-elim}
 use Prim.Native.Nat.{ℕ, _<_}
 use lib.ListN.{length}
 use lib.IntN.{ℤ, pos, _+ℤ_, _-ℤ_}
+use lib.Signed.{_<ℤ_}
 use lib.Ieee.{Float}
 use Rattle.rules.specs.Face.{Side}
 use Rattle.tables.specs.Cells.{cellAt, flat, flat-is, flat-cells}
 use Rattle.tables.specs.Rows.{row}
-use Rattle.rules.specs.Reach.{State}
+use Rattle.rules.specs.Reach.{Reach, Call, State, under, h0}
+use Rattle.rules.specs.Finishing.{spared, cut, dried, finish}
+use Rattle.rules.specs.Laws.Spared.{spared-finish}
+use Rattle.before.specs.E2 as before-E2
+use Rattle.before.specs.Laws.E2.{unspared-finish, deep-finish}
 use Rattle.rules.specs.Laws.Lengths.{unrefused}
 use Rattle.rules.specs.Step.{stageOne, next}
 use Rattle.rules.specs.Refusals.{checks, early, stageChecks}
@@ -117,6 +122,20 @@ accepted-clear l w v old new g = cleared (allChecks l) tt (sym (taken l w v old 
 pub accepted-rules : (l : Lent) (w v : ℤ) (old new : List ℤ) → Gives (stepOf l) (Accepted w v) old new
     → (new ≡ filled l) × (w ≡ crossed l 0) × (v ≡ crossed l (cellsOf l))
 accepted-rules l w v old new g = let t = taken l w v old new g in (t .table, t .left, t .right)
+
+-- ---- what E2 changed in the rules' finishing, which ends both stages
+-- a spared cell leaves it with the slopes it came with, but for the cut and the drying;
+pub spared-kept : (r : Reach) (c : Call) (s : State) (i : ℕ) → spared (c .dry) r s i ≡ true
+    → finish r c s i ≡ dried (c .dry) (under r i) (cut (under r i) (s i))
+spared-kept r c s i e = spared-finish r c s i e
+
+-- any other leaves it as before, and so do all cells where no mean depth of the unfinished state is at most the dry depth
+pub unspared-as-before : (r : Reach) (c : Call) (s : State) (i : ℕ) → spared (c .dry) r s i ≡ false → finish r c s i ≡ before-E2.finish r c s i
+unspared-as-before r c s i e = unspared-finish r c s i e
+
+pub deep-as-before : (r : Reach) (c : Call) (s : State) → ((i : ℕ) → i < r .n → c .dry <ℤ h0 (under r i) (s i))
+    → (i : ℕ) → i < r .n → finish r c s i ≡ before-E2.finish r c s i
+deep-as-before r c s d i l = deep-finish r c s d i l
 
 -- ---- demand 3, over any number of accepted calls on one bed with n cells of length dx
 module _ (bed : List ℤ) (n dx : ℕ) where

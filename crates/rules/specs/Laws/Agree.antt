@@ -15,9 +15,8 @@ use Rattle.tables.specs.Cells.{Cell}
 use Rattle.rules.specs.Face.{Side, Flux}
 use Rattle.rules.specs.Reach.{Reach, Call, State, el, er, under, shallow, sideL, sideR}
 use Rattle.rules.specs.Stage.{leftEnd, rightEnd, atLeft, atRight, faceRight, faceAt, update, stage}
-use Rattle.rules.specs.Finishing.{
-  parted, marked, shallowAt, shallowLeft, shallowRight, spared, isLimited, minmod, withRight, withLeft, limited, limit, cut, dried, finish,
-}
+use Rattle.rules.specs.Finishing.{parted, marked, shallowAt, shallowLeft, shallowRight, spared, isLimited}
+use Rattle.rules.specs.Finishing.{minmod, withRight, withLeft, limited, limit, cut, dried, finish}
 use Rattle.rules.specs.Refusals.{offCell, off, fastSide, fastFace, fastPoints, fastGauss, tooLong, chk, stageChecks}
 
 abbrev pub Same : Reach → State → State → Type 0
