@@ -22,18 +22,21 @@ from collections import Counter, namedtuple
 
 HERE = os.path.dirname(os.path.abspath(__file__))
 sys.path[:0] = [os.path.join(HERE, "..", "model"), os.path.join(HERE, "..", "reference")]
+import before
 import double_faces
 import hard
 import model as m
 import roots
+import variants
 
 MARK = b"\xa5"          # serve's, in every byte that a call may write
 PLACES = ("end", "start")
 BLOCK = 2000            # calls at a time, so that memory does not grow with their number
 SHOWN = 3               # wrong calls shown of a block
 
-# What is due: the library's number, the way it came about, and the tables that the call may write.
-Due = namedtuple("Due", "answer way tables")
+# What is due: the library's number, the way it came about, the tables that the call may write, and
+# a second way that is counted too.
+Due = namedtuple("Due", "answer way tables also", defaults=(None,))
 
 # `calls` draws calls from a seed, `asked` writes one for serve, `due` asks the model.  `ways` has
 # each way of answering with an n: it must come at least once in n calls.
@@ -69,17 +72,43 @@ def step_asked(call):
 
 
 # The longest reach; the longest that is worked on short tables, and the next.
-LONG = {m.MOST_CELLS: ", longest reach", 64: ", 64 cells", 65: ", 65 cells"}
+SHORT = 64
+LONG = {m.MOST_CELLS: ", longest reach", SHORT: ", 64 cells", SHORT + 1: ", 65 cells"}
+
+
+def worked(call):
+    """The model's number, then what it worked, or the check that refused the call."""
+    try:
+        return 0, m.worked(*call)
+    except m.Refused as r:
+        return r.number, r.check
+
+
+def worked_and_decided(call):
+    """What `worked` gives, and whether E2 decides it: whether it was another before."""
+    rule, sparing = m.spared, []
+
+    def spared(cells, reach):
+        kept = rule(cells, reach)
+        if any(kept):
+            sparing.append(any(a and b for a, b in zip(kept, m.marks(cells, reach.jump))))
+        return kept
+    with variants.replaced("spared", spared):
+        found = worked(call)
+    if not any(sparing):        # no marked cell was spared: the same before E2, and not worked again
+        return found, False
+    with before.E2():
+        return found, worked(call) != found
 
 
 def step_due(call):
     _, next_len, _, friction, *_ = call
-    try:
-        state, left, right = m.worked(*call)
-    except m.Refused as r:
-        return Due(r.number, "%d %s" % (r.number, r.check), MARK * (4 * next_len + 16))
-    way = "accepted" + LONG.get(len(friction), "")
-    return Due(0, way, table("i", state) + table("q", (left, right)))
+    (number, given), decided = worked_and_decided(call)
+    also = "decided by E2" + (", long tables" if len(friction) > SHORT else "") if decided else None
+    if number:
+        return Due(number, "%d %s" % (number, given), MARK * (4 * next_len + 16), also)
+    state, left, right = given
+    return Due(0, "accepted" + LONG.get(len(friction), ""), table("i", state) + table("q", (left, right)), also)
 
 
 STEP_WAYS = {
@@ -89,6 +118,7 @@ STEP_WAYS = {
     "7 faces, stage 1": 50, "8 stage one": 50,
     "6 face speed, stage 2": 100, "6 inner-point speed, stage 2": 200,
     "7 faces, stage 2": 50, "8 end state": 1000,
+    "decided by E2": 50, "decided by E2, long tables": 2500,
 }
 
 
@@ -217,7 +247,7 @@ def compare(kind, seed, count, command):
     for block in blocks(kind.calls(seed, count)):
         due = [kind.due(call) for call in block]
         answers.update(d.answer for d in due)
-        ways.update(d.way for d in due)
+        ways.update(way for d in due for way in (d.way, d.also) if way)
         for place in PLACES:
             wrong[place] += wrong_calls(kind, place, first, block, due, command)
         first += len(block)

@@ -1,4 +1,4 @@
-"""Document 01's table, its run cases and demand 3, tried on the model.
+"""Document 01's table, its run cases, demand 3 and what 02's requests say, tried on the model.
 
 Prints a line for each row or case and last 'N passed, M failed'; the exit status
 is 1 when something failed.
@@ -6,7 +6,9 @@ is 1 when something failed.
 
 import random
 import sys
+from collections import Counter
 
+import before
 import hard
 import model as m
 
@@ -84,6 +86,80 @@ def limits():
     case("limits: friction", [m.friction(*a) for a in ((160, 0, 5, 0, 1), (161, 0, 5, 0, 1), (161, 0, 4, 200, 1), (0, q + 1, 9, 0, 1),
                                                        (0, 0, 9, 201, 1), (0, 0, 9, 0, 0), (0, 0, 9, 0, 4097), (0, 0, h + 1, 0, 1))],
          [(0, 160, 0), None, (0, 161, 0)] + [None] * 5)
+
+
+# ---- E2: who is spared, and what becomes of the cells
+
+def spared_at(*depths):
+    """Which of some flat cells on a flat bed are spared: an s for one that is."""
+    n = len(depths)
+    kept = m.spared([m.Cell(h, 0, 0, 0) for h in depths], m.Call(n, [0] * (n + 1), [0] * n, 1, 1, 0, 0, 0))
+    return "".join("s" if k else "-" for k in kept)
+
+
+def mirrored(cells):
+    return [m.Cell(c.e0, -c.e1, -c.q0, c.q1) for c in reversed(cells)]
+
+
+def bank(depth, turned=False):
+    """Water that slopes down to a bank of some depth on its right, finished; or both turned round, and back."""
+    cells, bed = [m.Cell(1000, -20, 7, 3), m.Cell(1100 + depth, 202, 5, 1)], [400, 900, 1300]
+    if turned:
+        cells, bed = mirrored(cells), bed[::-1]
+    done = m.finished(cells, m.Call(2, bed, [0, 0], 1, 1, 0, 0, 0))
+    return [tuple(c) for c in (mirrored(done) if turned else done)]
+
+
+def sparing():
+    case("E2: a depth of 0, 4, 5", [spared_at(h) for h in (0, 4, 5)], ["s", "s", "-"])
+    case("E2: the cells beside it and no others", spared_at(5, 5, 5, 4, 5, 5, 5), "--sss--")
+    case("E2: at the ends", [spared_at(*h) for h in ((4, 5, 5), (5, 5, 4), (5, 4), (4, 5), (4, 5, 5, 4))],
+         ["ss-", "-ss", "ss", "ss", "ssss"])
+    # the ground is higher than the water, so the limiter flattens it; the bank's h1 is 2, which a depth of 1 cuts
+    wanted = [[(1000, -20, 7, 3), (1101, 201, 0, 0)],
+              [(1000, -20, 7, 3), (1104, 202, 0, 0)],
+              [(1000, 0, 7, 0), (1105, 195, 5, 0)]]
+    case("E2: a bank on the right, 1, 4, 5 deep", [bank(h) for h in (1, 4, 5)], wanted)
+    case("E2: a bank on the left, 1, 4, 5 deep", [bank(h, True) for h in (1, 4, 5)], wanted)
+
+
+def held(finished, seen):
+    """finished, counting the cells and states of each kind and those not as E2 says."""
+    def watch(cells, call):
+        done = finished(cells, call)
+        with before.E2():
+            old = finished(cells, call)
+        bed, marked = call.bed, m.marks(cells, call.jump)
+        depths = [cell.e0 - (bed[i] + bed[i + 1]) // 2 for i, cell in enumerate(cells)]
+        for i, cell in enumerate(cells):
+            if min(depths[max(0, i - 1):i + 2]) > 4:
+                seen["limited"] += marked[i]
+                seen["not as before"] += done[i] != old[i]
+            else:
+                seen["spared"] += marked[i]
+                seen["otherwise than before"] += done[i] != old[i]
+                seen["not kept"] += done[i] != m.dried(m.cut(cell, bed[i], bed[i + 1]), bed[i], bed[i + 1])
+        if min(depths) > 4:
+            seen["deep states"] += 1
+            seen["not as before"] += done != old
+        return done
+    return watch
+
+
+def sparing_holds(seed, count):
+    seen, plain = Counter(), m.finished
+    m.finished = held(plain, seen)
+    try:
+        for call in hard.calls(seed, count):
+            m.step(*call)
+    finally:
+        m.finished = plain
+    case("E2: %d marked cells by a shallow one keep their slopes but for the cut and the drying, %d otherwise than before"
+         % (seen["spared"], seen["otherwise than before"]), seen["not kept"], 0)
+    case("E2: %d other marked cells and %d states without a shallow cell are finished as before"
+         % (seen["limited"], seen["deep states"]), seen["not as before"], 0)
+    case("E2: both kinds came often",
+         min(seen["spared"], seen["otherwise than before"], seen["limited"], seen["deep states"]) >= count // 10, True)
 
 
 # ---- Demand 3 on random calls
@@ -210,6 +286,8 @@ def main():
     rows()
     runs()
     limits()
+    sparing()
+    sparing_holds(6, 1500)
     calls_hold(3, 3000)
     rest_holds(4, 800)
     runs_hold(5, 150)

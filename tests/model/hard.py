@@ -170,6 +170,27 @@ def gentle(rnd, n):
     return bed, now
 
 
+def shore(rnd, n):
+    """Water sloping evenly down to a bank, which is dry or about as deep as the dry depth."""
+    # the whole rise stays within what a cell may be deep, in the longest reach too
+    bed, rise = [2 * rnd.randrange(20000)], min(rnd.choice((0, 10, 100, 1000)), 100000 // n)
+    for _ in range(n):
+        bed.append(bed[-1] + 2 * rnd.randint(rise // 2, rise))
+    edge, fast = rnd.randint(1, n), rnd.choice((0, 60, 2000))
+    level, fall, now = bed[edge] + rnd.choice((2, 20, 60, 300)), rnd.choice((0, 1, 5, 20)), []
+    for i, (zl, zr) in enumerate(zip(bed, bed[1:])):
+        if i < edge:
+            h0, h1 = level + fall * (2 * (edge - i) - 1) - (zl + zr) // 2, -fall - (zr - zl) // 2
+        else:
+            h0 = rnd.choice((0, rnd.randint(m.DRY - 1, m.DRY + 2)))
+            h1 = rnd.randint(-h0, h0)
+        now.append(placed(zl, zr, *flowing(rnd, h0, h1, fast)))
+    if rnd.randrange(2):        # the bank on the left
+        bed.reverse()
+        now = [[e0, -e1, -q0, q1] for e0, e1, q0, q1 in reversed(now)]
+    return bed, [number for cell in now for number in cell]
+
+
 # ---- dx, dt and J, chosen against the state
 
 def greatest_S(now, bed, friction, dt, left, right):
@@ -343,7 +364,7 @@ def hard_call(rnd):
     elif rnd.randrange(100) == 0:
         n = rnd.choice((64, 65))    # the longest reach on short tables, and the shortest on long ones
     if rnd.randrange(4) < (3 if n > 16 else 1):
-        bed, now = gentle(rnd, n)
+        bed, now = rnd.choice((gentle, shore))(rnd, n)
     else:
         bed = beds(rnd, n)
         now = states(rnd, bed)

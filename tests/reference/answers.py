@@ -4,7 +4,8 @@
     python3 tests/reference/answers.py > crates/answers/stdout
 
 The check that gave each refusal goes to standard error. Where a name says that one refusal comes
-before another, both are looked for here, and it is an error if either does not apply.
+before another, both are looked for here, and it is an error if either does not apply. So it is where
+a case beside a bank is answered alike under a reading of E2 that it is to tell from the rule.
 """
 import contextlib
 import itertools
@@ -14,6 +15,7 @@ import sys
 
 sys.path.insert(0, os.path.join(os.path.dirname(os.path.abspath(__file__)), "..", "model"))
 import model
+import variants
 
 CASES = os.path.join(os.path.dirname(os.path.abspath(__file__)), "..", "..", "crates", "answers", "stdin")
 UNTOUCHED = -77
@@ -37,6 +39,23 @@ BOTH = {
     "point 6 before 7, two": ("inner-point speed, stage 2", "faces, stage 2"),
     "point 6 before 8, end": ("inner-point speed, stage 2", "end state"),
     "7 before 8, end": ("faces, stage 2", "end state"),
+}
+
+# the readings of E2 that a case tells from the rule
+TOLD = {
+    "bank on the right": ("none spared", "itself alone", "left and itself"),
+    "bank on the left": ("none spared", "itself alone", "right and itself"),
+    "left end by a bank": ("none spared", "left and itself", "not dried"),
+    "right end by a bank": ("none spared", "right and itself", "not dried"),
+    "spared and cut": ("none spared", "not cut"),
+    "bank 4 deep": ("none spared", "neighbours alone", "below the dry depth"),
+    "bank 5 deep": ("one over the dry depth",),
+    "bank 4, then 5 deep": ("none spared", "by stage one alone", "before the stage"),
+    "bank 5, then 4 deep": ("none spared", "by stage one alone", "before the stage"),
+    "thin at a face": ("by either face",),
+    "thin in the mean": ("none spared", "by both faces"),
+    "marked beside a spared": ("not marking", "two cells away"),
+    "1024 cells, half shallow": ("none spared", "itself alone"),
 }
 
 
@@ -129,6 +148,9 @@ def line(text):
         found = applying(now, bed, friction, *given)
         for check in wanted:
             assert check in found, (name, check, found)
+    if name in TOLD:
+        told = variants.otherwise_under((now, room, bed, friction, *given))
+        assert set(TOLD[name]) <= set(told), (name, TOLD[name], told)
     next_table = [UNTOUCHED] * shown
     said = answered(name, now, next_table, bed, friction, room, *given)
     if shown > MOST_SHOWN:
@@ -140,7 +162,10 @@ def line(text):
 def main():
     with open(CASES, encoding="ascii") as cases:
         names = [case(text)[0] for text in cases if not text.startswith("#")]
-        assert set(BOTH) <= set(names), set(BOTH) - set(names)
+        claimed = set(BOTH) | set(TOLD)
+        assert claimed <= set(names), claimed - set(names)
+        untold = set(variants.READINGS).difference(*TOLD.values())
+        assert not untold, untold
         cases.seek(0)
         for text in cases:
             if not text.startswith("#"):
