@@ -21,7 +21,7 @@ use Rattle.tables.specs.Cells.{cellAt, flat, flat-is, flat-cells}
 use Rattle.tables.specs.Rows.{row}
 use Rattle.rules.specs.Reach.{Reach, Call, State, under, h0}
 use Rattle.rules.specs.Finishing.{spared, cut, dried, finish}
-use Rattle.rules.specs.Laws.Spared.{spared-finish}
+use Rattle.rules.specs.Laws.Limiter.{spared-finish}
 use Rattle.before.specs.E2 as before-E2
 use Rattle.before.specs.Laws.E2.{unspared-finish, deep-finish}
 use Rattle.rules.specs.Laws.Lengths.{unrefused}

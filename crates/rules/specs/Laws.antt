@@ -14,6 +14,6 @@ pub mod Positive
 pub mod Balance
 pub mod EvenBed
 pub mod Rest
-pub mod Spared
+pub mod Limiter
 pub mod Runs
 pub mod Walls

@@ -83,10 +83,13 @@ module _ (r : Reach) (c : Call) (s t : State) (e : Same r s t) where
   unfolding shallowRight
   shallowRight-same d i l = by (eqb (suc i) (r .n)) (λ k. rw k) (λ k. rw k (shallow-same d (suc i) (inside i (r .n) l k)))
 
+  spared-same : (d : ℤ) (i : ℕ) → i < r .n → spared d r s i ≡ spared d r t i
+  unfolding spared
+  spared-same d i l = λ k. shallow-same d i l k || shallowLeft-same d i l k || shallowRight-same d i l k
+
   isLimited-same : (i : ℕ) → i < r .n → isLimited r c s i ≡ isLimited r c t i
-  unfolding isLimited spared
-  isLimited-same i l = let d = c .dry in
-      λ k. marked-same i l k && not (shallow-same d i l k || shallowLeft-same d i l k || shallowRight-same d i l k)
+  unfolding isLimited
+  isLimited-same i l = λ k. marked-same i l k && not (spared-same (c .dry) i l k)
 
   limited-same : (f : Cell → ℤ) (x : ℤ) (i : ℕ) → i < r .n → limited r (λ j. f (s j)) i x ≡ limited r (λ j. f (t j)) i x
   unfolding limited withLeft withRight
