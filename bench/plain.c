@@ -1,4 +1,4 @@
-/* The step as the scope document ("01") has it, written plainly in C to be timed beside the library.
+/* The step as the scope document ("01") and its amendments have it, written plainly in C to be timed beside the library.
  *
  * All numbers are worked in 64 bits, as unfinished slopes pass 32. C's "/" is 01's: it truncates
  * toward nought. It is built twice: in plain_root.c PROCESSOR_ROOT is defined, the wave speed takes
@@ -260,6 +260,24 @@ static bool jumps(const Reach *r, const Cell *left, const Cell *right)
     return llabs(left->e0 + left->e1 - (right->e0 - right->e1)) > r->jump;
 }
 
+static bool marked(const Reach *r, const Cell *unfinished, size_t i)
+{
+    return (i > 0 && jumps(r, &unfinished[i - 1], &unfinished[i])) ||
+           (i + 1 < r->n && jumps(r, &unfinished[i], &unfinished[i + 1]));
+}
+
+static bool shallow(const Reach *r, const Cell *unfinished, size_t i)
+{
+    return unfinished[i].e0 - bed_mean(r, i) <= DRY;
+}
+
+/* A shallow cell and those beside it are not limited: its level is only its bed. */
+static bool spared(const Reach *r, const Cell *unfinished, size_t i)
+{
+    return shallow(r, unfinished, i) || (i > 0 && shallow(r, unfinished, i - 1)) ||
+           (i + 1 < r->n && shallow(r, unfinished, i + 1));
+}
+
 /* Both slopes of a marked cell held against its neighbours' means; an end cell lacks one. */
 static void limit(const Reach *r, const Cell *unfinished, size_t i, Cell *c)
 {
@@ -277,8 +295,7 @@ static void finish(const Reach *r, const Cell *unfinished, Cell *cells)
 {
     for (size_t i = 0; i < r->n; i++) {
         Cell c = unfinished[i];
-        if ((i > 0 && jumps(r, &unfinished[i - 1], &unfinished[i])) ||
-            (i + 1 < r->n && jumps(r, &unfinished[i], &unfinished[i + 1])))
+        if (marked(r, unfinished, i) && !spared(r, unfinished, i))
             limit(r, unfinished, i, &c);
         int64_t h0 = c.e0 - bed_mean(r, i), z1 = bed_slope(r, i);
         int64_t e1 = z1 + greatest(-h0, least(h0, c.e1 - z1));

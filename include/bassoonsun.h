@@ -46,7 +46,8 @@ extern "C" {
  *   dx        length of a cell, 1 to 1048576 (256 m)
  *   dt        time step, 1 to 4096 (1 s): see HOW LONG A TIME STEP, below
  *   jump      J, 0 to 262144 (64 m): at a face where the levels of two cells differ by more than
- *             J, the slopes of both are limited
+ *             J, the slopes of both are limited; but those of a cell with a mean depth of at most
+ *             4, and of the cells beside one, stay
  *   left      kind of the left end: 0 a wall, 1 open (the water outside is as deep and as fast as
  *             that at the end face)
  *   right     kind of the right end, likewise
