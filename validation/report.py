@@ -10,6 +10,7 @@ import re
 import sys
 from pathlib import Path
 
+import bank
 import dam_break
 import lake
 import standing_wave
@@ -20,7 +21,7 @@ PAGE = DOCS / "VALIDATION.md"
 
 def made(command):
     tables, pictures = {}, {}
-    for case in (dam_break, lake, standing_wave):
+    for case in (dam_break, lake, bank, standing_wave):
         some_tables, some_pictures = case.report(command)
         tables.update(some_tables)
         pictures.update(some_pictures)
