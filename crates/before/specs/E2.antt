@@ -1,5 +1,4 @@
 -- Finishing before E2: a marked cell was limited whatever stood next to it. All else is as in the rules in force.
-use Prim.Native.Nat.{ℕ}
 use Rattle.rules.specs.Reach.{Reach, Call, State, under}
 use Rattle.rules.specs.Finishing.{marked, limitedIf, cut, dried}
 

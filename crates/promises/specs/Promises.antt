@@ -130,7 +130,8 @@ pub spared-kept : (r : Reach) (c : Call) (s : State) (i : ℕ) → spared (c .dr
 spared-kept r c s i e = spared-finish r c s i e
 
 -- any other leaves it as before, and so do all cells where no mean depth of the unfinished state is at most the dry depth
-pub unspared-as-before : (r : Reach) (c : Call) (s : State) (i : ℕ) → spared (c .dry) r s i ≡ false → finish r c s i ≡ before-E2.finish r c s i
+pub unspared-as-before : (r : Reach) (c : Call) (s : State) (i : ℕ) → spared (c .dry) r s i ≡ false
+    → finish r c s i ≡ before-E2.finish r c s i
 unspared-as-before r c s i e = unspared-finish r c s i e
 
 pub deep-as-before : (r : Reach) (c : Call) (s : State) → ((i : ℕ) → i < r .n → c .dry <ℤ h0 (under r i) (s i))

@@ -12,7 +12,8 @@ use Rattle.finishing.proofs.cell.dried_cell.Statement.{statement}
 use Rattle.finishing.proofs.cell.dried_cell.Tie as tie
 
 -- what the test says
-test : (c : tie.After-is-shallow) → let s = c .before in shallow dryDepth (bedIn (s .args .b)) (asCell (s .args .t2)) ≡ c .is-shallow .result
+test : (c : tie.After-is-shallow) → let s = c .before in
+    shallow dryDepth (bedIn (s .args .b)) (asCell (s .args .t2)) ≡ c .is-shallow .result
 test c = sym (c .is-shallow .ensures)
 
 returns : tie.Need-returns
