@@ -1,8 +1,8 @@
 // Answers of the step at the edges of its checks: the scope document's own cases, each refusal in each
-// of its places, and calls to which two refusals apply, where the first in order is the answer. A line
-// gives the answer, the volumes, and what `next` holds after the call: -77 where it is as it was. The
-// cases are in the file stdin, which says how to read them. What it must write comes from
-// tests/reference/answers.py.
+// of its places, calls to which two refusals apply, where the first in order is the answer, and water
+// beside a bank, where slopes are spared. A line gives the answer, the volumes, and what `next` holds
+// after the call: -77 where it is as it was. The cases are in the file stdin, which says how to read
+// them. What it must write comes from tests/reference/answers.py.
 mod read;
 mod show;
 
