@@ -47,7 +47,7 @@ extern "C" {
  *   dt        time step, 1 to 4096 (1 s): see HOW LONG A TIME STEP, below
  *   jump      J, 0 to 262144 (64 m): at a face where the levels of two cells differ by more than
  *             J, the slopes of both are limited; but those of a cell with a mean depth of at most
- *             4, and of the cells beside one, stay
+ *             4, and of the cells beside one, are only cut to keep face depths from falling below 0
  *   left      kind of the left end: 0 a wall, 1 open (the water outside is as deep and as fast as
  *             that at the end face)
  *   right     kind of the right end, likewise

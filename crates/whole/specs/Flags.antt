@@ -48,6 +48,10 @@ pub or-last : (b : Bool) → b ≡ (b || false)
 or-last true = refl
 or-last false = refl
 
+pub or-true : (b : Bool) → (b || true) ≡ true
+or-true true = refl
+or-true false = refl
+
 -- the same of `T`, where the test computes
 pub fst : (a b : Bool) → T (a && b) → T a
 fst true b t = tt

@@ -8,7 +8,7 @@ use borrow.Author.Tests.{ne-eqb}
 use lib.Dec.{eqb}
 use lib.IntN.{ℤ, _-ℤ_}
 use lib.Signed.{_≤ℤ_, _<ℤ_}
-use Rattle.whole.specs.Flags.{by}
+use Rattle.whole.specs.Flags.{by, or-true}
 use Rattle.whole.specs.Tests.{yes-le, no-le, yes-lt}
 use Rattle.whole.specs.Choice.{sizeZ}
 use Rattle.tables.specs.Cells.{Cell}
@@ -16,14 +16,14 @@ use Rattle.rules.specs.Reach.{Reach, Call, State, el, er, under, h0}
 use Rattle.rules.specs.Finishing.{parted, marked, shallowAt, shallowLeft, shallowRight, spared, isLimited, limit, cut, dried, finish}
 use Rattle.rules.specs.Laws.Agree.{inside}
 
-or-true : (b : Bool) → (b || true) ≡ true
-or-true b = by b (λ e. rw e) (λ e. rw e)
+not-last : (i n : ℕ) → suc i < n → eqb (suc i) n ≡ false
+not-last i n l = ne-eqb (suc i) n (λ e. let z : ⊥ = omega arith in z)
 
 -- ---- where the levels at an inner face differ by more than J both its cells are marked, spared or not
 module _ (r : Reach) (c : Call) (s : State) (i : ℕ) (l : suc i < r .n) (far : c .jump <ℤ sizeZ (el (s (suc i)) -ℤ er (s i))) where
   is-parted : parted r c s i ≡ true
   unfolding parted
-  is-parted = rw (ne-eqb (suc i) (r .n) (λ e. let z : ⊥ = omega arith in z), yes-lt (c .jump) (sizeZ (el (s (suc i)) -ℤ er (s i))) far)
+  is-parted = rw (not-last i (r .n) l, yes-lt (c .jump) (sizeZ (el (s (suc i)) -ℤ er (s i))) far)
 
   pub marks-right : marked r c s (suc i) ≡ true
   unfolding marked
@@ -61,9 +61,7 @@ module _ (d : ℤ) (r : Reach) (s : State) where
 
   pub spares-left : (i : ℕ) → suc i < r .n → Shallow (suc i) → spared d r s i ≡ true
   unfolding spared shallowRight
-  spares-left i l h =
-      rw (ne-eqb (suc i) (r .n) (λ e. let z : ⊥ = omega arith in z), is-shallow (suc i) h)
-      (or-true (shallowAt d r s i || shallowLeft d r s i))
+  spares-left i l h = rw (not-last i (r .n) l, is-shallow (suc i) h) (or-true (shallowAt d r s i || shallowLeft d r s i))
 
   -- and no other is
   none-left : (i : ℕ) → ((k : ℕ) → suc k ≡ i → Deep k) → shallowLeft d r s i ≡ false

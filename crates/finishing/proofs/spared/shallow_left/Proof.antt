@@ -1,7 +1,7 @@
 use mathlib.Core.Path.{sym, _∙_}
 use native.Mathlib.Omega.{arith}
 use borrow.Author.Needs.{needs}
-use Rattle.finishing.specs.Laws.Ends.{shallow-first, shallow-next}
+use Rattle.finishing.specs.Laws.Ends.{beside, shallow-first, shallow-next}
 use Rattle.finishing.proofs.spared.shallow_left.Statement.{statement}
 use Rattle.finishing.proofs.spared.shallow_left.Tie as tie
 
@@ -9,9 +9,7 @@ returns : tie.Need-returns
 returns c = sym (shallow-first _ _ _ (c .before .args .i) (c .if1 .taken))
 
 shallow-at-requires : tie.Need-shallow-at-requires
-shallow-at-requires c κs =
-    let p = c .before .pre in
-    record { row = record { below = omega arith; room = p .row .room; wide = p .row .wide }; grounds = p .grounds }
+shallow-at-requires c κs = beside _ (omega arith) (c .before .pre)
 
 returns-2 : tie.Need-returns-2
 returns-2 c = let e = c .before in c .shallow-at .ensures ∙ sym (shallow-next _ _ _ (e .before .args .i) (e .if1 .left))

@@ -7,7 +7,7 @@ use Rattle.tables.specs.Cells.{seen}
 use Rattle.rules.specs.Limits.{dryDepth}
 use Rattle.rules.specs.Finishing.{shallowAt, shallowRight}
 use Rattle.reach.specs.Told.{reachIn}
-use Rattle.finishing.specs.Laws.Ends.{is-last, not-last}
+use Rattle.finishing.specs.Laws.Ends.{is-last, not-last, beside}
 use Rattle.finishing.proofs.spared.shallow_right.Statement.{statement}
 use Rattle.finishing.proofs.spared.shallow_right.Tie as tie
 
@@ -16,9 +16,7 @@ unfolding shallowRight
 returns c = rw (is-last (c .before .before .args .i) (c .if1 .taken))
 
 shallow-at-requires : tie.Need-shallow-at-requires
-shallow-at-requires c κs =
-    let p = c .before .before .pre in
-    record { row = record { below = omega arith; room = p .row .room; wide = p .row .wide }; grounds = p .grounds }
+shallow-at-requires c κs = beside _ (omega arith) (c .before .before .pre)
 
 returns-2 : tie.Need-returns-2
 unfolding shallowRight
