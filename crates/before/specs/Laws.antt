@@ -1,2 +1,3 @@
 -- How the rules in force differ from those before.
 pub mod E2
+pub mod E3

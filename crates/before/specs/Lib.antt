@@ -1,3 +1,4 @@
 -- What rules said before requests amended them, by request; then how those in force differ.
 pub mod E2
+pub mod E3
 pub mod Laws

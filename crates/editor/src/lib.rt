@@ -22,18 +22,20 @@ pub extern "C" fn bassoonsun_step(
     dx: u32,
     dt: u32,
     jump: u32,
+    dry: u32,
     left: u32,
     right: u32,
     volumes: &mut [i64; 2],
 ) -> u32
     ensures { λ r. ⌜ StepTold
-        (stepOf (lend (now (state .entry)) (length (now (next .entry))) (now (bed .entry)) (now (friction .entry)) dx dt jump left right))
+        (stepOf (lend (now (state .entry)) (length (now (next .entry))) (now (bed .entry)) (now (friction .entry)) dx dt jump dry left right))
         r (now (next .entry)) (now (next .exit)) (now (volumes .entry)) (now (volumes .exit)) ⌝ }
 {
     let call = Given {
         dx,
         dt,
         jump,
+        dry,
         left,
         right,
     };

@@ -9,7 +9,7 @@ use Rattle.tables.specs.Some.{some}
 use Rattle.tables.specs.Cells.{Cell, seen}
 use Rattle.rules.specs.Limits.{mostCells, highestBed, largestJump}
 use Rattle.rules.specs.Reach.{Bed}
-use Rattle.rules.specs.Refusals.{any, outside, past}
+use Rattle.rules.specs.Refusals.{any, outside, past, badDry}
 use Rattle.reach.specs.declared.Reach.{Reach}
 use Rattle.reach.specs.declared.Call.{Call}
 use Rattle.reach.specs.Told.{bedAt}
@@ -25,7 +25,7 @@ tooLarge b x =
     any (eitherPast highestBed (b .zl) (b .zr) ∷ eitherPast widest (x .e0) (x .e1) ∷ eitherPast widest (x .q0) (x .q1) ∷ [])
 
 -- what hinders finishing: u, or the table with that much room, has fewer than n cells; there are too many; they do not fit their bed;
--- the jump is outside its list; or a number is too large
+-- the jump or the dry depth is outside its list; or a number is too large
 abbrev pub hindrances : Reach → Call → List ℤ → List (List ℤ) → ℕ → List Bool
 hindrances r c bed u room =
     ltb (length u) (r .n)
@@ -33,6 +33,7 @@ hindrances r c bed u room =
     ∷ ltb mostCells (r .n)
     ∷ not (eqb (length bed) (r .n + 1))
     ∷ outside (pos 0) largestJump (c .jump)
+    ∷ badDry (c .dry)
     ∷ some (λ i. tooLarge (bedAt bed i) (seen u i)) (r .n)
     ∷ []
 

@@ -3,12 +3,10 @@ use reach::Cell;
 use reach::bed::Bed;
 use reach::bed::z0;
 use reach::bed::z1;
-use reach::limits::DRY_DEPTH;
 ghost use mathlib.Core.Path.{_≡_};
 ghost use mathlib.Core.Bool.{cond};
 ghost use lib.IntN.{pos};
 ghost use Rattle.tables.specs.Cells.{asCell, asList};
-ghost use Rattle.rules.specs.Limits.{dryDepth};
 ghost use Rattle.rules.specs.Reach.{shallow};
 ghost use Rattle.rules.specs.Finishing.{beyond, clipped, cut, dried};
 ghost use Rattle.reach.specs.Told.{bedIn};
@@ -63,19 +61,19 @@ pub fn cut_cell(b: Bed, x: Cell) -> Cell
 }
 
 // Is the mean depth of a cell at most the dry depth? No slope is read, whose range a cut does not keep.
-pub fn is_shallow(b: Bed, x: Cell) -> bool
+pub fn is_shallow(b: Bed, x: Cell, dry: i64) -> bool
     requires { ⌜ Ground (bedIn b) × UpTo widest (asCell x .e0) ⌝ }
-    ensures { λ r. ⌜ r ≡ shallow dryDepth (bedIn b) (asCell x) ⌝ }
+    ensures { λ r. ⌜ r ≡ shallow dry (bedIn b) (asCell x) ⌝ }
 {
-    x[0] - z0(b) <= DRY_DEPTH
+    x[0] - z0(b) <= dry
 }
 
 // No discharge where a cell is shallow.
-pub fn dried_cell(b: Bed, x: Cell) -> Cell
+pub fn dried_cell(b: Bed, x: Cell, dry: i64) -> Cell
     requires { ⌜ Ground (bedIn b) × UpTo widest (asCell x .e0) ⌝ }
-    ensures { λ r. ⌜ r ≡ asList (dried dryDepth (bedIn b) (asCell x)) ⌝ }
+    ensures { λ r. ⌜ r ≡ asList (dried dry (bedIn b) (asCell x)) ⌝ }
 {
-    if is_shallow(b, x) {
+    if is_shallow(b, x, dry) {
         return [x[0], x[1], 0, 0];
     }
     x

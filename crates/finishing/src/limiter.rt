@@ -127,7 +127,7 @@ fn is_limited(u: &[Cell], bed: &[i32], reach: Reach, call: Call, i: usize) -> bo
     if !marked(u, reach, call, i) {
         return false;
     }
-    !is_spared(u, bed, reach, i)
+    !is_spared(u, bed, reach, call, i)
 }
 
 // Cell i after the limiter.

@@ -7,6 +7,7 @@ use reach::bed::under;
 use reach::limits::CELLS;
 use reach::limits::HIGHEST_BED;
 use reach::limits::LARGEST_JUMP;
+use reach::limits::bad_dry;
 use reach::limits::outside;
 use reach::limits::past;
 ghost use mathlib.Core.Path.{_≡_};
@@ -55,7 +56,7 @@ fn large_table(u: &[Cell], bed: &[i32], n: usize) -> bool
     false
 }
 
-// Can the table not be finished: the lengths, the jump, or a number in it?
+// Can the table not be finished: the lengths, the jump, the dry depth, or a number in it?
 pub fn is_unfit(u: &[Cell], bed: &[i32], reach: Reach, call: Call, room: usize) -> bool
     ensures { λ r. ⌜ r ≡ unfit reach call (now (bed .entry)) (now (u .entry)) room ⌝ }
 {
@@ -73,6 +74,9 @@ pub fn is_unfit(u: &[Cell], bed: &[i32], reach: Reach, call: Call, room: usize) 
         return true;
     }
     if outside(0, LARGEST_JUMP, call.jump) {
+        return true;
+    }
+    if bad_dry(call.dry) {
         return true;
     }
     large_table(u, bed, n)

@@ -23,7 +23,7 @@ fn finished(u: &[Cell], bed: &[i32], reach: Reach, call: Call, i: usize) -> Cell
     ensures { λ r. ⌜ ((ρ : ℕ → ℤ) → r ≡ finishedCell reach call (now (bed .entry)) (now (u .entry)) ρ i) ⌝ }
 {
     let b = under(bed, i);
-    dried_cell(b, cut_cell(b, limit(u, bed, reach, call, i)))
+    dried_cell(b, cut_cell(b, limit(u, bed, reach, call, i)), call.dry)
 }
 
 // Every cell of u, finished, into t.

@@ -13,14 +13,15 @@ use lib.IntN.{ℤ, pos, _+ℤ_}
 use lib.Signed.{_≤ℤ_}
 use Rattle.whole.specs.Flags.{by, held, clash}
 use Rattle.tables.specs.Rows.{row}
-use Rattle.tables.specs.Cells.{cellAt, flat, length-flat, cellAt-flat}
+use Rattle.tables.specs.Cells.{Cell, cellAt, flat, length-flat, cellAt-flat}
 use Rattle.rules.specs.Face.{face}
 use Rattle.rules.specs.Reach.{Reach, Call, State, under, z0, z1, h0, h1, hl, hr}
-use Rattle.rules.specs.Step.{carry, next}
+use Rattle.rules.specs.Step.{carry, joined, next}
 use Rattle.rules.specs.Refusals.{Check, chk, verdict, checks, refusal}
 use Rattle.rules.specs.Lent.{Lent, reachOf, callOf, stateOf, cellsOf, misfits, number, filled, crossed, Outcome, refused, accepted, stepOf}
 use Rattle.rules.specs.AtRest.{Dry, Flat, AtRest}
 use Rattle.rules.specs.Laws.Agree.{Same}
+use Rattle.rules.specs.Laws.DryDepth.{finished-still}
 use Rattle.rules.specs.Laws.Lengths.{fitted, first-number, later-number, fits, unrefused}
 use Rattle.rules.specs.Laws.Positive.{Nonneg, Wet}
 use Rattle.rules.specs.Laws.Balance as balance
@@ -156,6 +157,16 @@ module _ (bed : List ℤ) (n dx : ℕ) (s : State) where
     large = subst (TooLarge (under (reachAt bed n dx) (k .place))) (sym (cellAt-flat n s (k .place) (k .below))) (k .large);
   }
 
+-- a table that an accepted call wrote has no discharge in a cell no deeper than its dry depth
+pub written-still : (l : Lent) {new : List ℤ} → new ≡ filled l → (i : ℕ) → i < cellsOf l → meanDepth (l .bed) new i ≤ℤ pos (l .dry)
+    → (at new (4 * i + 2) ≡ pos 0) × (at new (4 * i + 3) ≡ pos 0)
+unfolding filled next meanDepth meanBed h0 z0
+written-still l {new} e i m d =
+    let r = reachOf l in let c = callOf l in let s = stateOf l in
+    let is : cellAt new i ≡ next r c s i = ap (λ (t : List ℤ). cellAt t i) e ∙ cellAt-flat (cellsOf l) (next r c s) i m in
+    let still = finished-still r c (joined r c s) i (subst (λ (x : Cell). h0 (under r i) x ≤ℤ c .dry) is d) in
+    (ap (λ (x : Cell). x .q0) is ∙ still .0, ap (λ (x : Cell). x .q1) is ∙ still .1)
+
 -- ---- an accepted call as a step of the rules
 pub record One (bed : List ℤ) (n dx : ℕ) (c : Call) (s m : List ℤ) (w v : ℤ) : Type 0 where
   pub some : 0 < n
@@ -169,7 +180,7 @@ pub record One (bed : List ℤ) (n dx : ℕ) (c : Call) (s m : List ℤ) (w v : 
 module _ {bed : List ℤ} {n dx : ℕ} {s : List ℤ} {a : Answer} {old m : List ℤ} (c : Called bed n dx s a old m) where
   -- what was lent to a call, and what it may change
   abbrev pub lent : Lent
-  lent = lend s (length old) bed (c .friction) dx (c .dt) (c .jump) (c .left) (c .right)
+  lent = lend s (length old) bed (c .friction) dx (c .dt) (c .jump) (c .dry) (c .left) (c .right)
 
   abbrev pub call : Call
   call = callOf lent

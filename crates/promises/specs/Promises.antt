@@ -11,10 +11,10 @@ use mathlib.Core.Path.{_≡_, refl, sym, _∙_, ap, ap₂, subst}
 use mathlib.Core.Bool.{Bool, true, false}
 use mathlib.Core.List.{List}
 use mathlib.Core.Logic.{_⊎_, inl, inr, ⊎-elim}
-use Prim.Native.Nat.{ℕ, _<_}
+use Prim.Native.Nat.{ℕ, _+_, _*_, _<_}
 use lib.ListN.{length}
 use lib.IntN.{ℤ, pos, _+ℤ_, _-ℤ_}
-use lib.Signed.{_<ℤ_}
+use lib.Signed.{_≤ℤ_, _<ℤ_}
 use lib.Ieee.{Float}
 use Rattle.rules.specs.Face.{Side}
 use Rattle.tables.specs.Cells.{cellAt, flat, flat-is, flat-cells}
@@ -24,6 +24,8 @@ use Rattle.rules.specs.Finishing.{spared, cut, dried, finish}
 use Rattle.rules.specs.Laws.Limiter.{spared-finish}
 use Rattle.before.specs.E2 as before-E2
 use Rattle.before.specs.Laws.E2.{unspared-finish, deep-finish}
+use Rattle.before.specs.E3 as before-E3
+use Rattle.before.specs.Laws.E3.{given, given-four}
 use Rattle.rules.specs.Laws.Lengths.{unrefused}
 use Rattle.rules.specs.Step.{stageOne, next}
 use Rattle.rules.specs.Refusals.{checks, early, stageChecks}
@@ -56,11 +58,11 @@ use Rattle.stage.specs.declared.worked.Worked.{Worked}
 use Rattle.step.specs.Gives.{Gives, one-answer, one-table}
 use Rattle.step.specs.declared.Answer.{Answer}
 use Rattle.step.specs.declared.Answer.the-variants.{Refused, Accepted}
-use Rattle.promises.specs.Seen.{NoneBelow, Excess, stageTable, water, Lake, Called, Calls, none, more}
+use Rattle.promises.specs.Seen.{at, meanDepth, NoneBelow, Excess, stageTable, water, Lake, Called, Calls, none, more}
 use Rattle.promises.specs.First.{FirstMet, first-verdict, verdict-first, first-listed}
 use Rattle.promises.specs.Outcomes.{allChecks, number-is, refuses-with, refused-number, refused-some}
 use Rattle.promises.specs.Outcomes.{refused-table, refused-later, taken, reachAt, lent, call, one, none-below}
-use Rattle.promises.specs.Outcomes.{none-below-table, excess-table, wet, water-is, at-rest, run}
+use Rattle.promises.specs.Outcomes.{none-below-table, excess-table, wet, water-is, at-rest, written-still, run}
 
 -- ---- demand 1: one answer, one content of the table
 pub step-answer : (l : Lent) {a b : Answer} {old new new′ : List ℤ} → Gives (stepOf l) a old new → Gives (stepOf l) b old new′ → a ≡ b
@@ -78,8 +80,8 @@ pub finish-one : (reach : ToldReach) (call : ToldCall) (bed : List ℤ) (u : Lis
     → FinishSays reach call bed u a old new → FinishSays reach call bed u b old new′ → (a ≡ b) × (new ≡ new′)
 finish-one reach call bed u a b old new new′ p q = one-finish reach call bed u a b old new new′ p q
 
-pub speed-one : (q h : ℤ) (a b : Whole) → valueOf a ≡ speedGiven q h → valueOf b ≡ speedGiven q h → a ≡ b
-speed-one q h a b x y = speed-unique q h a b x y
+pub speed-one : (q h d : ℤ) (a b : Whole) → valueOf a ≡ speedGiven q h d → valueOf b ≡ speedGiven q h d → a ≡ b
+speed-one q h d a b x y = speed-unique q h d a b x y
 
 pub wave-one : (h : ℤ) (a b : Whole) → valueOf a ≡ waveGiven h → valueOf b ≡ waveGiven h → a ≡ b
 wave-one h a b x y = wave-unique h a b x y
@@ -138,7 +140,17 @@ pub deep-as-before : (r : Reach) (c : Call) (s : State) → ((i : ℕ) → i < r
     → (i : ℕ) → i < r .n → finish r c s i ≡ before-E2.finish r c s i
 deep-as-before r c s d i l = deep-finish r c s d i l
 
--- ---- demand 3, over any number of accepted calls on one bed with n cells of length dx
+-- ---- what E3 changed: the dry depth is each call's own
+-- given 4, a call is answered as before, when it gave none: the same number, or the same table and volumes
+pub four-as-before : (l : before-E3.Lent) → stepOf (given 4 l) ≡ before-E3.stepOf l
+four-as-before l = given-four l
+
+-- whichever it is, what an accepted call writes has no discharge where it is no deeper
+pub shallow-still : (l : Lent) (w v : ℤ) (old new : List ℤ) → Gives (stepOf l) (Accepted w v) old new → (i : ℕ) → i < cellsOf l
+    → meanDepth (l .bed) new i ≤ℤ pos (l .dry) → (at new (4 * i + 2) ≡ pos 0) × (at new (4 * i + 3) ≡ pos 0)
+shallow-still l w v old new g i m d = written-still l (taken l w v old new g .table) i m d
+
+-- ---- demand 3, over any number of accepted calls on one bed with n cells of length dx; all else that they are given may differ
 module _ (bed : List ℤ) (n dx : ℕ) where
   -- the water balances with what the ends bring and take, to the unit
   pub water-balances : {s t : List ℤ} {a b : ℤ} → Calls bed n dx s t a b → water bed t n ≡ water bed s n +ℤ a -ℤ b

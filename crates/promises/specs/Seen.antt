@@ -70,17 +70,20 @@ pub record Lake (bed t : List ℤ) (n : ℕ) : Type 0 where
   pub level : (i : ℕ) → suc i < n → (at t (4 * i) +ℤ at t (4 * i + 1)) ≡ (at t (4 * suc i) -ℤ at t (4 * suc i + 1))
 
 -- ---- calls
--- one call on a bed with n cells of length dx: what was lent and given besides, and that the answer and the table are the contract's
+-- one call on a bed with n cells of length dx: what was lent and given besides, its own dry depth too, and that the answer and the table
+-- are the contract's
 pub record Called (bed : List ℤ) (n dx : ℕ) (now : List ℤ) (a : Answer) (old new : List ℤ) : Type 0 where
   pub friction : List ℕ
   pub cells : length friction ≡ n
   pub dt : ℕ
   pub jump : ℕ
+  pub dry : ℕ
   pub left : ℕ
   pub right : ℕ
-  pub gave : Gives (stepOf (lend now (length old) bed friction dx dt jump left right)) a old new
+  pub gave : Gives (stepOf (lend now (length old) bed friction dx dt jump dry left right)) a old new
 
--- any number of accepted calls, each lent what the one before wrote; a and b: the sums of W at face 0 and at face n
+-- any number of accepted calls, each lent what the one before wrote, and with a friction, a time step, a jump, a dry depth and ends of its
+-- own; a and b: the sums of W at face 0 and at face n
 pub data Calls (bed : List ℤ) (n dx : ℕ) : List ℤ → List ℤ → ℤ → ℤ → Type 0 where
   none : (t : List ℤ) → Calls bed n dx t t (pos 0) (pos 0)
   more : (s m t old : List ℤ) (w v a b : ℤ) → Called bed n dx s (Accepted w v) old m → Calls bed n dx m t a b

@@ -5,7 +5,7 @@ use lib.IntN.{ℤ, pos, natAbs}
 use lib.Signed.{_≤ℤ_, _<ℤ_}
 use Rattle.whole.specs.Parts.{Within}
 use Rattle.tables.specs.Cells.{Cell}
-use Rattle.rules.specs.Limits.{highestBed, longestCell, longestStep, largestJump}
+use Rattle.rules.specs.Limits.{highestBed, longestCell, longestStep, largestJump, leastDry, mostDry}
 use Rattle.rules.specs.Reach.{State, Bed}
 use Rattle.reach.specs.declared.Reach.{Reach}
 use Rattle.reach.specs.declared.Call.{Call}
@@ -19,6 +19,11 @@ UpTo most x = Within (natAbs most) x
 abbrev pub widest : ℤ
 widest = pos 70368744177664
 
+-- a dry depth in its list
+pub record Dry (d : ℤ) : Type 0 where
+  pub least : leastDry ≤ℤ d
+  pub most : d ≤ℤ mostDry
+
 -- the numbers of a call that passed check 2
 pub record Numbers (r : Reach) (c : Call) : Type 0 where
   pub dx-pos : pos 0 <ℤ r .dx
@@ -27,6 +32,7 @@ pub record Numbers (r : Reach) (c : Call) : Type 0 where
   pub dt-in : UpTo longestStep (c .dt)
   pub jump-pos : pos 0 ≤ℤ c .jump
   pub jump-in : UpTo largestJump (c .jump)
+  pub dry : Dry (c .dry)
 
 -- a bed that passed check 3, and the beds of n cells
 pub record Ground (b : Bed) : Type 0 where

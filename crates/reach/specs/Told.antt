@@ -3,7 +3,6 @@ use mathlib.Core.List.{List}
 use Prim.Native.Nat.{ℕ, suc}
 use lib.ListN.{getD}
 use lib.IntN.{ℤ, pos}
-use Rattle.rules.specs.Limits.{dryDepth}
 use Rattle.rules.specs.Face.{face}
 use Rattle.rules.specs.Reach as rules
 use Rattle.reach.specs.declared.Reach.{Reach}
@@ -16,7 +15,7 @@ reachIn r bed = record { n = r .n; dx = r .dx; bed = λ i. getD bed i (pos 0); f
 
 -- the call, with the friction ρ of each cell
 abbrev pub callOn : Call → (ℕ → ℤ) → rules.Call
-callOn c ρ = record { dt = c .dt; jump = c .jump; dry = dryDepth; rough = ρ; left = c .left; right = c .right }
+callOn c ρ = record { dt = c .dt; jump = c .jump; dry = c .dry; rough = ρ; left = c .left; right = c .right }
 
 -- the bed of a cell; and the bed under cell i, of the lent table
 abbrev pub bedIn : Bed → rules.Bed

@@ -14,10 +14,12 @@ pub struct Reach {
     pub dx: i64,
 }
 
-// What may differ: the time step, the jump, and the kinds of the two ends, 0 a wall or 1 open.
+// What may differ: the time step, the jump, the dry depth, and the kinds of the two ends, 0 a wall or
+// 1 open.
 pub struct Call {
     pub dt: i64,
     pub jump: i64,
+    pub dry: i64,
     pub left: u32,
     pub right: u32,
 }
@@ -27,6 +29,7 @@ pub struct Given {
     pub dx: u32,
     pub dt: u32,
     pub jump: u32,
+    pub dry: u32,
     pub left: u32,
     pub right: u32,
 }

@@ -27,14 +27,23 @@ pub const FULLEST: i64 = 8388608;
 
 pub const FASTEST: i64 = 131072;
 
-// At or below this depth water does not move.
-pub const DRY_DEPTH: i64 = 4;
+// The dry depth, at or below which water does not move, from about 0.2 mm to about 16 mm.
+pub const LEAST_DRY: i64 = 1;
+
+pub const MOST_DRY: i64 = 64;
 
 // Is x outside the list that starts at low and ends with high?
 pub fn outside(low: i64, high: i64, x: i64) -> bool
     ensures { λ r. ⌜ r ≡ rules.outside low high x ⌝ }
 {
     x < low || high < x
+}
+
+// Is a dry depth outside its list?
+pub fn bad_dry(dry: i64) -> bool
+    ensures { λ r. ⌜ r ≡ rules.badDry dry ⌝ }
+{
+    outside(LEAST_DRY, MOST_DRY, dry)
 }
 
 // Is x past a limit, either way? The size of an x below nought is one more than -1 - x, which always

@@ -15,5 +15,6 @@ pub mod Balance
 pub mod EvenBed
 pub mod Rest
 pub mod Limiter
+pub mod DryDepth
 pub mod Runs
 pub mod Walls

@@ -7,12 +7,13 @@ use lib.IntN.{ℤ, pos}
 use lib.Signed.{_≤ℤ_}
 use Rattle.whole.specs.Parts.{Within}
 use Rattle.whole.specs.Choice.{within-past, not-beyond}
-use Rattle.rules.specs.Limits.{deepest, fullest, dryDepth}
+use Rattle.rules.specs.Limits.{leastDry, mostDry, deepest, fullest}
 use Rattle.rules.specs.Face.{speed, wave}
 use Rattle.rules.specs.Friction.{cube}
-use Rattle.rules.specs.Refusals.{outside, past}
+use Rattle.rules.specs.Refusals.{outside, past, badDry}
+use Rattle.reach.specs.Ranges.{Dry}
 use Rattle.rules.specs.Laws.Inside.{above-least, below-most, not-outside}
-use Rattle.speeds.specs.Given.{given, refused, depthFits, dischargeFits, speedGiven, waveGiven, cubeGiven}
+use Rattle.speeds.specs.Given.{given, refused, depthFits, dischargeFits, dryFits, speedGiven, waveGiven, cubeGiven}
 use Rattle.speeds.specs.Answers.{valueOf, same, never}
 use Rattle.speeds.specs.declared.answer.Whole.{Whole}
 use Rattle.speeds.specs.declared.answer.Whole.the-variants as whole
@@ -26,6 +27,11 @@ pub discharge-in : (q : ℤ) → dischargeFits q ≡ true → Within 8388608 q
 unfolding dischargeFits
 discharge-in q e = within-past 8388608 q (not-true (past fullest q) e)
 
+pub dry-in : (d : ℤ) → dryFits d ≡ true → Dry d
+unfolding dryFits
+dry-in d e =
+    let f = not-true (badDry d) e in record { least = above-least leastDry mostDry d f; most = below-most leastDry mostDry d f }
+
 -- ---- to the tests
 pub in-depth : (h : ℤ) → pos 0 ≤ℤ h → h ≤ℤ deepest → depthFits h ≡ true
 unfolding depthFits
@@ -35,10 +41,14 @@ pub in-discharge : (q : ℤ) → Within 8388608 q → dischargeFits q ≡ true
 unfolding dischargeFits
 in-discharge q w = ap not (not-beyond 8388608 q w)
 
+pub in-dry : (d : ℤ) → Dry d → dryFits d ≡ true
+unfolding dryFits
+in-dry d i = ap not (not-outside leastDry mostDry d (i .least) (i .most))
+
 -- ---- so within the limits
-pub speed-given : (q h : ℤ) → Within 8388608 q → pos 0 ≤ℤ h → h ≤ℤ deepest → speedGiven q h ≡ given (speed dryDepth q h)
+pub speed-given : (q h d : ℤ) → Within 8388608 q → pos 0 ≤ℤ h → h ≤ℤ deepest → Dry d → speedGiven q h d ≡ given (speed d q h)
 unfolding speedGiven
-speed-given q h w a b = rw (in-discharge q w, in-depth h a b)
+speed-given q h d w a b i = rw (in-discharge q w, in-depth h a b, in-dry d i)
 
 pub cube-given : (h : ℤ) → pos 0 ≤ℤ h → h ≤ℤ deepest → cubeGiven h ≡ given (cube h)
 unfolding cubeGiven

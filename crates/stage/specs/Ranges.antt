@@ -7,7 +7,7 @@ use lib.ListN.{length, getD}
 use lib.IntN.{ℤ, pos, _+ℤ_, _-ℤ_}
 use lib.Signed.{_≤ℤ_}
 use Rattle.tables.specs.Cells.{Cell}
-use Rattle.rules.specs.Limits.{mostCells, highestBed, deepest, fullest, dryDepth}
+use Rattle.rules.specs.Limits.{mostCells, highestBed, deepest, fullest}
 use Rattle.rules.specs.Reach as rules
 use Rattle.rules.specs.Refusals.{offCell, fastCell}
 use Rattle.reach.specs.declared.Reach.{Reach}
@@ -28,13 +28,13 @@ steepestLevel = pos 1179648
 abbrev pub widestLevel : ℤ
 widestLevel = pos 2199023255552
 
--- the largest speed of a discharge over water that is not dry, of which some are refused
+-- the largest speed of a discharge over water that is not dry, and so 2 deep, of which some are refused
 abbrev pub thinFastest : ℤ
-thinFastest = pos 6871947673
+thinFastest = pos 17179869184
 
 -- how strongly friction can act
 abbrev pub strongest : ℤ
-strongest = pos 10786209068
+strongest = pos 21438427962
 
 -- what crosses a face
 abbrev pub mostMass : ℤ
@@ -100,13 +100,13 @@ pub record Small (x : Cell) : Type 0 where
 abbrev pub Smalls : ℕ → rules.State → Type 0
 Smalls n s = (i : ℕ) → i < n → Small (s i)
 
--- what friction asks of a cell: its value in its list, and its speed checked
-pub record Slow (f : ℕ) (b : rules.Bed) (x : Cell) : Type 0 where
+-- what friction asks of a cell: its value in its list, and its speed checked at the dry depth
+pub record Slow (dry : ℤ) (f : ℕ) (b : rules.Bed) (x : Cell) : Type 0 where
   pub rough : f ≤ 200
-  pub speed : fastCell dryDepth b x ≡ false
+  pub speed : fastCell dry b x ≡ false
 
-abbrev pub Slows : List ℕ → List ℤ → ℕ → rules.State → Type 0
-Slows friction bed n s = (i : ℕ) → i < n → Slow (getD friction i 0) (bedAt bed i) (s i)
+abbrev pub Slows : ℤ → List ℕ → List ℤ → ℕ → rules.State → Type 0
+Slows dry friction bed n s = (i : ℕ) → i < n → Slow dry (getD friction i 0) (bedAt bed i) (s i)
 
 -- two places of a cell, one on each side of its middle: the depths m - d and m + d, and the discharges p - q and p + q
 pub record Around (m d p q : ℤ) : Type 0 where

@@ -7,7 +7,6 @@ use lib.ListN.{getD}
 use lib.IntN.{ℤ, pos, _+ℤ_, _-ℤ_, _*ℤ_}
 use lib.Signed.{quotZ, ltZ}
 use Rattle.tables.specs.Cells.{Cell}
-use Rattle.rules.specs.Limits.{dryDepth}
 use Rattle.rules.specs.Face.{speed, face}
 use Rattle.rules.specs.Face as rules
 use Rattle.rules.specs.Reach.{State, Bed, short, h0, h1, sideL, sideR}
@@ -35,9 +34,9 @@ leftOf l = record { h = getD l 0 (pos 0); u = getD l 1 (pos 0) }
 abbrev pub rightOf : List ℤ → rules.Side
 rightOf l = record { h = getD l 2 (pos 0); u = getD l 3 (pos 0) }
 
--- the side at a face whose level lies h over the bed, with the discharge q
-abbrev pub sideBy : ℤ → ℤ → rules.Side
-sideBy h q = record { h = h +ℤ short h; u = speed dryDepth q (h +ℤ short h) }
+-- at the dry depth dry, the side at a face whose level lies h over the bed, with the discharge q
+abbrev pub sideBy : ℤ → ℤ → ℤ → rules.Side
+sideBy dry h q = record { h = h +ℤ short h; u = speed dry q (h +ℤ short h) }
 
 -- those of cell i, of a table of rows
 abbrev pub leftIn : List (List ℤ) → ℕ → rules.Side
@@ -50,28 +49,27 @@ rightIn d i = rightOf (getD d i [])
 abbrev pub Sounds : List (List ℤ) → ℕ → Type 0
 Sounds d n = (i : ℕ) → i < n → Sound (leftIn d i) × Sound (rightIn d i)
 
-unfoldable pub sidesAt : List ℤ → State → ℕ → List ℤ
-sidesAt bed s i = sideRow (sideL dryDepth (bedAt bed i) (s i)) (sideR dryDepth (bedAt bed i) (s i))
+unfoldable pub sidesAt : ℤ → List ℤ → State → ℕ → List ℤ
+sidesAt dry bed s i = sideRow (sideL dry (bedAt bed i) (s i)) (sideR dry (bedAt bed i) (s i))
 
 -- a cell with a side that is too fast
-unfoldable pub fastSides : List ℤ → State → ℕ → Bool
-fastSides bed s i = fastSide (sideL dryDepth (bedAt bed i) (s i)) || fastSide (sideR dryDepth (bedAt bed i) (s i))
+unfoldable pub fastSides : ℤ → List ℤ → State → ℕ → Bool
+fastSides dry bed s i = fastSide (sideL dry (bedAt bed i) (s i)) || fastSide (sideR dry (bedAt bed i) (s i))
 
 -- ---- Gauss points: their two speeds, and g1 + g2
 -- by the depth and the discharge before the middle, and those behind it
-abbrev pub pointsBy : ℤ → ℤ → ℤ → ℤ → List ℤ
-pointsBy h q h′ q′ = speed dryDepth q h ∷ speed dryDepth q′ h′ ∷ (carried dryDepth q h +ℤ carried dryDepth q′ h′) ∷ []
+abbrev pub pointsBy : ℤ → ℤ → ℤ → ℤ → ℤ → List ℤ
+pointsBy dry h q h′ q′ = speed dry q h ∷ speed dry q′ h′ ∷ (carried dry q h +ℤ carried dry q′ h′) ∷ []
 
-unfoldable pub pointRow : Bed → Cell → List ℤ
-pointRow b x =
-    speed dryDepth (flowBefore x) (depthBefore b x) ∷ speed dryDepth (flowBehind x) (depthBehind b x) ∷ gauss dryDepth b x ∷ []
+unfoldable pub pointRow : ℤ → Bed → Cell → List ℤ
+pointRow dry b x = speed dry (flowBefore x) (depthBefore b x) ∷ speed dry (flowBehind x) (depthBehind b x) ∷ gauss dry b x ∷ []
 
 -- those of cell i
-abbrev pub fastPointsAt : List ℤ → State → ℕ → Bool
-fastPointsAt bed s i = fastPoints dryDepth (bedAt bed i) (s i)
+abbrev pub fastPointsAt : ℤ → List ℤ → State → ℕ → Bool
+fastPointsAt dry bed s i = fastPoints dry (bedAt bed i) (s i)
 
-abbrev pub momentumAt : List ℤ → State → ℕ → ℤ
-momentumAt bed s i = gauss dryDepth (bedAt bed i) (s i)
+abbrev pub momentumAt : ℤ → List ℤ → State → ℕ → ℤ
+momentumAt dry bed s i = gauss dry (bedAt bed i) (s i)
 
 -- ---- faces: mass, pressure, advection and top speed; then the row that is kept, with the volume
 abbrev pub fluxIn : Flux → rules.Flux
@@ -155,4 +153,4 @@ joinAt a u f h i = joinedCell (a i) (u i) (volumeAt f h i) (volumeAt f h (suc i)
 
 -- cell i of s after friction
 abbrev pub rubbedAt : Call → List ℕ → List ℤ → State → ℕ → Cell
-rubbedAt c friction bed s i = rubbedCell (c .dt) dryDepth (pos (getD friction i 0)) (bedAt bed i) (s i)
+rubbedAt c friction bed s i = rubbedCell (c .dt) (c .dry) (pos (getD friction i 0)) (bedAt bed i) (s i)

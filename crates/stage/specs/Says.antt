@@ -7,7 +7,6 @@ use lib.IntN.{ℤ, pos}
 use Rattle.tables.specs.Some.{some}
 use Rattle.tables.specs.Rows.{Written, Filled}
 use Rattle.tables.specs.Cells.{asList, cellAt, seen, Holds}
-use Rattle.rules.specs.Limits.{dryDepth}
 use Rattle.rules.specs.Reach.{Reach, Call, State}
 use Rattle.rules.specs.Stage.{faceAt, stage}
 use Rattle.rules.specs.Finishing.{finish}
@@ -21,13 +20,13 @@ use Rattle.reach.specs.Ranges.{Wides}
 use Rattle.stage.specs.Ranges.{Smalls, Ranged, FaceRows}
 use Rattle.stage.specs.Rows.{faceRow, joinAt}
 
--- checks 3 to 5 and the friction speeds
-abbrev pub readyChecks : ℕ → List ℤ → List ℕ → State → List Check
-readyChecks n bed friction s =
+-- checks 3 to 5 and the friction speeds, at a dry depth
+abbrev pub readyChecks : ℤ → ℕ → List ℤ → List ℕ → State → List Check
+readyChecks dry n bed friction s =
     chk 3 (some (λ i. badBed (getD bed i (pos 0))) (suc n))
     ∷ chk 4 (some (λ i. badRough (pos (getD friction i 0))) n)
     ∷ chk 5 (some (λ i. offCell (bedAt bed i) (s i)) n)
-    ∷ chk 6 (some (λ i. fastCell dryDepth (bedAt bed i) (s i)) n)
+    ∷ chk 6 (some (λ i. fastCell dry (bedAt bed i) (s i)) n)
     ∷ []
 
 -- a stage's checks with the range of t, to which it is finished

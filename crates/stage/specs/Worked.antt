@@ -46,7 +46,7 @@ Says r c s k (Done w v) old new = Went r c s k w v new
 abbrev pub TablesSay : ToldReach → ToldCall → List ℤ → List ℕ → List ℤ → Worked → List ℤ → List ℤ → Type 0
 TablesSay reach call bed friction state w old new =
     let r : Reach = reachIn reach bed in let c : Call = callOn call (λ i. pos (getD friction i 0)) in let s : State = cellAt state in
-    Says r c s (verdict (readyChecks (reach .n) bed friction s ++ bothChecks r c s)) w old new
+    Says r c s (verdict (readyChecks (call .dry) (reach .n) bed friction s ++ bothChecks r c s)) w old new
 
 -- what is lent and given
 abbrev pub lentBy : List ℤ → ℕ → List ℤ → List ℕ → Given → Lent
@@ -58,6 +58,7 @@ lentBy state room bed friction g = record {
   dx = g .dx;
   dt = g .dt;
   jump = g .jump;
+  dry = g .dry;
   left = g .left;
   right = g .right;
 }

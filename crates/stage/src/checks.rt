@@ -15,6 +15,7 @@ use reach::limits::LARGEST_JUMP;
 use reach::limits::LONGEST_CELL;
 use reach::limits::LONGEST_STEP;
 use reach::limits::ROUGHEST;
+use reach::limits::bad_dry;
 use reach::limits::outside;
 use reach::limits::past;
 ghost use mathlib.Core.Path.{_≡_};
@@ -24,11 +25,10 @@ ghost use lib.ListN.{getD, length};
 ghost use lib.IntN.{ℤ, pos};
 ghost use Rattle.tables.specs.Some.{some};
 ghost use Rattle.tables.specs.Cells.{asCell, seen};
-ghost use Rattle.rules.specs.Limits.{dryDepth};
 ghost use Rattle.rules.specs.Refusals.{badCall, badBed, badRough, offCell, fastCell};
 ghost use Rattle.rules.specs.Lent.{misfit};
 ghost use Rattle.reach.specs.Told.{reachIn, callOn, bedIn, bedAt};
-ghost use Rattle.reach.specs.Ranges.{AllUnfinished};
+ghost use Rattle.reach.specs.Ranges.{Dry, AllUnfinished};
 ghost use Rattle.stage.specs.Ranges.{Room, Inside, Ranged};
 
 // 1: do the tables not fit the n cells?
@@ -64,6 +64,9 @@ pub fn bad_numbers(reach: Reach, call: Call) -> bool
         return true;
     }
     if outside(0, LARGEST_JUMP, call.jump) {
+        return true;
+    }
+    if bad_dry(call.dry) {
         return true;
     }
     if 1 < call.left {
@@ -129,24 +132,26 @@ pub fn off(t: &[Cell], bed: &[i32], reach: Reach) -> bool
 }
 
 // Is the speed of a cell's mean discharge too large? A dry cell has none.
-fn fast_cell(b: Bed, x: Cell) -> bool
+fn fast_cell(b: Bed, x: Cell, dry: i64) -> bool
     requires { ⌜ Inside (bedIn b) (asCell x) ⌝ }
-    ensures { λ r. ⌜ r ≡ fastCell dryDepth (bedIn b) (asCell x) ⌝ }
+    requires { ⌜ Dry dry ⌝ }
+    ensures { λ r. ⌜ r ≡ fastCell dry (bedIn b) (asCell x) ⌝ }
 {
     let h = depths(b, x);
-    past(FASTEST, speed_of(x[2], h[0]))
+    past(FASTEST, speed_of(x[2], h[0], dry))
 }
 
 // 6, of friction: is some cell too fast? Checked also where friction is 0.
-pub fn fast(t: &[Cell], bed: &[i32], reach: Reach) -> bool
+pub fn fast(t: &[Cell], bed: &[i32], reach: Reach, call: Call) -> bool
     requires { ⌜ Room reach (now t) ⌝ }
     requires { ⌜ Ranged (now bed) (reach .n) (seen (now t)) ⌝ }
-    ensures { λ r. ⌜ r ≡ some (λ i. fastCell dryDepth (bedAt (now (bed .entry)) i) (seen (now (t .entry)) i)) (reach .n) ⌝ }
+    requires { ⌜ Dry (call .dry) ⌝ }
+    ensures { λ r. ⌜ r ≡ some (λ i. fastCell (call .dry) (bedAt (now (bed .entry)) i) (seen (now (t .entry)) i)) (reach .n) ⌝ }
 {
     let n = reach.n;
     let mut i: usize = 0;
     while i < n {
-        if fast_cell(under(bed, i), t[i]) {
+        if fast_cell(under(bed, i), t[i], call.dry) {
             return true;
         }
         i += 1;

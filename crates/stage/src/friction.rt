@@ -7,7 +7,6 @@ use reach::Cell;
 use reach::Reach;
 use reach::bed::Bed;
 use reach::bed::under;
-use reach::limits::DRY_DEPTH;
 use reach::size::size;
 use speeds::answer::Whole;
 ghost use mathlib.Core.Path.{_≡_};
@@ -18,13 +17,13 @@ ghost use lib.IntN.{pos};
 ghost use lib.Signed.{_≤ℤ_, _<ℤ_};
 ghost use Rattle.tables.specs.Rows.{Filled};
 ghost use Rattle.tables.specs.Cells.{asCell, asList, seen};
-ghost use Rattle.rules.specs.Limits.{dryDepth, deepest, fullest, fastest, roughest, longestStep};
+ghost use Rattle.rules.specs.Limits.{leastDry, deepest, fullest, fastest, roughest, longestStep};
 ghost use Rattle.rules.specs.Face.{speed};
 ghost use Rattle.rules.specs.Friction.{cube, drag, slowed};
 ghost use Rattle.rules.specs.Step.{rubbedCell};
 ghost use Rattle.rules.specs.Refusals.{past, fastCell};
 ghost use Rattle.reach.specs.Told.{bedIn};
-ghost use Rattle.reach.specs.Ranges.{UpTo, Numbers};
+ghost use Rattle.reach.specs.Ranges.{UpTo, Dry, Numbers};
 ghost use Rattle.stage.specs.Rows.{rubbedAt};
 ghost use Rattle.stage.specs.Ranges.{Room, Inside, Ranged, Slows, strongest};
 
@@ -44,7 +43,7 @@ fn cube_of(h: i64) -> i64
 fn drag_of(call: Call, f: i64, h: i64, u: i64) -> i64
     requires { ⌜ (pos 0 ≤ℤ call .dt) × UpTo longestStep (call .dt) ⌝ }
     requires { ⌜ (pos 0 ≤ℤ f) × UpTo roughest f ⌝ }
-    requires { ⌜ (dryDepth <ℤ h) × (h ≤ℤ deepest) ⌝ }
+    requires { ⌜ (leastDry <ℤ h) × (h ≤ℤ deepest) ⌝ }
     requires { ⌜ UpTo fastest u ⌝ }
     ensures { λ r. ⌜ r ≡ drag (call .dt) f h u ⌝ }
 {
@@ -66,12 +65,12 @@ fn slowed_by(x: i64, q: i64) -> i64
 fn strength(call: Call, f: i64, q: i64, h: i64) -> i64
     requires { ⌜ (pos 0 ≤ℤ call .dt) × UpTo longestStep (call .dt) ⌝ }
     requires { ⌜ (pos 0 ≤ℤ f) × UpTo roughest f ⌝ }
-    requires { ⌜ UpTo fullest q ⌝ }
-    requires { ⌜ (dryDepth <ℤ h) × (h ≤ℤ deepest) ⌝ }
-    requires { ⌜ past fastest (speed dryDepth q h) ≡ false ⌝ }
-    ensures { λ r. ⌜ r ≡ drag (call .dt) f h (speed dryDepth q h) ⌝ }
+    requires { ⌜ UpTo fullest q × Dry (call .dry) ⌝ }
+    requires { ⌜ (leastDry <ℤ h) × (h ≤ℤ deepest) ⌝ }
+    requires { ⌜ past fastest (speed (call .dry) q h) ≡ false ⌝ }
+    ensures { λ r. ⌜ r ≡ drag (call .dt) f h (speed (call .dry) q h) ⌝ }
 {
-    drag_of(call, f, h, speed_of(q, h))
+    drag_of(call, f, h, speed_of(q, h, call.dry))
 }
 
 // What friction of strength d leaves of a cell, whose level stays.
@@ -87,12 +86,12 @@ fn slowed_cell(d: i64, x: Cell) -> Cell
 fn rubbed_cell(call: Call, f: i64, b: Bed, x: Cell) -> Cell
     requires { ⌜ (pos 0 ≤ℤ call .dt) × UpTo longestStep (call .dt) ⌝ }
     requires { ⌜ (pos 0 ≤ℤ f) × UpTo roughest f ⌝ }
-    requires { ⌜ Inside (bedIn b) (asCell x) ⌝ }
-    requires { ⌜ fastCell dryDepth (bedIn b) (asCell x) ≡ false ⌝ }
-    ensures { λ r. ⌜ r ≡ asList (rubbedCell (call .dt) dryDepth f (bedIn b) (asCell x)) ⌝ }
+    requires { ⌜ Inside (bedIn b) (asCell x) × Dry (call .dry) ⌝ }
+    requires { ⌜ fastCell (call .dry) (bedIn b) (asCell x) ≡ false ⌝ }
+    ensures { λ r. ⌜ r ≡ asList (rubbedCell (call .dt) (call .dry) f (bedIn b) (asCell x)) ⌝ }
 {
     let h = depths(b, x);
-    if h[0] <= DRY_DEPTH {
+    if h[0] <= call.dry {
         return x;
     }
     slowed_cell(strength(call, f, x[2], h[0]), x)
@@ -103,7 +102,7 @@ pub fn rub(t: &mut [Cell], bed: &[i32], friction: &[u16], reach: Reach, call: Ca
     requires { ⌜ Room reach (now t) × Room reach (now friction) ⌝ }
     requires { ⌜ Numbers reach call ⌝ }
     requires { ⌜ Ranged (now bed) (reach .n) (seen (now t)) ⌝ }
-    requires { ⌜ Slows (now friction) (now bed) (reach .n) (seen (now t)) ⌝ }
+    requires { ⌜ Slows (call .dry) (now friction) (now bed) (reach .n) (seen (now t)) ⌝ }
     ensures { λ _. ⌜ Filled [] (now (t .entry)) (now (t .exit)) (reach .n)
         (λ i. asList (rubbedAt call (now (friction .entry)) (now (bed .entry)) (seen (now (t .entry))) i)) ⌝ }
 {

@@ -2,6 +2,7 @@
 use crate::cell::depths;
 use crate::cell::either_fast;
 use crate::sides::speed_of;
+use reach::Call;
 use reach::Cell;
 use reach::Reach;
 use reach::bed::Bed;
@@ -14,7 +15,7 @@ ghost use Rattle.tables.specs.Cells.{asCell, seen};
 ghost use Rattle.rules.specs.Limits.{fullest};
 ghost use Rattle.rules.specs.Stage.{share};
 ghost use Rattle.reach.specs.Told.{bedIn};
-ghost use Rattle.reach.specs.Ranges.{UpTo};
+ghost use Rattle.reach.specs.Ranges.{UpTo, Dry};
 ghost use Rattle.stage.specs.Ranges.{Room, Inside, Ranged, Around, thinFastest};
 ghost use Rattle.stage.specs.Rows.{pointsBy, pointRow, fastPointsAt, momentumAt};
 
@@ -36,37 +37,40 @@ fn carried_both(p: i64, u: i64, q: i64, w: i64) -> i64
 }
 
 // The row of a cell of mean depth m, mean discharge p, and their slopes' shares d and q.
-fn pair_of(m: i64, d: i64, p: i64, q: i64) -> [i64; 3]
+fn pair_of(m: i64, d: i64, p: i64, q: i64, dry: i64) -> [i64; 3]
     requires { ⌜ Around m d p q ⌝ }
-    ensures { λ r. ⌜ r ≡ pointsBy (m -ℤ d) (p -ℤ q) (m +ℤ d) (p +ℤ q) ⌝ }
+    requires { ⌜ Dry dry ⌝ }
+    ensures { λ r. ⌜ r ≡ pointsBy dry (m -ℤ d) (p -ℤ q) (m +ℤ d) (p +ℤ q) ⌝ }
 {
     let before = p - q;
     let behind = p + q;
-    let u = speed_of(before, m - d);
-    let w = speed_of(behind, m + d);
+    let u = speed_of(before, m - d, dry);
+    let w = speed_of(behind, m + d, dry);
     [u, w, carried_both(before, u, behind, w)]
 }
 
 // The two speeds of a cell's Gauss points, and the sum of their momenta.
-fn points_of(b: Bed, x: Cell) -> [i64; 3]
+fn points_of(b: Bed, x: Cell, dry: i64) -> [i64; 3]
     requires { ⌜ Inside (bedIn b) (asCell x) ⌝ }
-    ensures { λ r. ⌜ r ≡ pointRow (bedIn b) (asCell x) ⌝ }
+    requires { ⌜ Dry dry ⌝ }
+    ensures { λ r. ⌜ r ≡ pointRow dry (bedIn b) (asCell x) ⌝ }
 {
     let h = depths(b, x);
-    pair_of(h[0], share_of(h[1]), x[2], share_of(x[3]))
+    pair_of(h[0], share_of(h[1]), x[2], share_of(x[3]), dry)
 }
 
 // The momentum of every cell's Gauss points into g, and whether some point is too fast.
-pub fn points(t: &[Cell], bed: &[i32], reach: Reach, g: &mut [i64]) -> bool
+pub fn points(t: &[Cell], bed: &[i32], reach: Reach, call: Call, g: &mut [i64]) -> bool
     requires { ⌜ Room reach (now t) × Room reach (now g) ⌝ }
     requires { ⌜ Ranged (now bed) (reach .n) (seen (now t)) ⌝ }
-    ensures { λ r. ⌜ FillSays (pos 0) (reach .n) (fastPointsAt (now (bed .entry)) (seen (now (t .entry))))
-        (momentumAt (now (bed .entry)) (seen (now (t .entry)))) r (now (g .exit)) ⌝ }
+    requires { ⌜ Dry (call .dry) ⌝ }
+    ensures { λ r. ⌜ FillSays (pos 0) (reach .n) (fastPointsAt (call .dry) (now (bed .entry)) (seen (now (t .entry))))
+        (momentumAt (call .dry) (now (bed .entry)) (seen (now (t .entry)))) r (now (g .exit)) ⌝ }
 {
     let n = reach.n;
     let mut i: usize = 0;
     while i < n {
-        let p = points_of(under(bed, i), t[i]);
+        let p = points_of(under(bed, i), t[i], call.dry);
         if either_fast(p[0], p[1]) {
             return true;
         }

@@ -3,6 +3,7 @@
 use crate::cell::depths;
 use crate::cell::either_fast;
 use crate::rows::Sides;
+use reach::Call;
 use reach::Cell;
 use reach::Reach;
 use reach::bed::Bed;
@@ -14,21 +15,22 @@ ghost use lib.IntN.{pos, _+ℤ_, _-ℤ_};
 ghost use lib.Signed.{_≤ℤ_};
 ghost use Rattle.tables.specs.Filling.{FillSays};
 ghost use Rattle.tables.specs.Cells.{asCell, seen};
-ghost use Rattle.rules.specs.Limits.{dryDepth, deepest, fullest};
+ghost use Rattle.rules.specs.Limits.{deepest, fullest};
 ghost use Rattle.rules.specs.Face.{speed};
 ghost use Rattle.rules.specs.Reach.{short, sideL, sideR};
 ghost use Rattle.reach.specs.Told.{bedIn};
-ghost use Rattle.reach.specs.Ranges.{UpTo, widest};
+ghost use Rattle.reach.specs.Ranges.{UpTo, Dry, widest};
 ghost use Rattle.stage.specs.Ranges.{Room, Inside, Ranged, Around};
 ghost use Rattle.stage.specs.Rows.{sideBy, sideRow, sidesAt, fastSides};
 
-// The speed of a discharge at a depth. Both are within the limits, so it is never refused.
-pub fn speed_of(q: i64, h: i64) -> i64
+// The speed of a discharge at a depth. All are within the limits, so it is never refused.
+pub fn speed_of(q: i64, h: i64, dry: i64) -> i64
     requires { ⌜ UpTo fullest q ⌝ }
     requires { ⌜ (pos 0 ≤ℤ h) × (h ≤ℤ deepest) ⌝ }
-    ensures { λ r. ⌜ r ≡ speed dryDepth q h ⌝ }
+    requires { ⌜ Dry dry ⌝ }
+    ensures { λ r. ⌜ r ≡ speed dry q h ⌝ }
 {
-    match speeds::speed::speed(q, h) {
+    match speeds::speed::speed(q, h, dry) {
         Whole::Is(u) => u,
         Whole::Refused => 0,
     }
@@ -51,37 +53,40 @@ fn depth_of(h: i64) -> i64
 }
 
 // The two sides of a cell of mean depth m and slope d, mean discharge p and slope q.
-fn row_of(m: i64, d: i64, p: i64, q: i64) -> Sides
+fn row_of(m: i64, d: i64, p: i64, q: i64, dry: i64) -> Sides
     requires { ⌜ Around m d p q ⌝ }
-    ensures { λ r. ⌜ r ≡ sideRow (sideBy (m -ℤ d) (p -ℤ q)) (sideBy (m +ℤ d) (p +ℤ q)) ⌝ }
+    requires { ⌜ Dry dry ⌝ }
+    ensures { λ r. ⌜ r ≡ sideRow (sideBy dry (m -ℤ d) (p -ℤ q)) (sideBy dry (m +ℤ d) (p +ℤ q)) ⌝ }
 {
     let hl = depth_of(m - d);
     let hr = depth_of(m + d);
-    let ul = speed_of(p - q, hl);
-    let ur = speed_of(p + q, hr);
+    let ul = speed_of(p - q, hl, dry);
+    let ur = speed_of(p + q, hr, dry);
     [hl, ul, hr, ur]
 }
 
 // The two sides of a cell.
-fn sides_of(b: Bed, x: Cell) -> Sides
+fn sides_of(b: Bed, x: Cell, dry: i64) -> Sides
     requires { ⌜ Inside (bedIn b) (asCell x) ⌝ }
-    ensures { λ r. ⌜ r ≡ sideRow (sideL dryDepth (bedIn b) (asCell x)) (sideR dryDepth (bedIn b) (asCell x)) ⌝ }
+    requires { ⌜ Dry dry ⌝ }
+    ensures { λ r. ⌜ r ≡ sideRow (sideL dry (bedIn b) (asCell x)) (sideR dry (bedIn b) (asCell x)) ⌝ }
 {
     let h = depths(b, x);
-    row_of(h[0], h[1], x[2], x[3])
+    row_of(h[0], h[1], x[2], x[3], dry)
 }
 
 // The sides of every cell of t into d, and whether some side is too fast.
-pub fn sides(t: &[Cell], bed: &[i32], reach: Reach, d: &mut [Sides]) -> bool
+pub fn sides(t: &[Cell], bed: &[i32], reach: Reach, call: Call, d: &mut [Sides]) -> bool
     requires { ⌜ Room reach (now t) × Room reach (now d) ⌝ }
     requires { ⌜ Ranged (now bed) (reach .n) (seen (now t)) ⌝ }
-    ensures { λ r. ⌜ FillSays [] (reach .n) (fastSides (now (bed .entry)) (seen (now (t .entry))))
-        (sidesAt (now (bed .entry)) (seen (now (t .entry)))) r (now (d .exit)) ⌝ }
+    requires { ⌜ Dry (call .dry) ⌝ }
+    ensures { λ r. ⌜ FillSays [] (reach .n) (fastSides (call .dry) (now (bed .entry)) (seen (now (t .entry))))
+        (sidesAt (call .dry) (now (bed .entry)) (seen (now (t .entry)))) r (now (d .exit)) ⌝ }
 {
     let n = reach.n;
     let mut i: usize = 0;
     while i < n {
-        let s = sides_of(under(bed, i), t[i]);
+        let s = sides_of(under(bed, i), t[i], call.dry);
         if either_fast(s[1], s[3]) {
             return true;
         }

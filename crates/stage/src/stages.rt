@@ -35,10 +35,10 @@ pub fn stage(
     ensures { λ r. ⌜ ((ρ : ℕ → ℤ) →
         StageSays (reachIn reach (now (bed .entry))) (callOn call ρ) (seen (now (t .entry))) r (now (f .exit)) (now (u .exit))) ⌝ }
 {
-    if sides(t, bed, reach, d) {
+    if sides(t, bed, reach, call, d) {
         return 6;
     }
-    if points(t, bed, reach, g) {
+    if points(t, bed, reach, call, g) {
         return 6;
     }
     if faces(d, reach, call, f) {

@@ -26,7 +26,7 @@ ghost use Prim.Native.Nat.{_+_, _*_};
 ghost use lib.ListN.{length};
 ghost use Rattle.tables.specs.Cells.{seen};
 ghost use Rattle.rules.specs.Refusals.{verdict};
-ghost use Rattle.reach.specs.Ranges.{Wides};
+ghost use Rattle.reach.specs.Ranges.{Dry, Wides};
 ghost use Rattle.stage.specs.Ranges.{InOrder, Room, FaceRoom, Ranged, FaceRows};
 ghost use Rattle.stage.specs.Says.{readyChecks, OneSays, TwoSays, BothSay};
 ghost use Rattle.stage.specs.Worked.{TablesSay, lentBy, WorkedSays};
@@ -45,10 +45,10 @@ pub enum Worked {
 }
 
 // Checks 3 to 5 and the friction speeds of the lent state in t, in their order; 0 where none applies.
-fn ready(t: &[Cell], bed: &[i32], friction: &[u16], reach: Reach) -> u32
+fn ready(t: &[Cell], bed: &[i32], friction: &[u16], reach: Reach, call: Call) -> u32
     requires { ⌜ Room reach (now t) × (length (now bed) ≡ reach .n + 1) × (length (now friction) ≡ reach .n) ⌝ }
-    requires { ⌜ Wides (reach .n) (seen (now t)) ⌝ }
-    ensures { λ r. ⌜ r ≡ verdict (readyChecks (reach .n) (now (bed .entry)) (now (friction .entry)) (seen (now (t .entry)))) ⌝ }
+    requires { ⌜ Wides (reach .n) (seen (now t)) × Dry (call .dry) ⌝ }
+    ensures { λ r. ⌜ r ≡ verdict (readyChecks (call .dry) (reach .n) (now (bed .entry)) (now (friction .entry)) (seen (now (t .entry)))) ⌝ }
 {
     if bad_bed(bed) {
         return 3;
@@ -59,7 +59,7 @@ fn ready(t: &[Cell], bed: &[i32], friction: &[u16], reach: Reach) -> u32
     if off(t, bed, reach) {
         return 5;
     }
-    if fast(t, bed, reach) {
+    if fast(t, bed, reach, call) {
         return 6;
     }
     0
@@ -171,7 +171,7 @@ fn on_tables(
         r (now (next .entry)) (now (next .exit)) ⌝ }
 {
     load(state, reach, a);
-    let k = ready(a, bed, friction, reach);
+    let k = ready(a, bed, friction, reach, call);
     if k != 0 {
         return Worked::Refused(k);
     }
@@ -283,6 +283,7 @@ pub fn work(state: &[i32], next: &mut [i32], bed: &[i32], friction: &[u16], give
     let call = Call {
         dt: widened(given.dt),
         jump: widened(given.jump),
+        dry: widened(given.dry),
         left: given.left,
         right: given.right,
     };

@@ -8,9 +8,19 @@ use Rattle.step.specs.declared.Answer.{Answer}
 use Rattle.step.specs.declared.Answer.the-variants.{Refused, Accepted}
 
 -- what is lent and given
-abbrev pub lend : List ℤ → ℕ → List ℤ → List ℕ → ℕ → ℕ → ℕ → ℕ → ℕ → Lent
-lend state room bed friction dx dt jump left right =
-    record { now = state; room = room; bed = bed; friction = friction; dx = dx; dt = dt; jump = jump; left = left; right = right }
+abbrev pub lend : List ℤ → ℕ → List ℤ → List ℕ → ℕ → ℕ → ℕ → ℕ → ℕ → ℕ → Lent
+lend state room bed friction dx dt jump dry left right = record {
+  now = state;
+  room = room;
+  bed = bed;
+  friction = friction;
+  dx = dx;
+  dt = dt;
+  jump = jump;
+  dry = dry;
+  left = left;
+  right = right;
+}
 
 -- the scope document's number and values of each answer: the refusal's number, 0 for an accepted step; and W at face 0 and at face n
 unfoldable pub code : Answer → ℕ

@@ -15,13 +15,14 @@ use Rattle.whole.specs.Choice.{not-beyond, within-past}
 use Rattle.whole.specs.Tests.{lt-no, no-lt}
 use Rattle.tables.specs.Some.{some-none, none-some}
 use Rattle.tables.specs.Cells.{Cell, seen}
-use Rattle.rules.specs.Limits.{mostCells, highestBed, largestJump}
+use Rattle.rules.specs.Limits.{mostCells, highestBed, largestJump, leastDry, mostDry}
 use Rattle.rules.specs.Reach.{Bed}
 use Rattle.rules.specs.Refusals.{any, past}
+use Rattle.rules.specs.Laws.Inside.{above-least, below-most, not-outside}
 use Rattle.reach.specs.declared.Reach.{Reach}
 use Rattle.reach.specs.declared.Call.{Call}
 use Rattle.reach.specs.Told.{bedAt}
-use Rattle.reach.specs.Ranges.{UpTo, widest, Unfinished, AllUnfinished}
+use Rattle.reach.specs.Ranges.{UpTo, widest, Dry, Unfinished, AllUnfinished}
 use Rattle.finishing.specs.Unfit.{eitherPast, tooLarge, hindrances, unfit}
 
 -- ---- a list of tests of which none holds, by place
@@ -68,6 +69,7 @@ pub record Workable (reach : Reach) (call : Call) (bed : List ℤ) (u : List (Li
   pub beds : length bed ≡ reach .n + 1
   pub jump-pos : pos 0 ≤ℤ call .jump
   pub jump-in : UpTo largestJump (call .jump)
+  pub dry : Dry (call .dry)
   pub cells : AllUnfinished bed (reach .n) (seen u)
 
 module _ (reach : Reach) (call : Call) (bed : List ℤ) (u : List (List ℤ)) (room : ℕ) where
@@ -88,7 +90,8 @@ module _ (reach : Reach) (call : Call) (bed : List ℤ) (u : List (List ℤ)) (r
         beds = eqb-true (length bed) (n + 1) (not-f (eqb (length bed) (n + 1)) (none 3));
         jump-pos = low;
         jump-in = b-nonneg low high;
-        cells = λ i l. small-enough (bedAt bed i) (seen u i) (some-none large n (none 5) i l);
+        dry = record { least = above-least leastDry mostDry (call .dry) (none 5); most = below-most leastDry mostDry (call .dry) (none 5) };
+        cells = λ i l. small-enough (bedAt bed i) (seen u i) (some-none large n (none 6) i l);
       }
 
   pub works-fit : Workable reach call bed u room → unfit reach call bed u room ≡ false
@@ -101,5 +104,6 @@ module _ (reach : Reach) (call : Call) (bed : List ℤ) (u : List (List ℤ)) (r
         eq-eqb (length bed) (reach .n + 1) (w .beds),
         no-lt (call .jump) (pos 0) (w .jump-pos),
         no-lt largestJump (call .jump) (range-b (w .jump-in) .1),
+        not-outside leastDry mostDry (call .dry) (w .dry .least) (w .dry .most),
         none-some large (reach .n) (λ i l. not-large (bedAt bed i) (seen u i) (w .cells i l)),
       )

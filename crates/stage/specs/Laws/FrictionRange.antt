@@ -7,12 +7,12 @@ use native.Mathlib.Omega.{arith}
 use lib.IntN.{ℤ, pos, negsuc, natAbs, _+ℤ_, _*ℤ_}
 use lib.Signed.{leZ, _≤ℤ_}
 use Rattle.whole.specs.Flags.{cond-ind}
-use Rattle.whole.specs.Parts.{b-add, b-sub, b-lit, abs-mul, lt-le, le-lt-trans, le-lit}
+use Rattle.whole.specs.Parts.{b-add, b-sub, b-lit, abs-mul, lt-le, le-lt-trans, le-trans, nat-nonneg}
 use Rattle.whole.specs.Quotient.{abs-quot, share-le}
 use Rattle.whole.specs.Tests.{le-no}
 use Rattle.whole.specs.Choice.{not-beyond}
 use Rattle.tables.specs.Cells.{Cell}
-use Rattle.rules.specs.Limits.{dryDepth}
+use Rattle.rules.specs.Limits.{leastDry}
 use Rattle.rules.specs.Face.{speed}
 use Rattle.rules.specs.Friction.{drag, slowed}
 use Rattle.rules.specs.Reach.{Bed, ql, qr, h0, h1, hl, hr}
@@ -34,20 +34,19 @@ slowed-size x q p =
     below (pos n) h = omega arith
     below (negsuc n) h = absurd (h .le)
 
-rub-size : (dt f : ℤ) (b : Bed) (x : Cell) (q : ℤ) → pos 0 ≤ℤ dt → natAbs (rub dt dryDepth f b x q) ≤ natAbs q
+rub-size : (dt d f : ℤ) (b : Bed) (x : Cell) (q : ℤ) → pos 0 ≤ℤ dt → leastDry ≤ℤ d → natAbs (rub dt d f b x q) ≤ natAbs q
 unfolding rub
-rub-size dt f b x q p = let h = h0 b x in let d = drag dt f h (speed dryDepth (x .q0) h) in
-    cond-ind (leZ h dryDepth) q (slowed d q) (λ z. natAbs z ≤ natAbs q) (λ e. omega arith)
-    (λ e. slowed-size d q
-    (drag-nonneg dt f h (speed dryDepth (x .q0) h) p (lt-le (le-lt-trans (le-lit (pos 0) dryDepth tt) (le-no h dryDepth e)))))
+rub-size dt d f b x q p l = let h = h0 b x in let u = speed d (x .q0) h in let strength = drag dt f h u in
+    cond-ind (leZ h d) q (slowed strength q) (λ z. natAbs z ≤ natAbs q) (λ e. omega arith)
+    (λ e. slowed-size strength q (drag-nonneg dt f h u p (lt-le (le-lt-trans (le-trans (nat-nonneg 1) l) (le-no h d e)))))
 
-pub rubbed-inside : (dt f : ℤ) (b : Bed) (x : Cell) → pos 0 ≤ℤ dt → Inside b x → Inside b (rubbedCell dt dryDepth f b x)
+pub rubbed-inside : (dt d f : ℤ) (b : Bed) (x : Cell) → pos 0 ≤ℤ dt → leastDry ≤ℤ d → Inside b x → Inside b (rubbedCell dt d f b x)
 unfolding rubbedCell hl hr h0 h1
-rubbed-inside dt f b x p i =
-    let g = in-range b x (i .range) in let y = rubbedCell dt dryDepth f b x in
+rubbed-inside dt d f b x p l i =
+    let g = in-range b x (i .range) in let y = rubbedCell dt d f b x in
     let k = cell-sizes i .faces in let w = flow-sum (x .q0) (x .q1) (k .ql) (k .qr) in
-    let u : natAbs (y .q0) ≤ natAbs (x .q0) = rub-size dt f b x (x .q0) p in
-    let v : natAbs (y .q1) ≤ natAbs (x .q1) = rub-size dt f b x (x .q1) p in
+    let u : natAbs (y .q0) ≤ natAbs (x .q0) = rub-size dt d f b x (x .q0) p l in
+    let v : natAbs (y .q1) ≤ natAbs (x .q1) = rub-size dt d f b x (x .q1) p l in
     record {
       ground = i .ground;
       range = range-in b y (record {

@@ -1,4 +1,4 @@
--- How strongly friction can act, where the speed has been checked: never below nought, and at most 10,786,209,068.
+-- How strongly friction can act, where the speed has been checked: never below nought, and at most 21,438,427,962.
 -- Assumes nothing.
 use Prim.Native.Nat.{suc, _*_}
 use native.Mathlib.Omega.{arith}
@@ -9,7 +9,7 @@ use Rattle.whole.specs.Parts.{lt-le, le-lt-trans, lt-le-trans, lt-suc, nat-nonn
 use Rattle.whole.specs.Difference.{lit, nonneg, _⊠_, le!, le?, mul-nonneg}
 use Rattle.whole.specs.Quotient.{quot-nonneg, b-quot-ge}
 use Rattle.whole.specs.Choice.{sizeZ, size-nonneg, b-size}
-use Rattle.rules.specs.Limits.{dryDepth, deepest, fastest, roughest, longestStep}
+use Rattle.rules.specs.Limits.{leastDry, deepest, fastest, roughest, longestStep}
 use Rattle.rules.specs.Friction.{cube, drag}
 use Rattle.rules.specs.Laws.Speeds.{cube-least}
 use Rattle.reach.specs.Ranges.{UpTo}
@@ -29,21 +29,21 @@ drag-nonneg dt f h u p q =
     square (pos n) = mul-nonneg (pos n) (pos n) (nat-nonneg n) (nat-nonneg n)
     square (negsuc n) = nat-nonneg (suc n * suc n)
 
--- ---- of water that is not dry
-module _ (h : ℤ) (low : dryDepth <ℤ h) (high : h ≤ℤ deepest) where
+-- ---- of water that is not dry, at any dry depth
+module _ (h : ℤ) (low : leastDry <ℤ h) (high : h ≤ℤ deepest) where
   pub wet : pos 0 <ℤ h
-  wet = le-lt-trans (le-lit (pos 0) dryDepth tt) low
+  wet = le-lt-trans (le-lit (pos 0) leastDry tt) low
 
   pub wet-size : UpTo deepest h
   wet-size = b-nonneg (lt-le wet) high
 
-  -- the divisor: at least 390,625 times the least depth, 5, times its cube-root number, no less than 256
-  divisor-least : pos 500000000 ≤ℤ (pos 390625 *ℤ h *ℤ cube h)
+  -- the divisor: at least 390,625 times the least depth, 2, times its cube-root number, no less than 322
+  divisor-least : pos 251562500 ≤ℤ (pos 390625 *ℤ h *ℤ cube h)
   divisor-least =
-      let c : pos 256 ≤ℤ cube h = cube-least h wet wet-size in
-      let x = nonneg (lt-le wet) in let y = nonneg (le-trans (nat-nonneg 256) c) in
-      le! (lit 500000000) (lit 390625 ⊠ x ⊠ y)
-      (omega (arith, cross (le? (lit 5) x (lt-suc low)) (le? (lit 256) y c), le? (lit 5) x (lt-suc low), le? (lit 256) y c))
+      let c : pos 322 ≤ℤ cube h = cube-least h low wet-size in
+      let x = nonneg (lt-le wet) in let y = nonneg (le-trans (nat-nonneg 322) c) in
+      le! (lit 251562500) (lit 390625 ⊠ x ⊠ y)
+      (omega (arith, cross (le? (lit 2) x (lt-suc low)) (le? (lit 322) y c), le? (lit 2) x (lt-suc low), le? (lit 322) y c))
 
   pub divisor-pos : pos 0 <ℤ (pos 390625 *ℤ h *ℤ cube h)
   divisor-pos = lt-le-trans (record { lt = tt }) divisor-least
@@ -51,5 +51,5 @@ module _ (h : ℤ) (low : dryDepth <ℤ h) (high : h ≤ℤ deepest) where
   pub drag-most : (dt f u : ℤ) → UpTo longestStep dt → UpTo roughest f → UpTo fastest u → UpTo strongest (drag dt f h u)
   unfolding drag
   drag-most dt f u p q r =
-      b-up 10786209068 (b-quot-ge 499999999 (b-mul (b-mul (b-mul (b-lit (pos 256 *ℤ pos 981)) p) (b-mul q q)) (b-size u r)) divisor-least)
+      b-up 21438427962 (b-quot-ge 251562499 (b-mul (b-mul (b-mul (b-lit (pos 256 *ℤ pos 981)) p) (b-mul q q)) (b-size u r)) divisor-least)
       tt

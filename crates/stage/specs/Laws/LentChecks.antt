@@ -12,7 +12,7 @@ use lib.Signed.{_≤ℤ_}
 use Rattle.whole.specs.Flags.{or-l}
 use Rattle.whole.specs.Parts.{Within, b-nonneg, le-trans, nat-nonneg}
 use Rattle.tables.specs.Some.{some, some-none, some-same}
-use Rattle.rules.specs.Limits.{highestBed, dryDepth}
+use Rattle.rules.specs.Limits.{highestBed}
 use Rattle.rules.specs.Reach.{State}
 use Rattle.rules.specs.Refusals.{outside, badBed, badRough, offCell, fastCell, chk, verdict}
 use Rattle.rules.specs.Laws.Inside.{above-least, below-most}
@@ -39,31 +39,31 @@ grounds n bed e i l = record { zl = value i (omega arith); zr = value (suc i) (o
 pub ranged : (n : ℕ) (bed : List ℤ) (s : State) → Grounds bed n → some (λ i. offCell (bedAt bed i) (s i)) n ≡ false → Ranged bed n s
 ranged n bed s g e i l = record { ground = g i l; range = some-none (λ i. offCell (bedAt bed i) (s i)) n e i l }
 
-slows : (n : ℕ) (bed : List ℤ) (friction : List ℕ) (s : State) → some (λ i. badRough (pos (getD friction i 0))) n ≡ false
-    → some (λ i. fastCell dryDepth (bedAt bed i) (s i)) n ≡ false → Slows friction bed n s
+slows : (dry : ℤ) (n : ℕ) (bed : List ℤ) (friction : List ℕ) (s : State) → some (λ i. badRough (pos (getD friction i 0))) n ≡ false
+    → some (λ i. fastCell dry (bedAt bed i) (s i)) n ≡ false → Slows dry friction bed n s
 unfolding badRough
-slows n bed friction s e f i l =
+slows dry n bed friction s e f i l =
     let passed = some-none (λ i. badRough (pos (getD friction i 0))) n e i l in
     let w = between (pos 0) 200 (pos (getD friction i 0)) (nat-nonneg 0) passed in
-    record { rough = w .abs; speed = some-none (λ i. fastCell dryDepth (bedAt bed i) (s i)) n f i l }
+    record { rough = w .abs; speed = some-none (λ i. fastCell dry (bedAt bed i) (s i)) n f i l }
 
 -- ---- a lent state that is ready
-module _ (n : ℕ) (bed : List ℤ) (friction : List ℕ) (s : State) (f : 0 ≡ verdict (readyChecks n bed friction s)) where
-  passed : (i : ℕ) → checkAt (readyChecks n bed friction s) i .bad ≡ false
-  passed = clear-at (readyChecks n bed friction s) (cleared (readyChecks n bed friction s) tt f)
+module _ (dry : ℤ) (n : ℕ) (bed : List ℤ) (friction : List ℕ) (s : State) (f : 0 ≡ verdict (readyChecks dry n bed friction s)) where
+  passed : (i : ℕ) → checkAt (readyChecks dry n bed friction s) i .bad ≡ false
+  passed = clear-at (readyChecks dry n bed friction s) (cleared (readyChecks dry n bed friction s) tt f)
 
   pub lent-ranged : Ranged bed n s
   lent-ranged = ranged n bed s (grounds n bed (passed 0)) (passed 2)
 
-  pub lent-slow : Slows friction bed n s
-  lent-slow = slows n bed friction s (passed 1) (passed 3)
+  pub lent-slow : Slows dry friction bed n s
+  lent-slow = slows dry n bed friction s (passed 1) (passed 3)
 
 -- states that agree in the reach pass the same checks
-pub ready-same : (n : ℕ) (bed : List ℤ) (friction : List ℕ) (s t : State) → ((i : ℕ) → i < n → s i ≡ t i)
-    → readyChecks n bed friction s ≡ readyChecks n bed friction t
-ready-same n bed friction s t e =
+pub ready-same : (dry : ℤ) (n : ℕ) (bed : List ℤ) (friction : List ℕ) (s t : State) → ((i : ℕ) → i < n → s i ≡ t i)
+    → readyChecks dry n bed friction s ≡ readyChecks dry n bed friction t
+ready-same dry n bed friction s t e =
     let a = some-same (λ i. offCell (bedAt bed i) (s i)) (λ i. offCell (bedAt bed i) (t i)) n (λ i l. ap (offCell (bedAt bed i)) (e i l)) in
-    let b = some-same (λ i. fastCell dryDepth (bedAt bed i) (s i)) (λ i. fastCell dryDepth (bedAt bed i) (t i)) n
-    (λ i l. ap (fastCell dryDepth (bedAt bed i)) (e i l)) in
+    let b = some-same (λ i. fastCell dry (bedAt bed i) (s i)) (λ i. fastCell dry (bedAt bed i) (t i)) n
+    (λ i l. ap (fastCell dry (bedAt bed i)) (e i l)) in
     λ k. chk 3 (some (λ i. badBed (getD bed i (pos 0))) (suc n)) ∷ chk 4 (some (λ i. badRough (pos (getD friction i 0))) n) ∷ chk 5 (a k)
     ∷ chk 6 (b k) ∷ []

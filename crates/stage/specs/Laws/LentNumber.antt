@@ -9,10 +9,10 @@ use lib.ListN.{length}
 use lib.IntN.{ℤ, pos}
 use Rattle.whole.specs.Flags.{fails}
 use Rattle.whole.specs.Parts.{of-le, lt-of, le-trans, nat-nonneg}
-use Rattle.rules.specs.Limits.{longestCell, longestStep, largestJump}
+use Rattle.rules.specs.Limits.{longestCell, longestStep, largestJump, leastDry, mostDry}
 use Rattle.rules.specs.Refusals.{callTests, badCall, off, fastFriction, chk, verdict, stageChecks, early, checks, refusal}
 use Rattle.rules.specs.Laws.Accept.{none-at}
-use Rattle.rules.specs.Laws.Inside.{above-least}
+use Rattle.rules.specs.Laws.Inside.{above-least, below-most}
 use Rattle.rules.specs.Laws.Lengths.{first-number, later-number}
 use Rattle.rules.specs.Lent.{Lent, reachOf, callOf, stateOf, misfit, number}
 use Rattle.reach.specs.declared.Reach.{Reach}
@@ -38,6 +38,10 @@ numbers reach call bed ρ e =
       dt-in = between (pos 1) 4096 (call .dt) (nat-nonneg 1) (fails 1);
       jump-pos = above-least (pos 0) largestJump (call .jump) (fails 2);
       jump-in = between (pos 0) 262144 (call .jump) (nat-nonneg 0) (fails 2);
+      dry = record {
+        least = above-least leastDry mostDry (call .dry) (fails 3);
+        most = below-most leastDry mostDry (call .dry) (fails 3);
+      };
     }
 
 -- the numbers of a call as its caller gave them, widened
@@ -45,7 +49,7 @@ abbrev pub reachBy : ℕ → Given → Reach
 reachBy n g = record { n = n; dx = pos (g .dx) }
 
 abbrev pub callBy : Given → Call
-callBy g = record { dt = pos (g .dt); jump = pos (g .jump); left = g .left; right = g .right }
+callBy g = record { dt = pos (g .dt); jump = pos (g .jump); dry = pos (g .dry); left = g .left; right = g .right }
 
 -- ---- the step's number, by the check that stopped it
 module _ (state : List ℤ) (room : ℕ) (bed : List ℤ) (friction : List ℕ) (given : Given) where
@@ -60,7 +64,7 @@ module _ (state : List ℤ) (room : ℕ) (bed : List ℤ) (friction : List ℕ) 
 
   module _ (e : misfit (length state) room (length bed) n ≡ false) where
     after : number lent
-        ≡ verdict (chk 2 (badCall (reachOf lent) (callOf lent)) ∷ readyChecks n bed friction (stateOf lent)
+        ≡ verdict (chk 2 (badCall (reachOf lent) (callOf lent)) ∷ readyChecks (callOf lent .dry) n bed friction (stateOf lent)
         ++ bothChecks (reachOf lent) (callOf lent) (stateOf lent))
     unfolding refusal checks early stageChecks off fastFriction
     after = later-number lent e
@@ -71,6 +75,6 @@ module _ (state : List ℤ) (room : ℕ) (bed : List ℤ) (friction : List ℕ) 
 
     -- the checks after 2 are those of the step on tables
     pub later-checks : badCall (reachOf lent) (callOf lent) ≡ false
-        → number lent ≡ verdict (readyChecks n bed friction (stateOf lent) ++ bothChecks (reachOf lent) (callOf lent) (stateOf lent))
+        → number lent ≡ verdict (readyChecks (callOf lent .dry) n bed friction (stateOf lent) ++ bothChecks (reachOf lent) (callOf lent) (stateOf lent))
     unfolding verdict
     later-checks b = after ∙ rw b

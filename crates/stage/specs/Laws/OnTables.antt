@@ -12,7 +12,7 @@ use Rattle.whole.specs.Parts.{b-up}
 use Rattle.tables.specs.Some.{some, some-none}
 use Rattle.tables.specs.Rows.{Filled, row, row-same}
 use Rattle.tables.specs.Cells.{asCell, asList, cellAt, flat, seen, Holds}
-use Rattle.rules.specs.Limits.{dryDepth}
+use Rattle.rules.specs.Limits.{leastDry}
 use Rattle.rules.specs.Reach.{Reach, Call, State}
 use Rattle.rules.specs.Step.{rubbedCell, rubbed, next}
 use Rattle.rules.specs.Refusals.{verdict, off, stageChecks}
@@ -39,7 +39,7 @@ end = 7
 pub record Loaded (reach : ToldReach) (call : ToldCall) (bed : List ℤ) (friction : List ℕ) (state : List ℤ) (a : List (List ℤ))
     (k : ℕ) : Type 0 where
   pub cells : Holds a (reach .n) (cellAt state)
-  pub number : k ≡ verdict (readyChecks (reach .n) bed friction (seen a))
+  pub number : k ≡ verdict (readyChecks (call .dry) (reach .n) bed friction (seen a))
 
 module _
     {reach : ToldReach} {call : ToldCall} {bed : List ℤ} {friction : List ℕ} {state : List ℤ} {a : List (List ℤ)} {k : ℕ}
@@ -59,38 +59,38 @@ module _
   abbrev s : State
   s = cellAt state
 
-  number : k ≡ verdict (readyChecks n bed friction s)
-  number = lent .number ∙ ap verdict (ready-same n bed friction (seen a) s (λ i l. ap asCell (lent .cells i l)))
+  number : k ≡ verdict (readyChecks (call .dry) n bed friction s)
+  number = lent .number ∙ ap verdict (ready-same (call .dry) n bed friction (seen a) s (λ i l. ap asCell (lent .cells i l)))
 
   pub ready-stops : (k ≡ 0 → ⊥) → (old : List ℤ) → TablesSay reach call bed friction state (Refused k) old old
   ready-stops z old = record {
-    number = stopped (readyChecks n bed friction s) (bothChecks r c s) k number z;
+    number = stopped (readyChecks (call .dry) n bed friction s) (bothChecks r c s) k number z;
     some = omega (arith, z);
     kept = λ i. old;
   }
 
   module _ (z : k ≡ 0) where
     pub loaded-ranged : Ranged bed n (seen a)
-    loaded-ranged = lent-ranged n bed friction (seen a) (sym z ∙ lent .number)
+    loaded-ranged = lent-ranged (call .dry) n bed friction (seen a) (sym z ∙ lent .number)
 
-    pub loaded-slow : Slows friction bed n (seen a)
-    loaded-slow = lent-slow n bed friction (seen a) (sym z ∙ lent .number)
+    pub loaded-slow : Slows (call .dry) friction bed n (seen a)
+    loaded-slow = lent-slow (call .dry) n bed friction (seen a) (sym z ∙ lent .number)
 
     -- t has it after friction
     module _ {t : List (List ℤ)} (f : Filled [] a t n (λ i. asList (rubbedAt call friction bed (seen a) i))) where
       pub rubbed-shown : Shows r t (rubbed r c s)
       unfolding rubbed
       rubbed-shown i l =
-          ap asCell (f .below i l) ∙ (λ j. rubbedCell (call .dt) dryDepth (rough i) (bedAt bed i) (asCell (lent .cells i l j)))
+          ap asCell (f .below i l) ∙ (λ j. rubbedCell (call .dt) (call .dry) (rough i) (bedAt bed i) (asCell (lent .cells i l j)))
 
-      pub rubbed-ranged : pos 0 ≤ℤ call .dt → Ranged bed n (seen t)
-      rubbed-ranged p i l = subst (λ (m : List ℤ). Inside (bedAt bed i) (asCell m)) (sym (f .below i l))
-          (rubbed-inside (call .dt) (rough i) (bedAt bed i) (seen a i) p (loaded-ranged i l))
+      pub rubbed-ranged : pos 0 ≤ℤ call .dt → leastDry ≤ℤ call .dry → Ranged bed n (seen t)
+      rubbed-ranged p m i l = subst (λ (m : List ℤ). Inside (bedAt bed i) (asCell m)) (sym (f .below i l))
+          (rubbed-inside (call .dt) (call .dry) (rough i) (bedAt bed i) (seen a i) p m (loaded-ranged i l))
 
     -- ---- both stages have answered m
     module _ (o : 0 < n) {m : ℕ} {f x b : List (List ℤ)} (both : StepSays r c s m f x b) where
-      both-number : m ≡ verdict (readyChecks n bed friction s ++ bothChecks r c s)
-      both-number = both .number ∙ went-on (readyChecks n bed friction s) (bothChecks r c s) tt (sym z ∙ number)
+      both-number : m ≡ verdict (readyChecks (call .dry) n bed friction s ++ bothChecks r c s)
+      both-number = both .number ∙ went-on (readyChecks (call .dry) n bed friction s) (bothChecks r c s) tt (sym z ∙ number)
 
       pub both-stops : (m ≡ 0 → ⊥) → (old : List ℤ) → TablesSay reach call bed friction state (Refused m) old old
       both-stops y old = record { number = both-number; some = omega (arith, y); kept = λ i. old }

@@ -33,34 +33,34 @@ module _ (reach : Reach) (call : Call) (bed : List ℤ) (s : State) (ρ : ℕ �
   abbrev checks : List Check
   checks = stageChecks (reachIn reach bed) (callOn call ρ) s
 
-  sides-pass : some (fastSides bed s) (reach .n) ≡ false → some (fastFace (reachIn reach bed) (callOn call ρ) s) (suc (reach .n)) ≡ false
+  sides-pass : some (fastSides (call .dry) bed s) (reach .n) ≡ false → some (fastFace (reachIn reach bed) (callOn call ρ) s) (suc (reach .n)) ≡ false
   sides-pass e = sym (fast-faces reach call bed ρ s o) ∙ e
 
-  pub says-fast : some (fastSides bed s) (reach .n) ≡ true → 6 ≡ verdict checks
+  pub says-fast : some (fastSides (call .dry) bed s) (reach .n) ≡ true → 6 ≡ verdict checks
   unfolding stageChecks
   says-fast e = stops-at checks 0 tt (sym (fast-faces reach call bed ρ s o) ∙ e)
 
-  pub says-points : some (fastSides bed s) (reach .n) ≡ false → some (fastPointsAt bed s) (reach .n) ≡ true → 6 ≡ verdict checks
+  pub says-points : some (fastSides (call .dry) bed s) (reach .n) ≡ false → some (fastPointsAt (call .dry) bed s) (reach .n) ≡ true → 6 ≡ verdict checks
   unfolding stageChecks fastGauss
   says-points e f = stops-at checks 1 (sides-pass e, tt) f
 
 -- ---- the momenta of points that are not too fast, and the rows of faces whose sides are not, have the sizes that an update asks
-pub momenta : (n : ℕ) (bed : List ℤ) (s : State) → Ranged bed n s → some (fastPointsAt bed s) n ≡ false
-    → (g : List ℤ) → Written (pos 0) g n (momentumAt bed s) → Momenta g n
-momenta n bed s inside e g h i l =
-    subst (UpTo mostMomentum) (sym (h i l)) (gauss-size (bedAt bed i) (s i) (inside i l) (some-none (fastPointsAt bed s) n e i l))
+pub momenta : (dry : ℤ) (n : ℕ) (bed : List ℤ) (s : State) → Ranged bed n s → some (fastPointsAt dry bed s) n ≡ false
+    → (g : List ℤ) → Written (pos 0) g n (momentumAt dry bed s) → Momenta g n
+momenta dry n bed s inside e g h i l = subst (UpTo mostMomentum) (sym (h i l))
+    (gauss-size dry (bedAt bed i) (s i) (inside i l) (some-none (fastPointsAt dry bed s) n e i l))
 
 pub rows-sized : (reach : Reach) (call : Call) (bed : List ℤ) (s : State) → 0 < reach .n → Ranged bed (reach .n) s → Numbers reach call
-    → some (fastSides bed s) (reach .n) ≡ false → (d x : List (List ℤ)) → Written [] d (reach .n) (sidesAt bed s)
+    → some (fastSides (call .dry) bed s) (reach .n) ≡ false → (d x : List (List ℤ)) → Written [] d (reach .n) (sidesAt (call .dry) bed s)
     → Written [] x (suc (reach .n)) (faceRowAt reach call d) → FaceRows x (reach .n)
-rows-sized reach call bed s o inside num e d x w h = face-rows reach call d x (num .dt-in) o (sounds (reach .n) bed s inside e d w) h
+rows-sized reach call bed s o inside num e d x w h = face-rows reach call d x (num .dt-in) o (sounds (call .dry) (reach .n) bed s inside e d w) h
 
 -- ---- a stage from s that passed them, with its sides in d
 pub record Slowed (reach : Reach) (call : Call) (bed : List ℤ) (s : State) (d : List (List ℤ)) : Type 0 where
   pub least : 0 < reach .n
-  pub sides : Written [] d (reach .n) (sidesAt bed s)
-  pub slow-sides : some (fastSides bed s) (reach .n) ≡ false
-  pub slow-points : some (fastPointsAt bed s) (reach .n) ≡ false
+  pub sides : Written [] d (reach .n) (sidesAt (call .dry) bed s)
+  pub slow-sides : some (fastSides (call .dry) bed s) (reach .n) ≡ false
+  pub slow-points : some (fastPointsAt (call .dry) bed s) (reach .n) ≡ false
 
 module _ {reach : Reach} {call : Call} {bed : List ℤ} {s : State} {d : List (List ℤ)} (p : Slowed reach call bed s d) where
   abbrev n : ℕ
@@ -93,7 +93,7 @@ module _ {reach : Reach} {call : Call} {bed : List ℤ} {s : State} {d : List (L
 
     -- ---- what it leaves
     module _ (inside : Ranged bed n s) (num : Numbers reach call) (x : List (List ℤ)) (g : List ℤ)
-        (wx : Written [] x (suc n) (faceRowAt reach call d)) (wg : Written (pos 0) g n (momentumAt bed s)) where
+        (wx : Written [] x (suc n) (faceRowAt reach call d)) (wg : Written (pos 0) g n (momentumAt (call .dry) bed s)) where
       faces : FacesOf r c s x
       faces = record {
         rows = λ i l. wx i l ∙ ap (faceRow (reach .dx) (call .dt)) (face-is i l);
@@ -104,13 +104,13 @@ module _ {reach : Reach} {call : Call} {bed : List ℤ} {s : State} {d : List (L
       unfolding stage faceAt
       cell-is i l = let row = faces .rows in
           (λ k. rows.updateBy (reach .dx) (call .dt) (bedAt bed i) (s i) (row i (omega arith) k) (row (suc i) (omega arith) k) (wg i l k))
-          ∙ update-is (reach .dx) (call .dt) (bedAt bed i) (s i) (faceAt r c s i) (faceRight r c s i)
+          ∙ update-is (reach .dx) (call .dt) (call .dry) (bedAt bed i) (s i) (faceAt r c s i) (faceRight r c s i)
 
       small : Smalls n (stage r c s)
       small i l = let sized = faces .sized in
           subst Small (cell-is i l)
           (update-small (inside i l) (reach .dx) (call .dt) (getD x i []) (getD x (suc i) []) (getD g i (pos 0)) (num .dx-pos) (num .dt-in)
-          (sized i (omega arith)) (sized (suc i) (omega arith)) (momenta n bed s inside (p .slow-points) g wg i l))
+          (sized i (omega arith)) (sized (suc i) (omega arith)) (momenta (call .dry) n bed s inside (p .slow-points) g wg i l))
 
       pub stage-done : (u : List (List ℤ)) → Holds u n (updateAt reach call bed s x g) → StageDone r c s x u
       stage-done u h = record { faces = faces; cells = λ i l. h i l ∙ ap asList (cell-is i l); small = small }

@@ -12,7 +12,6 @@ use Rattle.whole.specs.Flags.{by, clash, or-l, or-r}
 use Rattle.tables.specs.Some.{some, some-none, none-some, some-yes, yes-some}
 use Rattle.tables.specs.Rows.{Written}
 use Rattle.tables.specs.Cells.{Cell}
-use Rattle.rules.specs.Limits.{dryDepth}
 use Rattle.rules.specs.Face.{Side, Flux, face}
 use Rattle.rules.specs.Reach as rules
 use Rattle.rules.specs.Reach.{State, Bed, z1, hl, hr, depthL, depthR, groundL, groundR, sideL, sideR}
@@ -26,22 +25,22 @@ use Rattle.reach.specs.Told.{reachIn, callOn, bedAt}
 use Rattle.stage.specs.Rows.{leftIn, rightIn, sidesAt, fastSides, faceRow, crossAt, slopeOf, thrust, pushOf, tiltOf, updateBy}
 
 -- ---- the sides of a table of them are those of the state
-module _ (n : ℕ) (bed : List ℤ) (s : State) (d : List (List ℤ)) (w : Written [] d n (sidesAt bed s)) where
-  pub left-in : (i : ℕ) → i < n → leftIn d i ≡ sideL dryDepth (bedAt bed i) (s i)
+module _ (dry : ℤ) (n : ℕ) (bed : List ℤ) (s : State) (d : List (List ℤ)) (w : Written [] d n (sidesAt dry bed s)) where
+  pub left-in : (i : ℕ) → i < n → leftIn d i ≡ sideL dry (bedAt bed i) (s i)
   unfolding sidesAt
   left-in i l = λ j. record { h = getD (w i l j) 0 (pos 0); u = getD (w i l j) 1 (pos 0) }
 
-  pub right-in : (i : ℕ) → i < n → rightIn d i ≡ sideR dryDepth (bedAt bed i) (s i)
+  pub right-in : (i : ℕ) → i < n → rightIn d i ≡ sideR dry (bedAt bed i) (s i)
   unfolding sidesAt
   right-in i l = λ j. record { h = getD (w i l j) 2 (pos 0); u = getD (w i l j) 3 (pos 0) }
 
 -- the two sides of a cell, where no cell has one that is too fast
-pub slow-sides : (n : ℕ) (bed : List ℤ) (s : State) → some (fastSides bed s) n ≡ false → (i : ℕ) → i < n
-    → (fastSide (sideL dryDepth (bedAt bed i) (s i)) ≡ false) × (fastSide (sideR dryDepth (bedAt bed i) (s i)) ≡ false)
+pub slow-sides : (dry : ℤ) (n : ℕ) (bed : List ℤ) (s : State) → some (fastSides dry bed s) n ≡ false → (i : ℕ) → i < n
+    → (fastSide (sideL dry (bedAt bed i) (s i)) ≡ false) × (fastSide (sideR dry (bedAt bed i) (s i)) ≡ false)
 unfolding fastSides
-slow-sides n bed s e i l =
-    let b = bedAt bed i in let left = fastSide (sideL dryDepth b (s i)) in let right = fastSide (sideR dryDepth b (s i)) in
-    let f = some-none (fastSides bed s) n e i l in
+slow-sides dry n bed s e i l =
+    let b = bedAt bed i in let left = fastSide (sideL dry b (s i)) in let right = fastSide (sideR dry b (s i)) in
+    let f = some-none (fastSides dry bed s) n e i l in
     (or-l left right f, or-r left right f)
 
 module _ (reach : Reach) (call : Call) (bed : List ℤ) (ρ : ℕ → ℤ) (s : State) where
@@ -82,31 +81,31 @@ module _ (reach : Reach) (call : Call) (bed : List ℤ) (ρ : ℕ → ℤ) (s : 
     one-fast i l false true p q e = at-right i l q
     one-fast i l false false p q e = clash e
 
-    none-fast : some (fastSides bed s) n ≡ false → (i : ℕ) → i < suc n → fastFace r c s i ≡ false
+    none-fast : some (fastSides (call .dry) bed s) n ≡ false → (i : ℕ) → i < suc n → fastFace r c s i ≡ false
     unfolding fastFace
-    none-fast e zero l = slow-sides n bed s e zero o .0
+    none-fast e zero l = slow-sides (call .dry) n bed s e zero o .0
     none-fast e (suc i) l =
-        let p = slow-sides n bed s e i (omega arith) .1 in
-        by (eqb (suc i) n) (λ d. rw (p, d)) (λ d. rw (p, d) (slow-sides n bed s e (suc i) (inside i n (omega arith) d) .0))
+        let p = slow-sides (call .dry) n bed s e i (omega arith) .1 in
+        by (eqb (suc i) n) (λ d. rw (p, d)) (λ d. rw (p, d) (slow-sides (call .dry) n bed s e (suc i) (inside i n (omega arith) d) .0))
 
-    pub fast-faces : some (fastSides bed s) n ≡ some (fastFace r c s) (suc n)
+    pub fast-faces : some (fastSides (call .dry) bed s) n ≡ some (fastFace r c s) (suc n)
     unfolding fastSides fastL fastR
-    fast-faces = by (some (fastSides bed s) n)
-        (λ e. let f = some-yes (fastSides bed s) n e in let i = f .0 in e ∙ sym (one-fast i (f .1) (fastL i) (fastR i) refl refl (f .2)))
+    fast-faces = by (some (fastSides (call .dry) bed s) n)
+        (λ e. let f = some-yes (fastSides (call .dry) bed s) n e in let i = f .0 in e ∙ sym (one-fast i (f .1) (fastL i) (fastR i) refl refl (f .2)))
         (λ e. e ∙ sym (none-some (fastFace r c s) (suc n) (none-fast e)))
 
   -- ---- what crosses the faces of a table of sides is what crosses the faces of the state
-  pub cross-at : (d : List (List ℤ)) → Written [] d n (sidesAt bed s) → 0 < n → (i : ℕ) → i < suc n
+  pub cross-at : (d : List (List ℤ)) → Written [] d n (sidesAt (call .dry) bed s) → 0 < n → (i : ℕ) → i < suc n
       → crossAt reach call d i ≡ faceAt r c s i
   unfolding crossAt faceAt faceRight leftEnd rightEnd
-  cross-at d w o zero l = ap (λ (x : Side). face (outer (call .left) x) x) (left-in n bed s d w zero o)
-  cross-at d w o (suc i) l = let right = right-in n bed s d w i (omega arith) in
+  cross-at d w o zero l = ap (λ (x : Side). face (outer (call .left) x) x) (left-in (call .dry) n bed s d w zero o)
+  cross-at d w o (suc i) l = let right = right-in (call .dry) n bed s d w i (omega arith) in
       by (eqb (suc i) n)
       (λ e. rw e (ap (λ (x : Side). face x (outer (call .right) x)) right))
-      (λ e. rw e (ap₂ face right (left-in n bed s d w (suc i) (inside i n (omega arith) e))))
+      (λ e. rw e (ap₂ face right (left-in (call .dry) n bed s d w (suc i) (inside i n (omega arith) e))))
 
 -- ---- an update from rows is the rule's
-pub update-is : (dx dt : ℤ) (b : Bed) (x : Cell) (l f : Flux)
-    → updateBy dx dt b x (faceRow dx dt l) (faceRow dx dt f) (gauss dryDepth b x) ≡ update dx dt dryDepth b x l f
+pub update-is : (dx dt dry : ℤ) (b : Bed) (x : Cell) (l f : Flux)
+    → updateBy dx dt b x (faceRow dx dt l) (faceRow dx dt f) (gauss dry b x) ≡ update dx dt dry b x l f
 unfolding updateBy slopeOf thrust update pushOf tiltOf push tilt depthL depthR groundL groundR hl hr z1
-update-is dx dt b x l f = refl
+update-is dx dt dry b x l f = refl

@@ -15,7 +15,7 @@ use Rattle.whole.specs.Choice.{within-past}
 use Rattle.tables.specs.Some.{some}
 use Rattle.tables.specs.Rows.{Written}
 use Rattle.tables.specs.Cells.{Cell, asCell, seen, Holds}
-use Rattle.rules.specs.Limits.{dryDepth, deepest, fastest}
+use Rattle.rules.specs.Limits.{deepest, fastest}
 use Rattle.rules.specs.Face.{speed}
 use Rattle.rules.specs.Reach.{Reach, Call, State, Bed, h0, h1, hl, hr, ql, qr, sideL, sideR}
 use Rattle.rules.specs.Stage.{carried, gauss, flowBefore, flowBehind, depthBefore, depthBehind, stage}
@@ -35,29 +35,29 @@ use Rattle.stage.specs.Laws.RowsAreRules.{left-in, right-in, slow-sides}
 
 -- ---- sides that passed check 6
 -- a side of depth d, which is the depth h of the level over the bed
-sound : {d h : ℤ} (q : ℤ) → d ≡ h → pos 0 ≤ℤ h → h ≤ℤ deepest → past fastest (speed dryDepth q d) ≡ false
-    → Sound (record { h = d; u = speed dryDepth q d })
-sound {d} q e l m f = record {
+sound : (dry : ℤ) {d h : ℤ} (q : ℤ) → d ≡ h → pos 0 ≤ℤ h → h ≤ℤ deepest → past fastest (speed dry q d) ≡ false
+    → Sound (record { h = d; u = speed dry q d })
+sound dry {d} q e l m f = record {
   least = subst (λ (z : ℤ). pos 0 ≤ℤ z) (sym e) l;
   most = subst (λ (z : ℤ). z ≤ℤ deepest) (sym e) m;
-  speed = within-past 131072 (speed dryDepth q d) f;
+  speed = within-past 131072 (speed dry q d) f;
 }
 
-pub sounds : (n : ℕ) (bed : List ℤ) (s : State) → Ranged bed n s → some (fastSides bed s) n ≡ false
-    → (d : List (List ℤ)) → Written [] d n (sidesAt bed s) → Sounds d n
+pub sounds : (dry : ℤ) (n : ℕ) (bed : List ℤ) (s : State) → Ranged bed n s → some (fastSides dry bed s) n ≡ false
+    → (d : List (List ℤ)) → Written [] d n (sidesAt dry bed s) → Sounds d n
 unfolding sideL sideR hl hr
-sounds n bed s inside e d w i l =
-    let b = bedAt bed i in let x = s i in let f = cell-sizes (inside i l) .faces in let slow = slow-sides n bed s e i l in (
-      subst Sound (sym (left-in n bed s d w i l)) (sound (ql x) (depthL-is b x (f .left)) (f .left) (f .left-most) (slow .0)),
-      subst Sound (sym (right-in n bed s d w i l)) (sound (qr x) (depthR-is b x (f .right)) (f .right) (f .right-most) (slow .1)),
+sounds dry n bed s inside e d w i l =
+    let b = bedAt bed i in let x = s i in let f = cell-sizes (inside i l) .faces in let slow = slow-sides dry n bed s e i l in (
+      subst Sound (sym (left-in dry n bed s d w i l)) (sound dry (ql x) (depthL-is b x (f .left)) (f .left) (f .left-most) (slow .0)),
+      subst Sound (sym (right-in dry n bed s d w i l)) (sound dry (qr x) (depthR-is b x (f .right)) (f .right) (f .right-most) (slow .1)),
     )
 
 -- ---- Gauss points that passed check 6
-pub gauss-size : (b : Bed) (x : Cell) → Inside b x → fastPoints dryDepth b x ≡ false → UpTo mostMomentum (gauss dryDepth b x)
+pub gauss-size : (dry : ℤ) (b : Bed) (x : Cell) → Inside b x → fastPoints dry b x ≡ false → UpTo mostMomentum (gauss dry b x)
 unfolding gauss carried fastPoints
-gauss-size b x i e =
+gauss-size dry b x i e =
     let q = cell-sizes i .points in
-    let u = speed dryDepth (flowBefore x) (depthBefore b x) in let w = speed dryDepth (flowBehind x) (depthBehind b x) in
+    let u = speed dry (flowBefore x) (depthBefore b x) in let w = speed dry (flowBehind x) (depthBehind b x) in
     let u-in = within-past 131072 u (or-l (past fastest u) (past fastest w) e) in
     let w-in = within-past 131072 w (or-r (past fastest u) (past fastest w) e) in
     b-up 1073741824 (b-add (b-quot-by (pos 4096) (b-mul (q .ql) u-in)) (b-quot-by (pos 4096) (b-mul (q .qr) w-in))) tt

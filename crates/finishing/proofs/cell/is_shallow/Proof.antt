@@ -1,8 +1,7 @@
-use mathlib.Core.Path.{ap}
+use mathlib.Core.Path.{ap₂}
+use mir.Facts.{toZ-ofZ}
 use borrow.Author.Needs.{needs}
-use lib.IntN.{ℤ}
 use lib.Signed.{leZ}
-use Rattle.rules.specs.Limits.{dryDepth}
 use Rattle.rules.specs.Reach.{h0}
 use Rattle.reach.specs.Told.{bedIn}
 use Rattle.finishing.specs.Laws.Sizes.{z0-size}
@@ -17,7 +16,7 @@ returns : tie.Need-returns
 unfolding h0
 returns c =
     let s = c .before .before in
-    ap (λ (m : ℤ). leZ m dryDepth) (depth-is (s .pre .1) (z0-size (bedIn (s .args .b)) (s .pre .0)) (c .z0 .ensures))
+    ap₂ leZ (depth-is (s .pre .1) (z0-size (bedIn (s .args .b)) (s .pre .0)) (c .z0 .ensures)) (toZ-ofZ (s .fits .dry))
 
 pub is-shallow-spec : {M : Type 1} → statement M
 is-shallow-spec = tie.close (tie.spec (λ c. search needs) (λ c κs. search needs) sub-result returns)

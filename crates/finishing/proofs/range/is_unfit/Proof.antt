@@ -10,7 +10,7 @@ use lib.IntN.{pos}
 use Rattle.whole.specs.Flags.{or-last}
 use Rattle.whole.specs.Machine.{back}
 use Rattle.rules.specs.Limits.{largestJump}
-use Rattle.rules.specs.Refusals.{any, outside}
+use Rattle.rules.specs.Refusals.{any, outside, badDry}
 use Rattle.finishing.specs.Unfit.{hindrances, unfit}
 use Rattle.finishing.proofs.range.is_unfit.Statement.{statement}
 use Rattle.finishing.proofs.range.is_unfit.Tie as tie
@@ -42,6 +42,17 @@ jump c =
     let t = c .before in let s = t .before .before .before .before .before in
     sym (c .outside .ensures ∙ ap (outside (pos 0) largestJump) (back {z = s .args .call .jump} (omega arith)))
 
+abbrev start : tie.Else5 → tie.Start
+start c = c .before .before .before .before .before .before .before
+
+after-5 : (c : tie.Else5) → any (tests (start c)) ≡ any (drop 5 (tests (start c)))
+unfolding any
+after-5 c = let o = c .before in after-4 (o .before .before) ∙ rw (jump o ∙ c .if5 .left)
+
+-- what the test of the dry depth says
+dry : (c : tie.After-bad-dry) → badDry (start (c .before .before) .args .call .dry) ≡ c .bad-dry .result
+dry c = sym (c .bad-dry .ensures ∙ ap badDry (back {z = start (c .before .before) .args .call .dry} (omega arith)))
+
 -- ---- the answers
 returns : tie.Need-returns
 unfolding unfit any
@@ -69,14 +80,21 @@ returns-5 : tie.Need-returns-5
 unfolding unfit any
 returns-5 c = let o = c .before in sym (after-4 (o .before .before) ∙ rw (jump o ∙ c .if5 .taken))
 
-large-table-requires : tie.Need-large-table-requires
-large-table-requires c κs = search needs
+bad-dry-requires : tie.Need-bad-dry-requires
+bad-dry-requires c κs = search needs
 
 returns-6 : tie.Need-returns-6
 unfolding unfit any
-returns-6 c =
+returns-6 c = let o = c .before in sym (after-5 (o .before .before) ∙ rw (dry o ∙ c .if6 .taken))
+
+large-table-requires : tie.Need-large-table-requires
+large-table-requires c κs = search needs
+
+returns-7 : tie.Need-returns-7
+unfolding unfit any
+returns-7 c =
     let e = c .before in let o = e .before in
-    sym (after-4 (o .before .before) ∙ rw (jump o ∙ e .if5 .left) (sym (c .large-table .ensures ∙ or-last _)))
+    sym (after-5 (o .before .before) ∙ rw (dry o ∙ e .if6 .left) (sym (c .large-table .ensures ∙ or-last _)))
 
 pub is-unfit-spec : {M : Type 1} → statement M
 is-unfit-spec =
@@ -89,5 +107,7 @@ is-unfit-spec =
     returns-4
     outside-requires
     returns-5
+    bad-dry-requires
+    returns-6
     large-table-requires
-    returns-6)
+    returns-7)

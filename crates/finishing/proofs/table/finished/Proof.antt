@@ -2,11 +2,12 @@
 use mathlib.Core.Path.{sym, _∙_, subst}
 use mathlib.Core.List.{List}
 use Prim.Native.Nat.{ℕ}
+use native.Mathlib.Omega.{arith}
 use borrow.Author.Needs.{needs}
 use denote.Ref.{now}
 use lib.IntN.{ℤ, pos}
+use Rattle.whole.specs.Machine.{back}
 use Rattle.tables.specs.Cells.{asCell, asList, seen}
-use Rattle.rules.specs.Limits.{dryDepth}
 use Rattle.rules.specs.Finishing.{cut, dried, finish}
 use Rattle.reach.specs.Told.{reachIn, callOn, bedIn}
 use Rattle.reach.specs.Ranges.{UpTo, widest, Ground, Wide}
@@ -38,16 +39,16 @@ cut-cell-requires c κs = record { ground = ground (c .before); wide = limit-in 
 dried-cell-requires : tie.Need-dried-cell-requires
 unfolding cut
 dried-cell-requires c κs =
-    let l = c .before in
-    (ground (l .before), subst (λ (x : List ℤ). UpTo widest (asCell x .e0)) (sym (c .cut-cell .ensures)) (limit-in l .e0))
+    let k = c .before in let l = k .before in
+    (ground (l .before), subst (λ (x : List ℤ). UpTo widest (asCell x .e0)) (sym (k .cut-cell .ensures)) (limit-in l .e0))
 
 returns : tie.Need-returns
 unfolding finish
 returns c =
-    let k = c .before in let l = k .before in let b = l .before in
+    let t = c .before in let k = t .before in let l = k .before in let b = l .before in let dry = b .before .args .call .dry in
     λ ρ. c .dried-cell .ensures
-    ∙ (λ x. asList (dried dryDepth (bedIn (b .under .result)) (asCell (k .cut-cell .ensures x))))
-    ∙ (λ x. asList (dried dryDepth (b .under .ensures x) (cut (b .under .ensures x) (asCell (l .limit .ensures ρ x)))))
+    ∙ (λ x. asList (dried (back {z = dry} (omega (arith, t .struct-told .given)) x) (bedIn (b .under .result)) (asCell (k .cut-cell .ensures x))))
+    ∙ (λ x. asList (dried dry (b .under .ensures x) (cut (b .under .ensures x) (asCell (l .limit .ensures ρ x)))))
 
 pub finished-spec : {M : Type 1} → statement M
 finished-spec = tie.close (tie.spec under-requires limit-requires cut-cell-requires dried-cell-requires returns)

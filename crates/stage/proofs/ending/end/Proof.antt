@@ -23,6 +23,7 @@ module _ (f : tie.After-finish) where
     beds = s .pre .0 .1;
     jump-pos = s .pre .1 .0 .jump-pos;
     jump-in = s .pre .1 .0 .jump-in;
+    dry = s .pre .1 .0 .dry;
     cells = unfinished (now (a .bed)) (a .reach .n) (seen (now (a .u))) (s .pre .1 .1 .0) (s .pre .1 .1 .1);
   }))
 

@@ -8,7 +8,7 @@ use borrow.Author.Needs.{needs}
 use Rattle.whole.specs.Parts.{Within, b-nonneg, le-trans, lt-le, nat-nonneg}
 use Rattle.whole.specs.Choice.{sizeZ, b-size}
 use Rattle.whole.specs.Machine.{X, v, k, _⊗_, _⊘_, Entry, entry, need, value, divisor, g-var}
-use Rattle.rules.specs.Limits.{dryDepth, deepest, fastest}
+use Rattle.rules.specs.Limits.{leastDry, deepest, fastest}
 use Rattle.rules.specs.Friction.{cube, drag}
 use Rattle.rules.specs.Laws.Speeds.{cube-least, cube-most}
 use Rattle.reach.specs.Size.{sized as size-got}
@@ -19,7 +19,7 @@ use Rattle.stage.proofs.friction.drag_of.Statement.{statement}
 use Rattle.stage.proofs.friction.drag_of.Tie as tie
 
 module _ (s : tie.Start) where
-  depth : (dryDepth <ℤ s .args .h) × (s .args .h ≤ℤ deepest)
+  depth : (leastDry <ℤ s .args .h) × (s .args .h ≤ℤ deepest)
   depth = s .pre .1 .1 .0
 
   low : pos 0 ≤ℤ s .args .h
@@ -31,7 +31,7 @@ module _ (s : tie.Start) where
   cube-size : Within 16384 (cube (s .args .h))
   cube-size =
       let h = s .args .h in
-      b-nonneg (le-trans (nat-nonneg 256) (cube-least h (wet h (depth .0) (depth .1)) deep)) (cube-most h deep)
+      b-nonneg (le-trans (nat-nonneg 322) (cube-least h (depth .0) deep)) (cube-most h deep)
 
 cube-of-requires : tie.Need-cube-of-requires
 cube-of-requires c κs = simp (toZ-ofZ, c .fits .h) (low c, depth c .1)

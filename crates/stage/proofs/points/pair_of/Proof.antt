@@ -4,7 +4,6 @@ use mathlib.Core.List.{[], _∷_}
 use lib.IntN.{_+ℤ_, _-ℤ_}
 use mir.Facts.{toZ-ofZ}
 use Rattle.whole.specs.Machine.{back64}
-use Rattle.rules.specs.Limits.{dryDepth}
 use Rattle.rules.specs.Face.{speed}
 use Rattle.rules.specs.Stage.{carried}
 use Rattle.rules.specs.Laws.Speeds.{speed-size}
@@ -13,51 +12,51 @@ use Rattle.stage.proofs.points.pair_of.Statement.{statement}
 use Rattle.stage.proofs.points.pair_of.Tie as tie
 
 sub-before : tie.Need-sub-before
-sub-before c = simp (toZ-ofZ, c .fits .p, c .fits .q) (ql-fits (c .pre))
+sub-before c = simp (toZ-ofZ, c .fits .p, c .fits .q) (ql-fits (c .pre .0))
 
 add-behind : tie.Need-add-behind
-add-behind c = simp (toZ-ofZ, c .fits .p, c .fits .q) (qr-fits (c .pre))
+add-behind c = simp (toZ-ofZ, c .fits .p, c .fits .q) (qr-fits (c .pre .0))
 
 sub-speed-of : tie.Need-sub-speed-of
-sub-speed-of c = simp (toZ-ofZ, c .fits .m, c .fits .d) (left-fits (c .pre))
+sub-speed-of c = simp (toZ-ofZ, c .fits .m, c .fits .d) (left-fits (c .pre .0))
 
 speed-of-requires : tie.Need-speed-of-requires
-speed-of-requires c κs = simp (toZ-ofZ, c .fits .m, c .fits .d, c .fits .p, c .fits .q, ql-fits (c .pre), left-fits (c .pre))
-    (c .pre .ql, (c .pre .left, c .pre .left-most))
+speed-of-requires c κs = simp (toZ-ofZ, c .fits .m, c .fits .d, c .fits .p, c .fits .q, c .fits .dry, ql-fits (c .pre .0), left-fits (c .pre .0))
+    (c .pre .0 .ql, ((c .pre .0 .left, c .pre .0 .left-most), c .pre .1))
 
-u-is : (c : tie.After-speed-of) → let a = c .before .args in c .speed-of .result ≡ speed dryDepth (a .p -ℤ a .q) (a .m -ℤ a .d)
+u-is : (c : tie.After-speed-of) → let a = c .before .args in c .speed-of .result ≡ speed (a .dry) (a .p -ℤ a .q) (a .m -ℤ a .d)
 u-is c =
     let s = c .before in
-    simp (toZ-ofZ, s .fits .m, s .fits .d, s .fits .p, s .fits .q, ql-fits (s .pre), left-fits (s .pre)) at (c .speed-of .ensures)
+    simp (toZ-ofZ, s .fits .m, s .fits .d, s .fits .p, s .fits .q, s .fits .dry, ql-fits (s .pre .0), left-fits (s .pre .0)) at (c .speed-of .ensures)
 
 add-speed-of : tie.Need-add-speed-of
-add-speed-of c = let s = c .before in simp (toZ-ofZ, s .fits .m, s .fits .d) (right-fits (s .pre))
+add-speed-of c = let s = c .before in simp (toZ-ofZ, s .fits .m, s .fits .d) (right-fits (s .pre .0))
 
 speed-of-requires-2 : tie.Need-speed-of-requires-2
 speed-of-requires-2 c κs =
     let s = c .before in
-    simp (toZ-ofZ, s .fits .m, s .fits .d, s .fits .p, s .fits .q, qr-fits (s .pre), right-fits (s .pre))
-    (s .pre .qr, (s .pre .right, s .pre .right-most))
+    simp (toZ-ofZ, s .fits .m, s .fits .d, s .fits .p, s .fits .q, s .fits .dry, qr-fits (s .pre .0), right-fits (s .pre .0))
+    (s .pre .0 .qr, ((s .pre .0 .right, s .pre .0 .right-most), s .pre .1))
 
-w-is : (c : tie.After-speed-of2) → let a = c .before .before .args in c .speed-of2 .result ≡ speed dryDepth (a .p +ℤ a .q) (a .m +ℤ a .d)
+w-is : (c : tie.After-speed-of2) → let a = c .before .before .args in c .speed-of2 .result ≡ speed (a .dry) (a .p +ℤ a .q) (a .m +ℤ a .d)
 w-is c =
     let s = c .before .before in
-    simp (toZ-ofZ, s .fits .m, s .fits .d, s .fits .p, s .fits .q, qr-fits (s .pre), right-fits (s .pre)) at (c .speed-of2 .ensures)
+    simp (toZ-ofZ, s .fits .m, s .fits .d, s .fits .p, s .fits .q, s .fits .dry, qr-fits (s .pre .0), right-fits (s .pre .0)) at (c .speed-of2 .ensures)
 
 carried-both-requires : tie.Need-carried-both-requires
 carried-both-requires c κs =
-    let b = c .before in let s = b .before in let a = s .args in
+    let b = c .before in let s = b .before in let a = s .args in let r = s .pre .0 in
     simp (
       toZ-ofZ,
       s .fits .p,
       s .fits .q,
-      ql-fits (s .pre),
-      qr-fits (s .pre),
+      ql-fits (s .pre .0),
+      qr-fits (s .pre .0),
       back64 (b .speed-of .ok) (u-is b),
       back64 (c .speed-of2 .ok) (w-is c),
     ) (
-      (s .pre .ql, speed-size (a .p -ℤ a .q) (a .m -ℤ a .d) (s .pre .ql)),
-      (s .pre .qr, speed-size (a .p +ℤ a .q) (a .m +ℤ a .d) (s .pre .qr)),
+      (r .ql, speed-size (a .dry) (a .p -ℤ a .q) (a .m -ℤ a .d) (s .pre .1 .least) (r .ql)),
+      (r .qr, speed-size (a .dry) (a .p +ℤ a .q) (a .m +ℤ a .d) (s .pre .1 .least) (r .qr)),
     )
 
 returns : tie.Need-returns
@@ -67,7 +66,7 @@ returns c =
     let p = back64 (b .speed-of .ok) (u-is b) in
     let q = back64 (w .speed-of2 .ok) (w-is w) in
     λ i. p i ∷ q i ∷ back64 (c .carried-both .ok)
-    (simp (toZ-ofZ, s .fits .p, s .fits .q, ql-fits (s .pre), qr-fits (s .pre), p, q) at (c .carried-both .ensures)) i ∷ []
+    (simp (toZ-ofZ, s .fits .p, s .fits .q, ql-fits (s .pre .0), qr-fits (s .pre .0), p, q) at (c .carried-both .ensures)) i ∷ []
 
 pub pair-of-spec : {M : Type 1} → statement M
 pair-of-spec =

@@ -17,29 +17,31 @@ use Rattle.stage.proofs.points.points.Statement.{statement}
 use Rattle.stage.proofs.points.points.Tie as tie
 
 abbrev Inv-loop : tie.InvT-loop
-Inv-loop t bed g₀ n i₀ g i = Filling (pos 0) n (fastPointsAt bed (seen t)) (momentumAt bed (seen t)) g₀ g i
+Inv-loop t bed call g₀ n i₀ g i = Filling (pos 0) n (fastPointsAt (call .dry) bed (seen t)) (momentumAt (call .dry) bed (seen t)) g₀ g i
 
 abbrev μ-loop : tie.MeasureT-loop
-μ-loop t bed g₀ n i₀ g i = n - i
+μ-loop t bed call g₀ n i₀ g i = n - i
 
 loop-holds : tie.Need-loop-holds Inv-loop μ-loop
 loop-holds c = fill-none (pos 0) _ _ _ (now (c .args .g))
 
 points-of-requires : tie.Need-points-of-requires Inv-loop μ-loop
 points-of-requires c κs =
-    let b = c .before in let e = b .before in let l = e .before in let s = l .before in
-    rw (b .under .ensures) (s .pre .1 (l .loop .i) (e .loop-test .taken))
+    let b = c .before .before in let e = b .before in let l = e .before in let s = l .before in
+    rw (b .under .ensures, back {z = s .args .call .dry} (c .struct-told .given .1 .1 .0 .1))
+    (s .pre .1 .0 (l .loop .i) (e .loop-test .taken), s .pre .1 .1)
 
 -- what a turn finds: the row of its cell, and whether that is too fast
 row : (c : tie.After-points-of Inv-loop μ-loop) →
-    let l = c .before .before .before .before in
+    let l = c .before .before .before .before .before in
     let s = l .before in
-    c .points-of .result ≡ pointRow (bedAt (now (s .args .bed)) (l .loop .i)) (seen (now (s .args .t)) (l .loop .i))
-row c = let b = c .before .before in rw (b .under .ensures) at (c .points-of .ensures)
+    c .points-of .result ≡ pointRow (s .args .call .dry) (bedAt (now (s .args .bed)) (l .loop .i)) (seen (now (s .args .t)) (l .loop .i))
+row c = let k = c .before in let b = k .before .before in let s = b .before .before .before in
+    rw (b .under .ensures, back {z = s .args .call .dry} (k .struct-told .given .1 .1 .0 .1)) at (c .points-of .ensures)
 
 fast : (c : tie.After-either-fast Inv-loop μ-loop) →
-    let l = c .before .before .before .before .before .before .before in let s = l .before in
-    fastPointsAt (now (s .args .bed)) (seen (now (s .args .t))) (l .loop .i) ≡ c .either-fast .result
+    let l = c .before .before .before .before .before .before .before .before in let s = l .before in
+    fastPointsAt (s .args .call .dry) (now (s .args .bed)) (seen (now (s .args .t))) (l .loop .i) ≡ c .either-fast .result
 unfolding fastPoints pointRow
 fast c =
     let y = c .before in let x = y .before in
@@ -47,7 +49,7 @@ fast c =
 
 returns : tie.Need-returns Inv-loop μ-loop
 returns c =
-    let f = c .before in let e = f .before .before .before .before .before .before in let l = e .before in
+    let f = c .before in let e = f .before .before .before .before .before .before .before in let l = e .before in
     fill-stops (pos 0) _ _ _ _ (l .loop .g) (l .loop .i) (e .loop-test .taken) (l .loop .inv) (fast f ∙ c .if1 .taken)
 
 loop-again : tie.Need-loop-again Inv-loop μ-loop
@@ -56,7 +58,7 @@ loop-again c =
     let o = c .before in
     let f = o .before in
     let g = f .before .before .before in
-    let e = g .before .before .before in
+    let e = g .before .before .before .before in
     let l = e .before in
     let s = l .before in
     fill-more (pos 0) _ _ _ _ (l .loop .g) (l .loop .i) _ (s .pre .0 .1) (e .loop-test .taken) (l .loop .inv) (fast f ∙ o .if1 .left)

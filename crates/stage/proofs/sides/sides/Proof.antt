@@ -13,30 +13,32 @@ use Rattle.stage.proofs.sides.sides.Statement.{statement}
 use Rattle.stage.proofs.sides.sides.Tie as tie
 
 abbrev Inv-loop : tie.InvT-loop
-Inv-loop t bed d₀ n i₀ d i = Filling [] n (fastSides bed (seen t)) (sidesAt bed (seen t)) d₀ d i
+Inv-loop t bed call d₀ n i₀ d i = Filling [] n (fastSides (call .dry) bed (seen t)) (sidesAt (call .dry) bed (seen t)) d₀ d i
 
 abbrev μ-loop : tie.MeasureT-loop
-μ-loop t bed d₀ n i₀ d i = n - i
+μ-loop t bed call d₀ n i₀ d i = n - i
 
 loop-holds : tie.Need-loop-holds Inv-loop μ-loop
 loop-holds c = fill-none [] _ _ _ (now (c .args .d))
 
 sides-of-requires : tie.Need-sides-of-requires Inv-loop μ-loop
 sides-of-requires c κs =
-    let b = c .before in let e = b .before in let l = e .before in let s = l .before in
-    rw (b .under .ensures) (s .pre .1 (l .loop .i) (e .loop-test .taken))
+    let b = c .before .before in let e = b .before in let l = e .before in let s = l .before in
+    rw (b .under .ensures, back {z = s .args .call .dry} (c .struct-told .given .1 .1 .0 .1))
+    (s .pre .1 .0 (l .loop .i) (e .loop-test .taken), s .pre .1 .1)
 
 -- what a turn finds: the row of its cell, and whether that is too fast
 row : (c : tie.After-sides-of Inv-loop μ-loop) →
-    let l = c .before .before .before .before in
+    let l = c .before .before .before .before .before in
     let s = l .before in
-    c .sides-of .result ≡ sidesAt (now (s .args .bed)) (seen (now (s .args .t))) (l .loop .i)
+    c .sides-of .result ≡ sidesAt (s .args .call .dry) (now (s .args .bed)) (seen (now (s .args .t))) (l .loop .i)
 unfolding sidesAt
-row c = let b = c .before .before in rw (b .under .ensures) at (c .sides-of .ensures)
+row c = let k = c .before in let b = k .before .before in let s = b .before .before .before in
+    rw (b .under .ensures, back {z = s .args .call .dry} (k .struct-told .given .1 .1 .0 .1)) at (c .sides-of .ensures)
 
 fast : (c : tie.After-either-fast Inv-loop μ-loop) →
-    let l = c .before .before .before .before .before .before .before in let s = l .before in
-    fastSides (now (s .args .bed)) (seen (now (s .args .t))) (l .loop .i) ≡ c .either-fast .result
+    let l = c .before .before .before .before .before .before .before .before in let s = l .before in
+    fastSides (s .args .call .dry) (now (s .args .bed)) (seen (now (s .args .t))) (l .loop .i) ≡ c .either-fast .result
 unfolding fastSides sidesAt
 fast c =
     let y = c .before in let x = y .before in
@@ -44,12 +46,12 @@ fast c =
 
 returns : tie.Need-returns Inv-loop μ-loop
 returns c =
-    let f = c .before in let e = f .before .before .before .before .before .before in let l = e .before in
+    let f = c .before in let e = f .before .before .before .before .before .before .before in let l = e .before in
     fill-stops [] _ _ _ _ (l .loop .d) (l .loop .i) (e .loop-test .taken) (l .loop .inv) (fast f ∙ c .if1 .taken)
 
 loop-again : tie.Need-loop-again Inv-loop μ-loop
 loop-again c =
-    let f = c .before in let g = f .before .before .before in let e = g .before .before .before in let l = e .before in let s = l .before in
+    let f = c .before in let g = f .before .before .before in let e = g .before .before .before .before in let l = e .before in let s = l .before in
     fill-more [] _ _ _ _ (l .loop .d) (l .loop .i) _ (s .pre .0 .1) (e .loop-test .taken) (l .loop .inv) (fast f ∙ c .if1 .left) (row g)
 
 returns-2 : tie.Need-returns-2 Inv-loop μ-loop

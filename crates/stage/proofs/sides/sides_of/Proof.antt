@@ -1,13 +1,13 @@
 -- The sides of a cell are those of its two depths and its two discharges.
+use borrow.Author.Needs.{needs}
 use Rattle.whole.specs.Machine.{back}
 use Rattle.rules.specs.Reach.{hl, hr, depthL, depthR, sideL, sideR}
-use borrow.Author.Needs.{needs}
 use Rattle.stage.specs.Laws.CellSizes.{cell-sizes}
 use Rattle.stage.proofs.sides.sides_of.Statement.{statement}
 use Rattle.stage.proofs.sides.sides_of.Tie as tie
 
 depths-requires : tie.Need-depths-requires
-depths-requires c κs = (c .pre .ground, cell-sizes (c .pre) .wide)
+depths-requires c κs = (c .pre .0 .ground, cell-sizes (c .pre .0) .wide)
 
 array-copy-out-row-of : tie.Need-array-copy-out-row-of
 array-copy-out-row-of c = search needs
@@ -30,14 +30,16 @@ row-of-requires c κs =
       back (a3 .row-of-arg3 .given),
       back (a4 .row-of-arg4 .given),
       d .depths .ensures,
+      back {z = s .args .dry} (s .fits .dry .sfits),
     )
-    (cell-sizes (s .pre) .faces)
+    (cell-sizes (s .pre .0) .faces, s .pre .1)
 
 returns : tie.Need-returns
 unfolding sideL sideR depthL depthR hl hr
 returns c =
     let a4 = c .before in let a3 = a4 .before in let a2 = a3 .before in let a1 = a2 .before in let d = a1 .before in
     rw (
+      back {z = d .before .args .dry} (d .before .fits .dry .sfits),
       back (a1 .row-of-arg .given),
       back (a2 .row-of-arg2 .given),
       back (a3 .row-of-arg3 .given),

@@ -3,7 +3,6 @@ use mathlib.Core.Path.{_≡_, _∙_}
 use mir.Facts.{toZ-ofZ}
 use borrow.Author.Needs.{needs}
 use Rattle.whole.specs.Machine.{back64}
-use Rattle.rules.specs.Limits.{dryDepth}
 use Rattle.rules.specs.Face.{speed}
 use Rattle.speeds.specs.Given.{given}
 use Rattle.speeds.specs.Answers.{valueOf, told, untold}
@@ -14,11 +13,12 @@ use Rattle.stage.proofs.sides.speed_of.Tie as tie
 speed-requires : tie.Need-speed-requires
 speed-requires c κs = search needs
 
-answer : (c : tie.After-speed) → valueOf (c .speed .result) ≡ given (speed dryDepth (c .before .args .q) (c .before .args .h))
+answer : (c : tie.After-speed) → let a = c .before .args in valueOf (c .speed .result) ≡ given (speed (a .dry) (a .q) (a .h))
 answer c =
     let s = c .before in
-    (simp (toZ-ofZ, s .fits .q, s .fits .h) at (c .speed .ensures))
-    ∙ speed-given (s .args .q) (s .args .h) (s .pre .0) (s .pre .1 .0) (s .pre .1 .1)
+    let depth = s .pre .1 .0 in
+    (simp (toZ-ofZ, s .fits .q, s .fits .h, s .fits .dry) at (c .speed .ensures))
+    ∙ speed-given (s .args .q) (s .args .h) (s .args .dry) (s .pre .0) (depth .0) (depth .1) (s .pre .1 .1)
 
 enum-known-u : tie.Need-enum-known-u
 enum-known-u c = search needs

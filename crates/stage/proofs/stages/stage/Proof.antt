@@ -30,9 +30,9 @@ module _ (e : tie.Else1) where
 
   -- the table of the sides
   abbrev d : List (List ℤ)
-  d = let tables = worked .sides .last .1 .1 .1 in tables .0
+  d = let tables = worked .sides .last .1 .1 .1 in tables .1 .0
 
-  slow-sides : some (fastSides (now (start .args .bed)) (state start)) (start .args .reach .n) ≡ false
+  slow-sides : some (fastSides (start .args .call .dry) (now (start .args .bed)) (state start)) (start .args .reach .n) ≡ false
   slow-sides = sym (worked .sides .ensures .stops) ∙ e .if1 .left
 
 module _ (e : tie.Else2) where
@@ -44,7 +44,7 @@ module _ (e : tie.Else2) where
 
   -- the table of the momenta
   abbrev g : List ℤ
-  g = let tables = pointed .points .last .1 .1 .1 in tables .0
+  g = let tables = pointed .points .last .1 .1 .1 in tables .1 .0
 
   slowed : let s = start sided in Slowed (s .args .reach) (s .args .call) (now (s .args .bed)) (state s) (d sided)
   slowed = let s = start sided in record {
@@ -73,7 +73,7 @@ faces-requires : tie.Need-faces-requires
 faces-requires c κs =
     let h = c .before .before in let p = slowed h in let s = start (sided h) in let a = s .args in (
       (s .pre .0 .0, omega arith, omega arith),
-      (s .pre .1 .1 .0, sounds (a .reach .n) (now (a .bed)) (state s) (s .pre .1 .1 .1) (p .slow-sides) (d (sided h)) (p .sides)),
+      (s .pre .1 .1 .0, sounds (a .call .dry) (a .reach .n) (now (a .bed)) (state s) (s .pre .1 .1 .1) (p .slow-sides) (d (sided h)) (p .sides)),
     )
 
 returns-3 : tie.Need-returns-3
@@ -98,7 +98,7 @@ module _ (t : tie.Else3) where
   rows : let a = start (sided passed) .args in Written [] f (suc (a .reach .n)) (faceRowAt (a .reach) (a .call) (d (sided passed)))
   rows = faced .faces .ensures .filled (t .if3 .left)
 
-  points : let s = start (sided passed) in Written (pos 0) (g passed) (s .args .reach .n) (momentumAt (now (s .args .bed)) (state s))
+  points : let s = start (sided passed) in Written (pos 0) (g passed) (s .args .reach .n) (momentumAt (s .args .call .dry) (now (s .args .bed)) (state s))
   points = pointed passed .points .ensures .filled (passed .if2 .left)
 
 update-requires : tie.Need-update-requires
@@ -111,7 +111,7 @@ update-requires c κs =
         (
           rows-sized (a .reach) (a .call) (now (a .bed)) (state s) (p .least) (given .1) (given .0) (p .slow-sides)
               (d (sided h)) (f t) (p .sides) (rows t),
-          (momenta (a .reach .n) (now (a .bed)) (state s) (given .1) (p .slow-points) (g h) (points t), given .0),
+          (momenta (a .call .dry) (a .reach .n) (now (a .bed)) (state s) (given .1) (p .slow-points) (g h) (points t), given .0),
         ),
       ),
     )

@@ -33,7 +33,7 @@ returns c = ready-stops (lent (c .before)) (c .if1 .taken) _
 ready-requires : tie.Need-ready-requires
 ready-requires c κs =
     let l = c .before .before in let b = l .before .before .before in
-    ((omega arith, b .pre .0 .0 .beds, b .pre .0 .3), l .load .ensures .wide)
+    ((omega arith, b .pre .0 .0 .beds, b .pre .0 .3), (l .load .ensures .wide, b .pre .0 .0 .numbers .dry))
 
 rub-requires : tie.Need-rub-requires
 rub-requires c κs = let e = c .before in let w = e .before in let b = s w in (
@@ -57,7 +57,7 @@ both-stages-requires c κs =
         (omega arith, omega arith, omega arith, omega arith, omega arith),
         (
           (omega arith, omega arith),
-          rubbed-ranged (lent w) (passed t .if1 .left) (t .rub .ensures) (b .pre .0 .0 .numbers .dt-pos),
+          rubbed-ranged (lent w) (passed t .if1 .left) (t .rub .ensures) (b .pre .0 .0 .numbers .dt-pos) (b .pre .0 .0 .numbers .dry .least),
         ),
       ),
     )

@@ -21,7 +21,7 @@ use Rattle.stage.proofs.worked.ready.Tie as tie
 
 -- the checks of a start
 abbrev list : tie.Start → List Check
-list s = readyChecks (s .args .reach .n) (now (s .args .bed)) (now (s .args .friction)) (seen (now (s .args .t)))
+list s = readyChecks (s .args .call .dry) (s .args .reach .n) (now (s .args .bed)) (now (s .args .friction)) (seen (now (s .args .t)))
 
 -- ---- the tests of the lent tables, which go over as many values as there are
 bed-test : (c : tie.After-bad-bed) → let s = c .before .before in
@@ -61,7 +61,7 @@ returns-2 : tie.Need-returns-2
 returns-2 c = let e = c .before .before in stops-at (list (one e)) 1 (bed-passed e, tt) (rough-test (c .before) ∙ c .if2 .taken)
 
 off-requires : tie.Need-off-requires
-off-requires c κs = let s = one (two c) in (s .pre .0 .0, λ i l. record { ground = ground (two c) i l; wide = s .pre .1 i l })
+off-requires c κs = let s = one (two c) in (s .pre .0 .0, λ i l. record { ground = ground (two c) i l; wide = s .pre .1 .0 i l })
 
 returns-3 : tie.Need-returns-3
 returns-3 c = let e = c .before .before in let d = two e in
@@ -78,7 +78,7 @@ module _ (c : tie.Else3) where
 
 fast-requires : tie.Need-fast-requires
 fast-requires c κs = let d = two (three c) in let s = one d in
-    (s .pre .0 .0, ranged (s .args .reach .n) (now (s .args .bed)) (seen (now (s .args .t))) (ground d) (range-passed c))
+    (s .pre .0 .0, (ranged (s .args .reach .n) (now (s .args .bed)) (seen (now (s .args .t))) (ground d) (range-passed c), s .pre .1 .1))
 
 returns-4 : tie.Need-returns-4
 returns-4 c = let g = c .before .before in let e = three g in let d = two e in

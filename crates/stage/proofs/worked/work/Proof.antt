@@ -54,8 +54,11 @@ returns c = let b = c .before .before .before in let p = b .args in record {
 
 -- ---- the numbers of the call, widened
 module _ (c : tie.After-bad-numbers) where
+  abbrev w4 : tie.After-widened4
+  w4 = c .before
+
   abbrev w3 : tie.After-widened3
-  w3 = c .before
+  w3 = w4 .before
 
   abbrev w2 : tie.After-widened2
   w2 = w3 .before
@@ -75,12 +78,15 @@ module _ (c : tie.After-bad-numbers) where
   jump-is : rd (w3 .widened3 .result) ≡ pos (s fit .args .given .jump)
   jump-is = back64 (w3 .widened3 .ok) (w3 .widened3 .ensures)
 
+  dry-is : rd (w4 .widened4 .result) ≡ pos (s fit .args .given .dry)
+  dry-is = back64 (w4 .widened4 .ok) (w4 .widened4 .ensures)
+
   abbrev rough : ℕ → ℤ
   rough i = pos (getD (now (s fit .args .friction)) i 0)
 
   judged : let p = s fit .args in
       c .bad-numbers .result ≡ badCall (reachIn (reachBy (n (s fit)) (p .given)) (now (p .bed))) (callOn (callBy (p .given)) rough)
-  judged = simp (dx-is, dt-is, jump-is) at (c .bad-numbers .ensures (now (s fit .args .bed)) rough)
+  judged = simp (dx-is, dt-is, jump-is, dry-is) at (c .bad-numbers .ensures (now (s fit .args .bed)) rough)
 
 returns-2 : tie.Need-returns-2
 returns-2 c = let m = c .before in let e = fit m in let p = s e .args in record {
@@ -102,6 +108,7 @@ module _ (e : tie.Else2) where
       (record {
         dt = rd (w2 m .widened2 .result);
         jump = rd (w3 m .widened3 .result);
+        dry = rd (w4 m .widened4 .result);
         left = start .args .given .left;
         right = start .args .given .right;
       })
@@ -117,7 +124,7 @@ module _ (e : tie.Else2) where
   lent = let p = start .args in lentBy (now (p .state)) (room start) (now (p .bed)) (now (p .friction)) (p .given)
 
   later : number lent
-      ≡ verdict (readyChecks (n start) (lent .bed) (lent .friction) (stateOf lent)
+      ≡ verdict (readyChecks (callOf lent .dry) (n start) (lent .bed) (lent .friction) (stateOf lent)
       ++ bothChecks (reachOf lent) (callOf lent) (stateOf lent))
   later = let p = start .args in
       later-checks (now (p .state)) (room start) (now (p .bed)) (now (p .friction)) (p .given)
@@ -128,14 +135,14 @@ short-step-requires c κs = let e = c .before .before in let f = fits (fit (m e)
 
 returns-3 : tie.Need-returns-3
 returns-3 c = let e = c .before .before .before .before in let w = m e in
-    rw (later e) (simp (dx-is w, dt-is w, jump-is w) at (c .before .short-step .ensures))
+    rw (later e) (simp (dx-is w, dt-is w, jump-is w, dry-is w) at (c .before .short-step .ensures))
 
 long-step-requires : tie.Need-long-step-requires
 long-step-requires c κs = let e = c .before .before in let f = fits (fit (m e)) in (in-order e, f .now, f .next, refl)
 
 returns-4 : tie.Need-returns-4
 returns-4 c = let e = c .before .before .before .before in let w = m e in
-    rw (later e) (simp (dx-is w, dt-is w, jump-is w) at (c .before .long-step .ensures))
+    rw (later e) (simp (dx-is w, dt-is w, jump-is w, dry-is w) at (c .before .long-step .ensures))
 
 pub work-spec : {M : Type 1} → statement M
 work-spec =
@@ -143,7 +150,7 @@ work-spec =
     (tie.spec
     (λ c κs. search needs)
     returns
-    (λ c κs. search needs) (λ c κs. search needs) (λ c κs. search needs) (λ c κs. search needs)
+    (λ c κs. search needs) (λ c κs. search needs) (λ c κs. search needs) (λ c κs. search needs) (λ c κs. search needs)
     returns-2
     short-step-requires
     (λ c. search needs)

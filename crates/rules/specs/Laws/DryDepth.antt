@@ -1,0 +1,89 @@
+-- What the dry depth of a call decides, in each place that reads it: water no deeper than it stands still.
+-- Who is spared by it stands in Limiter.
+-- Assumes nothing.
+use mathlib.Core.Path.{_≡_, _∙_, ap}
+use mathlib.Core.Bool.{true, false}
+use Prim.Native.Nat.{ℕ}
+use native.Mathlib.Omega.{arith}
+use lib.IntN.{ℤ, pos, _+ℤ_, _-ℤ_, _*ℤ_}
+use lib.Signed.{quotZ, _≤ℤ_}
+use Rattle.whole.specs.Difference.{at, lit, _⊠_, eq! }
+use Rattle.whole.specs.Quotient.{quot-nil}
+use Rattle.whole.specs.Choice.{sizeZ}
+use Rattle.whole.specs.Tests.{yes-le}
+use Rattle.tables.specs.Cells.{Cell}
+use Rattle.rules.specs.Face.{speed}
+use Rattle.rules.specs.Friction.{drag, slowed}
+use Rattle.rules.specs.Reach.{Reach, Call, State, Bed, under, h0, shallow, depthL, depthR, sideL, sideR}
+use Rattle.rules.specs.Stage.{atLeft, atRight, faceRight, faceAt, depthBefore, depthBehind, carried, gauss, tilt, update, stage}
+use Rattle.rules.specs.Finishing.{limit, cut, dried, finish}
+use Rattle.rules.specs.Step.{rub, rubbedCell, rubbed}
+use Rattle.rules.specs.Refusals.{fastCell, fastFriction, fastPoints, fastGauss}
+use Rattle.rules.specs.Laws.Speeds.{speed-dry}
+
+-- ---- friction on a cell, by the outcome of the test
+pub rub-dry : (dt d f : ℤ) (b : Bed) (x : Cell) (q : ℤ) → shallow d b x ≡ true → rub dt d f b x q ≡ q
+unfolding rub
+rub-dry dt d f b x q e = rw e
+
+pub rub-wet : (dt d f : ℤ) (b : Bed) (x : Cell) (q : ℤ) → shallow d b x ≡ false
+    → rub dt d f b x q ≡ slowed (drag dt f (h0 b x) (speed d (x .q0) (h0 b x))) q
+unfolding rub
+rub-wet dt d f b x q e = rw e
+
+-- ---- no speed, and so no momentum
+still : (d q h : ℤ) → h ≤ℤ d → speed d q h ≡ pos 0
+still d q h l = speed-dry d q h (yes-le h d l)
+
+carries-none : (d q h : ℤ) → h ≤ℤ d → carried d q h ≡ pos 0
+unfolding carried
+carries-none d q h l =
+    ap (λ (u : ℤ). quotZ (q *ℤ u) (pos 4096)) (still d q h l)
+    ∙ ap (λ (z : ℤ). quotZ z (pos 4096)) (eq! (at q ⊠ lit 0) (lit 0) (omega arith)) ∙ quot-nil (pos 4096)
+
+-- ---- cell i of a state, in a call
+module _ (r : Reach) (c : Call) (s : State) (i : ℕ) where
+  abbrev b : Bed
+  b = under r i
+
+  abbrev x : Cell
+  x = s i
+
+  -- a face no deeper has no speed,
+  pub still-left : depthL b x ≤ℤ c .dry → atLeft r c s i .u ≡ pos 0
+  unfolding sideL
+  still-left l = still (c .dry) _ (depthL b x) l
+
+  pub still-right : depthR b x ≤ℤ c .dry → atRight r c s i .u ≡ pos 0
+  unfolding sideR
+  still-right l = still (c .dry) _ (depthR b x) l
+
+  -- and Gauss points no deeper have none to check and no momentum to turn the discharge's slope
+  module _ (before : depthBefore b x ≤ℤ c .dry) (behind : depthBehind b x ≤ℤ c .dry) where
+    pub still-checked : fastGauss r c s i ≡ false
+    unfolding fastGauss fastPoints sizeZ
+    still-checked = rw (still (c .dry) _ (depthBefore b x) before, still (c .dry) _ (depthBehind b x) behind)
+
+    pub still-points : let l = faceAt r c s i in let f = faceRight r c s i in
+        stage r c s i .q1
+        ≡ x .q1 -ℤ quotZ (pos 3 *ℤ (f .A +ℤ l .A -ℤ pos 0) *ℤ c .dt) (r .dx)
+        -ℤ quotZ (pos 981 *ℤ tilt b x l f *ℤ c .dt) (pos 819200 *ℤ r .dx)
+    unfolding stage update gauss
+    still-points = rw (carries-none (c .dry) _ (depthBefore b x) before, carries-none (c .dry) _ (depthBehind b x) behind)
+
+  -- a cell no deeper is not checked by friction, nor slowed,
+  module _ (shallows : h0 b x ≤ℤ c .dry) where
+    pub friction-checks-none : fastFriction r c s i ≡ false
+    unfolding fastFriction fastCell sizeZ
+    friction-checks-none = rw (still (c .dry) (x .q0) (h0 b x) shallows)
+
+    pub friction-leaves : rubbed r c s i ≡ x
+    unfolding rubbed rubbedCell
+    friction-leaves = let e = yes-le (h0 b x) (c .dry) shallows in
+        let kept : (q : ℤ) → rub (c .dt) (c .dry) (c .rough i) b x q ≡ q = λ q. rub-dry (c .dt) (c .dry) (c .rough i) b x q e in
+        λ k. record { e0 = x .e0; e1 = x .e1; q0 = kept (x .q0) k; q1 = kept (x .q1) k }
+
+  -- and a finished cell no deeper has no discharge
+  pub finished-still : h0 b (finish r c s i) ≤ℤ c .dry → (finish r c s i .q0 ≡ pos 0) × (finish r c s i .q1 ≡ pos 0)
+  unfolding finish dried cut limit h0
+  finished-still l = let e = yes-le (h0 b x) (c .dry) l in (rw e, rw e)
