@@ -1,6 +1,8 @@
 """What rules said before a request amended them, to be compared with the model as it stands.
 
-`before.E2()` is a context in which the model's finishing is document 01's own.
+`before.E2()` is a context in which the model's finishing is document 01's own, at whatever dry
+depth.  `before.E3()` is one in which the model knows no dry depth: the argument is not looked at,
+and a fixed 4 stands in every place.  Where both are wanted, E2's is the inner one.
 """
 
 import contextlib
@@ -9,10 +11,71 @@ import model as m
 
 
 @contextlib.contextmanager
-def E2():
-    """01 limits a marked cell whatever stands next to it: none is spared."""
-    kept, m.spared = m.spared, lambda cells, call: [False] * len(cells)
+def replaced(**rules):
+    """The model with other functions of these names."""
+    kept = {name: getattr(m, name) for name in rules}
+    vars(m).update(rules)
     try:
         yield
     finally:
-        m.spared = kept
+        vars(m).update(kept)
+
+
+# ---- E2
+
+def none_spared(cells, call):
+    return [False] * len(cells)
+
+
+def E2():
+    """01 limits a marked cell whatever stands next to it: none is spared."""
+    return replaced(spared=none_spared)
+
+
+# ---- E3: each rule with the number that it had
+
+FIXED_DRY = 4
+
+
+def speed(q, h, dry):
+    if not (0 <= h <= m.DEEPEST and m.within(q, m.GREATEST_Q)):
+        return None
+    return 0 if h <= FIXED_DRY else m.quo(q * m.UNIT, h)
+
+
+def spared(cells, call):
+    shallow = [m.depth_mean(cell, call.bed[i], call.bed[i + 1]) <= FIXED_DRY for i, cell in enumerate(cells)]
+    return [any(shallow[max(0, i - 1):i + 2]) for i in range(len(cells))]
+
+
+def dried(cell, zl, zr, dry):
+    return cell._replace(q0=0, q1=0) if m.depth_mean(cell, zl, zr) <= FIXED_DRY else cell
+
+
+def friction(q0, q1, h0, f, dt, dry):
+    u = speed(q0, h0, dry)
+    if u is None or not m.within(u, m.FASTEST) or not m.within(q1, m.GREATEST_Q):
+        return None
+    if not (0 <= f <= m.ROUGHEST and 1 <= dt <= m.LONGEST_DT):
+        return None
+    x = m.friction_x(u, h0, f, dt) if h0 > FIXED_DRY else 0
+    return x, m.slowed(q0, x), m.slowed(q1, x)
+
+
+def check_friction_speeds(cells, call):
+    for i, cell in enumerate(cells):
+        h0 = m.depth_mean(cell, call.bed[i], call.bed[i + 1])
+        if h0 > FIXED_DRY:
+            m.checked_speed(cell.q0, h0, call.dry, "friction speed")
+
+
+def check_numbers(dx, dt, jump, dry, left, right):
+    if not (1 <= dx <= m.LONGEST_DX and 1 <= dt <= m.LONGEST_DT and 0 <= jump <= m.GREATEST_JUMP
+            and left in (m.WALL, m.OPEN) and right in (m.WALL, m.OPEN)):
+        raise m.Refused(2, "numbers")
+
+
+def E3():
+    """01 has a depth of 4 in every place, and the step is given no other."""
+    return replaced(speed=speed, spared=spared, dried=dried, friction=friction,
+                    check_friction_speeds=check_friction_speeds, check_numbers=check_numbers)

@@ -12,6 +12,10 @@ import before
 import hard
 import model as m
 
+DRY = 4     # the dry depth of 01's own numbers, which were fixed before E3
+DRY_DEPTHS = range(m.LEAST_DRY, m.MOST_DRY + 1)
+NOT_IN_LIST = (0, 65, 4294967295)
+
 passed = failed = 0
 
 
@@ -25,30 +29,30 @@ def case(name, found, wanted):
         print("FAILED  %s: found %s, wanted %s" % (name, found, wanted))
 
 
-# ---- "Numbers on either side"
+# ---- "Numbers on either side", at the dry depth that they were written for
 
 def rows():
     case("row 1: a(0), a(1), a(4096)", [m.wave_speed(h) for h in (0, 1, 4096)], [0, 200, 12829])
     case("row 2: c at h0 = 5, 4096", [m.cube_root(h) for h in (5, 4096)], [437, 4096])
-    case("row 3: speed of 5000 at 4, of 160 at 5", [m.speed(5000, 4), m.speed(160, 5)], [0, 131072])
-    fast = m.step([5, 0, 161, 0], 4, [0, 0], [0], 4096, 1, 0, 0, 0)
-    case("row 4: speed of 161 at 5, so refusal 6", [m.speed(161, 5), fast], [131891, ("refused", 6)])
+    case("row 3: speed of 5000 at 4, of 160 at 5", [m.speed(5000, 4, DRY), m.speed(160, 5, DRY)], [0, 131072])
+    fast = m.step([5, 0, 161, 0], 4, [0, 0], [0], 4096, 1, 0, DRY, 0, 0)
+    case("row 4: speed of 161 at 5, so refusal 6", [m.speed(161, 5, DRY), fast], [131891, ("refused", 6)])
     case("row 5: (0,0 | 0,0)", tuple(m.face(0, 0, 0, 0)), (0, 0, 0, 0))
     case("row 6: (4096,0 | 4096,0)", tuple(m.face(4096, 0, 4096, 0)), (0, 16777216, 0, 12829))
     case("row 7: (4096,0 | 0,0)", tuple(m.face(4096, 0, 0, 0)), (8552, 11184810, 0, 25658))
     case("row 8: (0,0 | 4096,0)", tuple(m.face(0, 0, 4096, 0)), (-8552, 11184810, 0, 25658))
     case("row 9: (4096,4096 | 4096,-4096)", tuple(m.face(4096, 4096, 4096, -4096)), (0, 16777216, 18973, 14877))
     case("row 10: (4096,20480 | 4096,20480)", tuple(m.face(4096, 20480, 4096, 20480)), (20480, 16777216, 102400, 33309))
-    case("row 11: friction on q 4096, h0 4096, value 30, dt 4096", m.friction(4096, 0, 4096, 30, 4096), (578, 4060, 0))
+    case("row 11: friction on q 4096, h0 4096, value 30, dt 4096", m.friction(4096, 0, 4096, 30, 4096, DRY), (578, 4060, 0))
     case("row 12: minmod(3,5,2), minmod(3,-1,2)", [m.minmod(3, 5, 2), m.minmod(3, -1, 2)], [2, 0])
 
 
 # ---- "Run by a program"
 
-def still(n, level, z, dx, dt, left=0, right=0):
-    """n flat cells of one level on a flat bed."""
+def still(n, level, z, dx, dt, dry=DRY):
+    """n flat cells of one level on a flat bed, between walls."""
     now = [level, 0, 0, 0] * n
-    return now, m.step(now, 4 * n, [z] * (n + 1), [0] * n, dx, dt, 0, left, right)
+    return now, m.step(now, 4 * n, [z] * (n + 1), [0] * n, dx, dt, 0, dry, 0, 0)
 
 
 def runs():
@@ -58,7 +62,7 @@ def runs():
     # 01 leaves the ends of this case open: the inner face decides, whatever they are
     dam = [4096, 0, 0, 0, 0, 0, 0, 0]
     ends = [(left, right) for left in (0, 1) for right in (0, 1)]
-    case("run: levels 4096 and 0, dt 327", [m.step(dam, 8, [0] * 3, [0] * 2, 4096, 327, 0, *e) for e in ends],
+    case("run: levels 4096 and 0, dt 327", [m.step(dam, 8, [0] * 3, [0] * 2, 4096, 327, 0, DRY, *e) for e in ends],
          [("refused", 7)] * 4)
     now, answer = still(1024, 4096, 0, 4096, 653)
     case("run: 1,024 cells", answer, ("accepted", now, 0, 0))
@@ -73,7 +77,7 @@ def runs():
 
 def limits():
     h, q, u = 262144, 8388608, 131072
-    case("limits: speed", [m.speed(q, h), m.speed(-q, h), m.speed(q + 1, h), m.speed(-q - 1, h), m.speed(0, -1), m.speed(0, h + 1)],
+    case("limits: speed", [m.speed(*a, DRY) for a in ((q, h), (-q, h), (q + 1, h), (-q - 1, h), (0, -1), (0, h + 1))],
          [131072, -131072, None, None, None, None])
     case("limits: wave speed and cube root",
          [f(x) for f in (m.wave_speed, m.cube_root) for x in (-1, h, h + 1)], [None, 102632, None, None, 16384, None])
@@ -83,17 +87,17 @@ def limits():
          [True, True, True, True, False])
     case("limits: face, speeds at depth 0", tuple(m.face(0, u, 0, -u)), (0, 0, 0, 0))
     # q 161 at depth 5 is too fast; at depth 4 it has no speed
-    case("limits: friction", [m.friction(*a) for a in ((160, 0, 5, 0, 1), (161, 0, 5, 0, 1), (161, 0, 4, 200, 1), (0, q + 1, 9, 0, 1),
-                                                       (0, 0, 9, 201, 1), (0, 0, 9, 0, 0), (0, 0, 9, 0, 4097), (0, 0, h + 1, 0, 1))],
+    case("limits: friction", [m.friction(*a, DRY) for a in ((160, 0, 5, 0, 1), (161, 0, 5, 0, 1), (161, 0, 4, 200, 1), (0, q + 1, 9, 0, 1),
+                                                            (0, 0, 9, 201, 1), (0, 0, 9, 0, 0), (0, 0, 9, 0, 4097), (0, 0, h + 1, 0, 1))],
          [(0, 160, 0), None, (0, 161, 0)] + [None] * 5)
 
 
 # ---- E2: who is spared, and what becomes of the cells
 
-def spared_at(*depths):
+def spared_at(*depths, dry=DRY):
     """Which of some flat cells on a flat bed are spared: an s for one that is."""
     n = len(depths)
-    kept = m.spared([m.Cell(h, 0, 0, 0) for h in depths], m.Call(n, [0] * (n + 1), [0] * n, 1, 1, 0, 0, 0))
+    kept = m.spared([m.Cell(h, 0, 0, 0) for h in depths], m.Call(n, [0] * (n + 1), [0] * n, 1, 1, 0, dry, 0, 0))
     return "".join("s" if k else "-" for k in kept)
 
 
@@ -106,7 +110,7 @@ def bank(depth, turned=False):
     cells, bed = [m.Cell(1000, -20, 7, 3), m.Cell(1100 + depth, 202, 5, 1)], [400, 900, 1300]
     if turned:
         cells, bed = mirrored(cells), bed[::-1]
-    done = m.finished(cells, m.Call(2, bed, [0, 0], 1, 1, 0, 0, 0))
+    done = m.finished(cells, m.Call(2, bed, [0, 0], 1, 1, 0, DRY, 0, 0))
     return [tuple(c) for c in (mirrored(done) if turned else done)]
 
 
@@ -132,14 +136,14 @@ def held(finished, seen):
         bed, marked = call.bed, m.marks(cells, call.jump)
         depths = [cell.e0 - (bed[i] + bed[i + 1]) // 2 for i, cell in enumerate(cells)]
         for i, cell in enumerate(cells):
-            if min(depths[max(0, i - 1):i + 2]) > 4:
+            if min(depths[max(0, i - 1):i + 2]) > call.dry:
                 seen["limited"] += marked[i]
                 seen["not as before"] += done[i] != old[i]
             else:
                 seen["spared"] += marked[i]
                 seen["otherwise than before"] += done[i] != old[i]
-                seen["not kept"] += done[i] != m.dried(m.cut(cell, bed[i], bed[i + 1]), bed[i], bed[i + 1])
-        if min(depths) > 4:
+                seen["not kept"] += done[i] != m.dried(m.cut(cell, bed[i], bed[i + 1]), bed[i], bed[i + 1], call.dry)
+        if min(depths) > call.dry:
             seen["deep states"] += 1
             seen["not as before"] += done != old
         return done
@@ -147,13 +151,10 @@ def held(finished, seen):
 
 
 def sparing_holds(seed, count):
-    seen, plain = Counter(), m.finished
-    m.finished = held(plain, seen)
-    try:
+    seen = Counter()
+    with before.replaced(finished=held(m.finished, seen)):
         for call in hard.calls(seed, count):
             m.step(*call)
-    finally:
-        m.finished = plain
     case("E2: %d marked cells by a shallow one keep their slopes but for the cut and the drying, %d otherwise than before"
          % (seen["spared"], seen["otherwise than before"]), seen["not kept"], 0)
     case("E2: %d other marked cells and %d states without a shallow cell are finished as before"
@@ -162,11 +163,70 @@ def sparing_holds(seed, count):
          min(seen["spared"], seen["otherwise than before"], seen["limited"], seen["deep states"]) >= count // 10, True)
 
 
+# ---- E3: the list of dry depths, each place where one stands, and the step as it was with 4
+
+def dry_list():
+    case("E3: a step with a dry depth of 0, 65, 4294967295", [still(2, 900, 0, 4096, 653, d)[1] for d in NOT_IN_LIST],
+         [("refused", 2)] * 3)
+    still_there = [still(2, 900, 0, 4096, 653, d) for d in DRY_DEPTHS]
+    case("E3: a step with a dry depth of 1 to 64", [answer for _, answer in still_there],
+         [("accepted", now, 0, 0) for now, _ in still_there])
+    case("E3: speed and friction refuse the same", [(m.speed(0, 900, d), m.friction(0, 0, 900, 0, 1, d)) for d in (-1, *NOT_IN_LIST)],
+         [(None, None)] * 4)
+
+
+def at_and_over(rule):
+    """What a rule of a depth and a dry depth says of each dry depth and of one unit more."""
+    return [(rule(d, d), rule(d + 1, d)) for d in DRY_DEPTHS]
+
+
+def dry_places():
+    case("E3: speed at each dry depth and one over it", at_and_over(lambda h, d: m.speed(-5000, h, d)),
+         [(0, -(20480000 // (d + 1))) for d in DRY_DEPTHS])
+    case("E3: friction likewise", at_and_over(lambda h, d: m.friction(32, 9, h, 200, 4096, d)[0] > 0), [(False, True)] * 64)
+    case("E3: drying likewise", at_and_over(lambda h, d: m.dried(m.Cell(h, 0, 7, 3), 0, 0, d)[2:]), [((0, 0), (7, 3))] * 64)
+    case("E3: sparing likewise", at_and_over(lambda h, d: spared_at(900, h, dry=d)), [("ss", "--")] * 64)
+
+
+def greatest_x():
+    """Friction is strongest in the thinnest water that has a speed, at the greatest speed that passes check 6."""
+    x, q0, q1 = m.friction(64, 8388544, 2, 200, 4096, 1)
+    case("E3: the greatest x of friction, at a dry depth of 1 and a depth of 2", (x, q0, q1), (21438427962, 32, 4194278))
+    others = [m.friction_x(m.FASTEST, h, m.ROUGHEST, m.LONGEST_DT) for h in [*range(3, 3000), *range(3000, m.DEEPEST + 1, 101)]]
+    case("E3: no deeper water has so great an x", max(others) < x, True)
+    case("E3: x is at most 21474836480, and its product with a discharge at most 1.8e17",
+         (x <= 21474836480, m.GREATEST_Q * (65536 + x) <= 18 * 10 ** 16), (True, True))
+
+
+def with_dry(call, dry):
+    return call[:7] + (dry,) + call[8:]
+
+
+def four_holds(seed, count):
+    seen = Counter()
+    for call in hard.calls(seed, count):
+        found = m.step(*with_dry(call, DRY))
+        with before.E3():
+            old = m.step(*call)
+        seen["otherwise"] += found != old
+        seen["accepted"] += old[0] == "accepted"
+        decided = m.step(*call) != old
+        seen["decided"] += decided and m.dry_in_list(call[7])
+        seen["refused"] += decided and not m.dry_in_list(call[7])
+    case("E3: with 4 the step answers as before it, in %d calls, of which %d accepted" % (count, seen["accepted"]), seen["otherwise"], 0)
+    case("E3: their own dry depth decides %d of the calls, and its being outside the list %d" % (seen["decided"], seen["refused"]),
+         seen["decided"] >= count // 20 and seen["refused"] >= count // 200, True)
+
+
 # ---- Demand 3 on random calls
 
+def depths(now, bed):
+    """The mean depth of each cell."""
+    return [now[4 * i] - (bed[i] + bed[i + 1]) // 2 for i in range(len(bed) - 1)]
+
+
 def water(now, bed):
-    """The sum of mean depths."""
-    return sum(now[4 * i] - (bed[i] + bed[i + 1]) // 2 for i in range(len(bed) - 1))
+    return sum(depths(now, bed))
 
 
 def watched(check_range, seen):
@@ -186,20 +246,16 @@ def watched(check_range, seen):
 
 def calls_hold(seed, count):
     accepted = unbalanced = leaking = 0
-    seen = dict(depths=0, below=0, corrected=0)
-    plain = m.check_range
-    m.check_range = watched(plain, seen)
-    try:
+    seen = Counter()
+    with before.replaced(check_range=watched(m.check_range, seen)):
         for call in hard.calls(seed, count):
-            now, _, bed, _, _, _, _, left, right = call
+            now, _, bed, _, _, _, _, _, left, right = call
             answer = m.step(*call)
             if answer[0] == "accepted":
                 accepted += 1
                 _, new, W0, Wn = answer
                 unbalanced += water(new, bed) != water(now, bed) + W0 - Wn
                 leaking += (left == 0 and W0 != 0) or (right == 0 and Wn != 0)
-    finally:
-        m.check_range = plain
     case("demand 3: water sum over %d accepted of %d random calls" % (accepted, count), unbalanced, 0)
     case("demand 3: nothing passes a wall, same calls", leaking, 0)
     case("demand 3: no depth below nought in %d finished cells, refused ones too" % seen["depths"], seen["below"], 0)
@@ -216,7 +272,7 @@ def at_rest(rnd, n):
         level = 2 * rnd.randint(0, m.HIGHEST_BED // 2)
         low = max(0, level - m.DEEPEST) if wet else 0
         if wet and rnd.randrange(2):
-            low = max(low, level - 20000)
+            low = max(low, level - rnd.choice((20000, 40)))      # the second, with depths about a dry depth
         high = level if wet else m.HIGHEST_BED
         for j in range(at + (at > 0), at + k + 1):
             bed[j] = 2 * rnd.randint((low + 1) // 2, high // 2)
@@ -237,7 +293,7 @@ def at_rest(rnd, n):
 
 def rest_holds(seed, count):
     rnd = random.Random(seed)
-    accepted = moved = otherwise = 0
+    accepted = moved = otherwise = shallow = 0
     for _ in range(count):
         n = rnd.choice((1, 2, 3, 5, 16))
         now, bed = at_rest(rnd, n)
@@ -245,41 +301,60 @@ def rest_holds(seed, count):
         for _ in range(3):
             dt = rnd.choice((1, rnd.randint(1, m.LONGEST_DT)))
             friction = [rnd.randint(0, m.ROUGHEST) for _ in range(n)]
-            jump = rnd.choice((0, 0, rnd.randint(0, m.GREATEST_JUMP)))
-            answer = m.step(now, 4 * n, bed, friction, dx, dt, jump, rnd.randrange(2), rnd.randrange(2))
+            jump, dry = rnd.choice((0, 0, rnd.randint(0, m.GREATEST_JUMP))), hard.dry_depths(rnd)
+            answer = m.step(now, 4 * n, bed, friction, dx, dt, jump, dry, rnd.randrange(2), rnd.randrange(2))
             if answer[0] == "accepted":
                 accepted += 1
+                shallow += any(0 < h <= dry for h in depths(now, bed))
                 moved += answer != ("accepted", now, 0, 0)
             else:
                 otherwise += answer != ("refused", 7)
-    case("demand 3: lake at rest stays, %d accepted of %d steps" % (accepted, 3 * count), moved, 0)
+    case("demand 3: lake at rest stays, %d accepted of %d steps, %d with water no deeper than the dry depth"
+         % (accepted, 3 * count, shallow), moved, 0)
     case("demand 3: a lake at rest is refused by 7 alone", otherwise, 0)
-    case("lakes at rest: at least half accepted", 2 * accepted >= 3 * count, True)
+    case("lakes at rest: at least half accepted, one in ten so shallow", 2 * accepted >= 3 * count and 10 * shallow >= accepted, True)
+
+
+def drawn_run(rnd, n):
+    """A bed and a state over it: ordinary water, or water about as deep as the dry depths are."""
+    bed = [2 * rnd.randrange(300) for _ in range(n + 1)]
+    least, most, fast = rnd.choice(((600, 9000, 4000), (0, 90, 2000), (0, 90, 2000)))
+    now = []
+    for zl, zr in zip(bed, bed[1:]):
+        h = rnd.randint(least, most)
+        now += hard.placed(zl, zr, *hard.flowing(rnd, h, rnd.randint(-h // 9, h // 9), fast))
+    return bed, now
+
+
+def stepped(rnd, now, bed, dx, seen):
+    """The state after at most twelve steps, and what the ends brought in all."""
+    n, brought = len(bed) - 1, 0
+    for _ in range(12):
+        friction = [rnd.randint(0, 60) for _ in range(n)]
+        call = (now, 4 * n, bed, friction, dx, rnd.randint(1, 1 + dx // 20 % 4096), rnd.choice((0, 10, 999)),
+                hard.dry_depths(rnd), rnd.randrange(2), rnd.randrange(2))
+        answer = m.step(*call)
+        if answer[0] == "refused":
+            break
+        seen["steps"] += 1
+        seen["decided"] += m.step(*with_dry(call, DRY)) != answer
+        _, now, W0, Wn = answer
+        brought += W0 - Wn
+    return now, brought
 
 
 def runs_hold(seed, count):
-    """Several steps of one bed, n and dx; dt, J, friction and ends differ from step to step."""
-    rnd = random.Random(seed)
-    steps = wrong = 0
-    for _ in range(count):
-        n = rnd.choice((1, 2, 3, 16))
-        bed = [2 * rnd.randrange(300) for _ in range(n + 1)]
-        now = []
-        for zl, zr in zip(bed, bed[1:]):
-            h = rnd.randint(600, 9000)
-            now += hard.placed(zl, zr, *hard.flowing(rnd, h, rnd.randint(-h // 9, h // 9), 4000))
-        dx, start, passed_in = rnd.randint(1, 60000), water(now, bed), 0
-        for _ in range(12):
-            friction = [rnd.randint(0, 60) for _ in range(n)]
-            answer = m.step(now, 4 * n, bed, friction, dx, rnd.randint(1, 1 + dx // 20 % 4096), rnd.choice((0, 10, 999)),
-                            rnd.randrange(2), rnd.randrange(2))
-            if answer[0] == "refused":
-                break
-            steps += 1
-            _, now, W0, Wn = answer
-            passed_in += W0 - Wn
-        wrong += water(now, bed) != start + passed_in
-    case("demand 3: water sum over runs, %d accepted steps in %d runs" % (steps, count), wrong, 0)
+    """Several steps of one bed, n and dx; dt, J, dry depth, friction and ends differ from step to step."""
+    rnd, seen, wrong = random.Random(seed), Counter(), 0
+    with before.replaced(check_range=watched(m.check_range, seen)):
+        for _ in range(count):
+            bed, now = drawn_run(rnd, rnd.choice((1, 2, 3, 16)))
+            end, brought = stepped(rnd, now, bed, rnd.randint(1, 60000), seen)
+            wrong += water(end, bed) != water(now, bed) + brought
+    case("demand 3: water sum over runs, %d accepted steps in %d runs, the dry depth another in each" % (seen["steps"], count), wrong, 0)
+    case("demand 3: no depth below nought in their %d finished cells, refused ones too" % seen["depths"], seen["below"], 0)
+    case("runs: of the steps, six and more a run, the dry depth decides %d, at least one in ten" % seen["decided"],
+         seen["steps"] >= 6 * count and 10 * seen["decided"] >= seen["steps"], True)
 
 
 def main():
@@ -288,9 +363,13 @@ def main():
     limits()
     sparing()
     sparing_holds(6, 1500)
+    dry_list()
+    dry_places()
+    greatest_x()
+    four_holds(7, 2000)
     calls_hold(3, 3000)
     rest_holds(4, 800)
-    runs_hold(5, 150)
+    runs_hold(5, 250)
     print("%d passed, %d failed" % (passed, failed))
     return 1 if failed else 0
 

@@ -2,7 +2,7 @@
 
 calls(seed, count) yields the arguments of model.step, faces(seed, count) those of
 model.face.  Every table value fits its lent type (i32, u16), every other argument
-is at or above nought and fits an i32, so that each call can be made of the library.
+of the step a u32 and of a face an i32, so that each call can be made of the library.
 
 Run as a script it prints how the answers are spread:  hard.py [seed [count]]
 """
@@ -15,6 +15,19 @@ from collections import Counter
 import model as m
 
 I32 = 2 ** 31
+
+
+# ---- Dry depths
+
+def dry_depths(rnd):
+    """That of before E3, one beside it or at an end of the list, or any."""
+    return rnd.choice((4, rnd.choice((1, 2, 3, 5, 63, 64)),
+                       rnd.randint(m.LEAST_DRY, m.MOST_DRY), rnd.randint(m.LEAST_DRY, m.MOST_DRY)))
+
+
+def about(rnd, dry):
+    """A depth just above the dry depth, just below, or the same."""
+    return rnd.randint(dry - 1, dry + 2)
 
 
 # ---- Beds
@@ -38,7 +51,7 @@ def beds(rnd, n):
     return [rnd.choice((0, 0, 2, m.HIGHEST_BED, m.HIGHEST_BED - 2)) for _ in range(n + 1)]
 
 
-# ---- Cells, given as depth mean and slope, discharge mean and slope
+# ---- Cells of a reach with some dry depth, given as depth mean and slope, discharge mean and slope
 
 def flowing(rnd, h0, h1, fast):
     """Discharges that give each face a speed of at most about `fast`."""
@@ -50,38 +63,38 @@ def flowing(rnd, h0, h1, fast):
     return h0, h1, q0, qr - q0 if rnd.randrange(4) else 0
 
 
-def still_bed(rnd, fast):
+def still_bed(rnd, fast, dry):
     """Depth 0; sometimes with a discharge that no face can show."""
     if rnd.randrange(8):
         return 0, 0, 0, 0
     return 0, 0, rnd.randint(-m.GREATEST_Q // 2, m.GREATEST_Q // 2), rnd.randint(-99, 99)
 
 
-def thin(rnd, fast):
-    h0 = rnd.randint(0, 12)
+def thin(rnd, fast, dry):
+    h0 = rnd.choice((about(rnd, dry), rnd.randint(0, dry + 8)))
     return flowing(rnd, h0, rnd.randint(-h0, h0), fast)
 
 
-def shallow(rnd, fast):
-    h0 = rnd.randint(5, 400)
+def shallow(rnd, fast, dry):
+    h0 = rnd.randint(dry + 1, 400)
     h1 = rnd.choice((0, h0, -h0, rnd.randint(-h0, h0), rnd.randint(-h0, h0)))
     return flowing(rnd, h0, h1, fast)
 
 
-def ordinary(rnd, fast):
+def ordinary(rnd, fast, dry):
     h0 = rnd.randint(400, 20000)
     most = h0 // rnd.choice((1, 4, 50))
     return flowing(rnd, h0, rnd.randint(-most, most), fast)
 
 
-def deep(rnd, fast):
+def deep(rnd, fast, dry):
     """Near the depth limit at one face or both."""
     top = m.DEEPEST - rnd.choice((0, 1, 3, 500, 9000))
     h1 = rnd.choice((0, 0, rnd.randint(-top // 2, top // 2)))
     return flowing(rnd, top - abs(h1), h1, fast)
 
 
-def full(rnd, fast):
+def full(rnd, fast, dry):
     """Near the discharge limit: deep enough that the speed still fits."""
     h0 = rnd.randint(m.DEEPEST // 4, m.DEEPEST)
     q1 = rnd.randint(-9, 9)
@@ -89,9 +102,9 @@ def full(rnd, fast):
     return h0, 0, rnd.choice((-1, 1)) * (most - rnd.choice((0, 1, 5, 4000))), q1
 
 
-def racing(rnd, fast):
+def racing(rnd, fast, dry):
     """Mean, face or Gauss speed at 131,072 or a little to either side of it."""
-    h0 = rnd.randint(5, rnd.choice((40, 4000, 200000)))
+    h0 = rnd.randint(dry + 1, rnd.choice((dry + 36, 4000, 200000)))
     h1 = rnd.choice((0, 0, rnd.randint(-h0 // 2, h0 // 2)))
     q0 = 32 * h0 + rnd.choice((-40, -1, 0, 0, 0, h0 // m.UNIT, 1 + h0 // m.UNIT))
     q1 = 32 * h1 + rnd.choice((0, 0, -1, 1))
@@ -143,7 +156,7 @@ def lake(rnd, bed):
     return now
 
 
-def states(rnd, bed):
+def states(rnd, bed, dry):
     n = len(bed) - 1
     if rnd.randrange(12) == 0:
         now = lake(rnd, bed)
@@ -154,11 +167,11 @@ def states(rnd, bed):
     fast = rnd.choice((0, 60, 2000, 2000, 9000, 30000, m.FASTEST))
     now = []
     for zl, zr in zip(bed, bed[1:]):
-        now += placed(zl, zr, *rnd.choice(mix)(rnd, fast))
+        now += placed(zl, zr, *rnd.choice(mix)(rnd, fast, dry))
     return now
 
 
-def gentle(rnd, n):
+def gentle(rnd, n, dry):
     """A reach with nothing extreme in it, as a long random one is refused nearly always."""
     bed = [2 * rnd.randrange(20000)]
     for _ in range(n):
@@ -170,7 +183,7 @@ def gentle(rnd, n):
     return bed, now
 
 
-def shore(rnd, n):
+def shore(rnd, n, dry):
     """Water sloping evenly down to a bank, which is dry or about as deep as the dry depth."""
     # the whole rise stays within what a cell may be deep, in the longest reach too
     bed, rise = [2 * rnd.randrange(20000)], min(rnd.choice((0, 10, 100, 1000)), 100000 // n)
@@ -182,7 +195,7 @@ def shore(rnd, n):
         if i < edge:
             h0, h1 = level + fall * (2 * (edge - i) - 1) - (zl + zr) // 2, -fall - (zr - zl) // 2
         else:
-            h0 = rnd.choice((0, rnd.randint(m.DRY - 1, m.DRY + 2)))
+            h0 = rnd.choice((0, about(rnd, dry)))
             h1 = rnd.randint(-h0, h0)
         now.append(placed(zl, zr, *flowing(rnd, h0, h1, fast)))
     if rnd.randrange(2):        # the bank on the left
@@ -193,10 +206,10 @@ def shore(rnd, n):
 
 # ---- dx, dt and J, chosen against the state
 
-def greatest_S(now, bed, friction, dt, left, right):
+def greatest_S(now, bed, friction, dt, dry, left, right):
     """The greatest S of stage one, or None where it refuses earlier."""
     n = len(friction)
-    call = m.Call(n, bed, friction, m.LONGEST_DX, dt, 0, left, right)
+    call = m.Call(n, bed, friction, m.LONGEST_DX, dt, 0, dry, left, right)
     try:
         cells = m.cells_of(now)
         m.check_range(cells, call, 5, "")
@@ -207,10 +220,10 @@ def greatest_S(now, bed, friction, dt, left, right):
         return None
 
 
-def lengths_and_times(rnd, now, bed, friction, left, right):
+def lengths_and_times(rnd, now, bed, friction, dry, left, right):
     """dx and dt at the limit of check 7, a little beside it, well within it, or free."""
     dt = rnd.choice((1, rnd.randint(1, 60), rnd.randint(1, 700), rnd.randint(1, m.LONGEST_DT), m.LONGEST_DT))
-    S = greatest_S(now, bed, friction, dt, left, right)
+    S = greatest_S(now, bed, friction, dt, dry, left, right)
     how = rnd.randrange(20)
     if how == 0 or not S:
         return rnd.choice((1, rnd.randint(1, 99), rnd.randint(1, m.LONGEST_DX), m.LONGEST_DX)), dt
@@ -226,7 +239,7 @@ def lengths_and_times(rnd, now, bed, friction, left, right):
     return max(1, min(m.LONGEST_DX, dx)), dt
 
 
-def jumps(rnd, now, bed, friction, dx, dt, left, right):
+def jumps(rnd, now, bed, friction, dx, dt, dry, left, right):
     """J: nought, free, or the very difference that an inner face of stage one shows."""
     how = rnd.randrange(8)
     if how < 2:
@@ -236,7 +249,7 @@ def jumps(rnd, now, bed, friction, dx, dt, left, right):
     n = len(friction)
     if n == 1:
         return rnd.randrange(m.GREATEST_JUMP + 1)
-    call = m.Call(n, bed, friction, dx, dt, 0, left, right)
+    call = m.Call(n, bed, friction, dx, dt, 0, dry, left, right)
     try:
         cells = m.cells_of(now)
         m.check_range(cells, call, 5, "")
@@ -273,9 +286,10 @@ def fault_lengths(rnd, c):
 
 
 def fault_numbers(rnd, c):
-    name = rnd.choice(("dx", "dt", "jump", "left", "right"))
     beyond = {"dx": (0, m.LONGEST_DX + 1, I32 - 1), "dt": (0, m.LONGEST_DT + 1, 65535),
-              "jump": (m.GREATEST_JUMP + 1, I32 - 1), "left": (2, 3, 255), "right": (2, 3, 255)}
+              "jump": (m.GREATEST_JUMP + 1, I32 - 1), "dry": (m.LEAST_DRY - 1, m.MOST_DRY + 1, 2 * I32 - 1),
+              "left": (2, 3, 255), "right": (2, 3, 255)}
+    name = rnd.choice(sorted(beyond))
     c[name] = rnd.choice(beyond[name])
 
 
@@ -329,13 +343,14 @@ def fault_speed(rnd, c):
     i = rnd.randrange(max(1, len(now) // 4))
     if len(now) < 4 * i + 4 or len(bed) < i + 2:
         return
-    h0 = rnd.randint(5, 3000)
+    dry = c["dry"]
+    h0 = rnd.randint(dry + 1, 3000)
     h1, q0, q1 = rnd.choice((
         (0, 32 * h0 + 1 + h0 // 4096, 0),       # mean
-        (h0 - 5, 31 * h0, 0),                   # the shallow face alone
+        (h0 - dry - 1, 31 * h0, 0),             # the shallow face alone
         (0, 16 * h0, 17 * h0),                  # a face alone
         (0, 16 * h0, 28 * h0),                  # face and Gauss point
-        (h0 - 4, 31 * h0, 0),                   # the Gauss point alone: the face has no speed
+        (h0 - dry, 31 * h0, 0),                 # the Gauss point alone: the face has no speed
     ))
     now[4 * i:4 * i + 4] = placed(bed[i], bed[i + 1], h0, h1, q0, q1)
     c["now"] = [max(-I32, min(I32 - 1, v)) for v in now]
@@ -345,7 +360,7 @@ FAULTS = (fault_lengths, fault_numbers, fault_bed, fault_friction, fault_range, 
 
 
 def spoiled(rnd, c):
-    # speeds and ranges are set on the bed as it is, so the bed's own fault comes after them
+    # speeds and ranges are set by the bed and the dry depth as they are, so those are spoilt after them
     chosen = rnd.sample(FAULTS, rnd.choice((1, 1, 2, 3)))
     for fault in sorted(chosen, key=FAULTS.index, reverse=True):
         fault(rnd, c)
@@ -354,7 +369,7 @@ def spoiled(rnd, c):
 
 # ---- Whole calls
 
-ORDER = ("now", "next_len", "bed", "friction", "dx", "dt", "jump", "left", "right")
+ORDER = ("now", "next_len", "bed", "friction", "dx", "dt", "jump", "dry", "left", "right")
 
 
 def hard_call(rnd):
@@ -363,17 +378,18 @@ def hard_call(rnd):
         n = m.MOST_CELLS
     elif rnd.randrange(100) == 0:
         n = rnd.choice((64, 65))    # the longest reach on short tables, and the shortest on long ones
+    dry = dry_depths(rnd)
     if rnd.randrange(4) < (3 if n > 16 else 1):
-        bed, now = rnd.choice((gentle, shore))(rnd, n)
+        bed, now = rnd.choice((gentle, shore))(rnd, n, dry)
     else:
         bed = beds(rnd, n)
-        now = states(rnd, bed)
+        now = states(rnd, bed, dry)
     rough = rnd.choice((0, 0, 1, 30, m.ROUGHEST))
     friction = [rnd.randint(0, rough) if rnd.randrange(2) else rough for _ in range(n)]
     left, right = rnd.randrange(2), rnd.randrange(2)
-    dx, dt = lengths_and_times(rnd, now, bed, friction, left, right)
-    jump = jumps(rnd, now, bed, friction, dx, dt, left, right)
-    c = dict(now=now, next_len=4 * n, bed=bed, friction=friction, dx=dx, dt=dt, jump=jump,
+    dx, dt = lengths_and_times(rnd, now, bed, friction, dry, left, right)
+    jump = jumps(rnd, now, bed, friction, dx, dt, dry, left, right)
+    c = dict(now=now, next_len=4 * n, bed=bed, friction=friction, dx=dx, dt=dt, jump=jump, dry=dry,
              left=left, right=right)
     return spoiled(rnd, c) if rnd.randrange(9) == 0 else c
 

@@ -2,8 +2,8 @@
 compared with the library.
 
 Exact integers throughout, in 01's order and with 01's letters.  It shares nothing
-with the library, so an answer that both give was worked twice.  What a rule said
-before a request is in before.py.
+with the library, so an answer that both give was worked twice.  Where 01 has a depth
+of 4 the argument `dry` stands (E3).  What a rule said before a request is in before.py.
 
 Public rules answer None where 01 refuses them "with no number".  `step` answers
 ("refused", number) or ("accepted", next, W0, Wn).  Labels such as S7 are those of
@@ -18,19 +18,19 @@ UNIT = 4096             # one metre, second, m/s or m2/s
 DEEPEST = 262144        # greatest depth
 GREATEST_Q = 8388608    # greatest size of a discharge
 FASTEST = 131072        # greatest size of a speed
-DRY = 4                 # at or below this depth water has no speed
 HIGHEST_BED = 1048576
 ROUGHEST = 200
 LONGEST_DX = 1048576
 LONGEST_DT = 4096
 GREATEST_JUMP = 262144
+LEAST_DRY, MOST_DRY = 1, 64     # of the dry depth, which E3 makes an argument
 MOST_CELLS = 1024
 WALL, OPEN = 0, 1
 
 Cell = namedtuple("Cell", "e0 e1 q0 q1")
 Side = namedtuple("Side", "h u")        # what a face reads of one side
 Flux = namedtuple("Flux", "F K A S")
-Call = namedtuple("Call", "n bed friction dx dt jump left right")
+Call = namedtuple("Call", "n bed friction dx dt jump dry left right")
 
 
 class Refused(Exception):
@@ -56,11 +56,15 @@ def within(x, most):
 
 # ---- One face
 
-def speed(q, h):
-    """Speed of a discharge: "0 when h is at most 4, else q*4096/h"."""
-    if not (0 <= h <= DEEPEST and within(q, GREATEST_Q)):
+def dry_in_list(dry):
+    return LEAST_DRY <= dry <= MOST_DRY
+
+
+def speed(q, h, dry):
+    """Speed of a discharge: 0 when h is at most the dry depth, "else q*4096/h"."""
+    if not (0 <= h <= DEEPEST and within(q, GREATEST_Q) and dry_in_list(dry)):
         return None
-    if h <= DRY:
+    if h <= dry:
         return 0
     return quo(q * UNIT, h)
 
@@ -194,8 +198,8 @@ def gauss_points(cell, zl, zr):
 
 # ---- One stage
 
-def checked_speed(q, h, check):
-    u = speed(q, h)
+def checked_speed(q, h, dry, check):
+    u = speed(q, h, dry)
     if not within(u, FASTEST):          # the truncated speed is what is checked, S1
         raise Refused(6, check)
     return u
@@ -206,8 +210,8 @@ def face_speeds(cells, call, which):
     sides = []
     for i, cell in enumerate(cells):
         f = cell_faces(cell, call.bed[i], call.bed[i + 1])
-        ul = checked_speed(f.ql, f.hl, "face speed, stage %d" % which)
-        ur = checked_speed(f.qr, f.hr, "face speed, stage %d" % which)
+        ul = checked_speed(f.ql, f.hl, call.dry, "face speed, stage %d" % which)
+        ur = checked_speed(f.qr, f.hr, call.dry, "face speed, stage %d" % which)
         sides.append((Side(f.hl, ul), Side(f.hr, ur)))
     return sides
 
@@ -218,7 +222,7 @@ def gauss_sums(cells, call, which):
     for i, cell in enumerate(cells):
         total = 0
         for h, q in gauss_points(cell, call.bed[i], call.bed[i + 1]):
-            u = checked_speed(q, h, "inner-point speed, stage %d" % which)
+            u = checked_speed(q, h, call.dry, "inner-point speed, stage %d" % which)
             total += quo(q * u, UNIT)
         sums.append(total)
     return sums
@@ -282,8 +286,8 @@ def spared(cells, call):
 
     "After the stage": the depths are those of the state being finished, as the marks are (R1).
     """
-    dry = [depth_mean(cell, call.bed[i], call.bed[i + 1]) <= DRY for i, cell in enumerate(cells)]
-    return [any(dry[max(0, i - 1):i + 2]) for i in range(len(cells))]
+    shallow = [depth_mean(cell, call.bed[i], call.bed[i + 1]) <= call.dry for i, cell in enumerate(cells)]
+    return [any(shallow[max(0, i - 1):i + 2]) for i in range(len(cells))]
 
 
 def minmod(*values):
@@ -315,9 +319,9 @@ def cut(cell, zl, zr):
     return cell if e1 == cell.e1 else cell._replace(e1=e1, q1=0)
 
 
-def dried(cell, zl, zr):
-    """(4) "Where h0 is at most 4, q0 and q1 become 0"."""
-    return cell._replace(q0=0, q1=0) if depth_mean(cell, zl, zr) <= DRY else cell
+def dried(cell, zl, zr, dry):
+    """(4) Where h0 is at most the dry depth, "q0 and q1 become 0"."""
+    return cell._replace(q0=0, q1=0) if depth_mean(cell, zl, zr) <= dry else cell
 
 
 def finished(cells, call):
@@ -327,7 +331,7 @@ def finished(cells, call):
         zl, zr = call.bed[i], call.bed[i + 1]
         if marked[i] and not kept[i]:
             cell = limited(cells, i)
-        done.append(dried(cut(cell, zl, zr), zl, zr))
+        done.append(dried(cut(cell, zl, zr), zl, zr, call.dry))
     return done
 
 
@@ -341,31 +345,36 @@ def slowed(q, x):
     return quo(q * (65536 + x), 65536 + 2 * x)
 
 
-def friction(q0, q1, h0, f, dt):
-    """x, q0 and q1 of one cell after friction; x is 0 where the depth is at most 4.
+def friction(q0, q1, h0, f, dt, dry):
+    """x, q0 and q1 of one cell after friction; x is 0 where the depth is at most the dry depth.
 
     Besides the limits of its arguments it refuses a speed beyond 131,072, as the
     step does before any x is formed (S18).
     """
-    u = speed(q0, h0)
+    u = speed(q0, h0, dry)
     if u is None or not within(u, FASTEST) or not within(q1, GREATEST_Q):
         return None
     if not (0 <= f <= ROUGHEST and 1 <= dt <= LONGEST_DT):
         return None
-    x = friction_x(u, h0, f, dt) if h0 > DRY else 0
+    x = friction_x(u, h0, f, dt) if h0 > dry else 0
     return x, slowed(q0, x), slowed(q1, x)
+
+
+def check_friction_speeds(cells, call):
+    """Every cell deeper than the dry depth is checked, whatever its friction."""
+    for i, cell in enumerate(cells):
+        h0 = depth_mean(cell, call.bed[i], call.bed[i + 1])
+        if h0 > call.dry:
+            checked_speed(cell.q0, h0, call.dry, "friction speed")
 
 
 def after_friction(cells, call):
     """The whole reach's speeds are checked before any cell is slowed."""
-    for i, cell in enumerate(cells):
-        h0 = depth_mean(cell, call.bed[i], call.bed[i + 1])
-        if h0 > DRY:
-            checked_speed(cell.q0, h0, "friction speed")
+    check_friction_speeds(cells, call)
     slow = []
     for i, cell in enumerate(cells):
         h0 = depth_mean(cell, call.bed[i], call.bed[i + 1])
-        _, q0, q1 = friction(cell.q0, cell.q1, h0, call.friction[i], call.dt)
+        _, q0, q1 = friction(cell.q0, cell.q1, h0, call.friction[i], call.dt, call.dry)
         slow.append(cell._replace(q0=q0, q1=q1))
     return slow
 
@@ -378,9 +387,9 @@ def check_lengths(now, next_len, bed, friction):
         raise Refused(1, "lengths")
 
 
-def check_numbers(dx, dt, jump, left, right):
+def check_numbers(dx, dt, jump, dry, left, right):
     if not (1 <= dx <= LONGEST_DX and 1 <= dt <= LONGEST_DT and 0 <= jump <= GREATEST_JUMP
-            and left in (WALL, OPEN) and right in (WALL, OPEN)):
+            and dry_in_list(dry) and left in (WALL, OPEN) and right in (WALL, OPEN)):
         raise Refused(2, "numbers")
 
 
@@ -419,13 +428,13 @@ def halves(cells, slow, two, W):
             for i in range(len(cells))]
 
 
-def worked(now, next_len, bed, friction, dx, dt, jump, left, right):
+def worked(now, next_len, bed, friction, dx, dt, jump, dry, left, right):
     """The step; a refusal is raised, so that its check can be told apart."""
     check_lengths(now, next_len, bed, friction)
-    check_numbers(dx, dt, jump, left, right)
+    check_numbers(dx, dt, jump, dry, left, right)
     check_bed(bed)
     check_friction(friction)
-    call = Call(len(friction), bed, friction, dx, dt, jump, left, right)
+    call = Call(len(friction), bed, friction, dx, dt, jump, dry, left, right)
     cells = cells_of(now)
     check_range(cells, call, 5, "present state")
     slow = after_friction(cells, call)
@@ -439,8 +448,8 @@ def worked(now, next_len, bed, friction, dx, dt, jump, left, right):
     return table_of(end), W[0], W[-1]
 
 
-def step(now, next_len, bed, friction, dx, dt, jump, left, right):
+def step(now, next_len, bed, friction, dx, dt, jump, dry, left, right):
     try:
-        return ("accepted",) + worked(now, next_len, bed, friction, dx, dt, jump, left, right)
+        return ("accepted",) + worked(now, next_len, bed, friction, dx, dt, jump, dry, left, right)
     except Refused as r:
         return "refused", r.number
