@@ -5,7 +5,7 @@
 
 The check that gave each refusal goes to standard error. Where a name says that one refusal comes
 before another, both are looked for here, and it is an error if either does not apply. So it is where
-a case beside a bank is answered alike under a reading of E2 that it is to tell from the rule.
+a case is answered alike under a reading of E2 or E3 that it is to tell from the rule.
 """
 import contextlib
 import itertools
@@ -41,7 +41,7 @@ BOTH = {
     "7 before 8, end": ("faces, stage 2", "end state"),
 }
 
-# the readings of E2 that a case tells from the rule
+# the readings of E2 and E3 that a case tells from the rule
 TOLD = {
     "bank on the right": ("none spared", "itself alone", "left and itself"),
     "bank on the left": ("none spared", "itself alone", "right and itself"),
@@ -56,6 +56,27 @@ TOLD = {
     "thin in the mean": ("none spared", "by both faces"),
     "marked beside a spared": ("not marking", "two cells away"),
     "1024 cells, half shallow": ("none spared", "itself alone"),
+    "dry 0": ("dry depth from 0", "no dry depth"),
+    "dry 1": ("dry depth from 2",),
+    "dry 64": ("dry depth to 63",),
+    "dry 65": ("dry depth to 65", "no dry depth"),
+    "dry 4294967295": ("dry depth without end", "no dry depth"),
+    "dry 65 before 3": ("dry depth to 65", "no dry depth"),
+    "fast at 12, dry 20": ("4 in friction's check",),
+    "fast at 3, dry 1": ("4 in friction's check",),
+    "rubbed at 12, dry 20": ("4 in friction",),
+    "rubbed at 3, dry 1": ("4 in friction",),
+    "face 18, dry 20": ("4 in face speeds",),
+    "face 3, dry 1": ("4 in face speeds",),
+    "point 12, dry 20": ("4 in Gauss points",),
+    "point 3, dry 1": ("4 in Gauss points",),
+    "dried at 12, dry 20": ("4 in drying stage one", "4 in drying the end"),
+    "kept at 3, dry 1": ("4 in drying stage one", "4 in drying the end"),
+    "bank 20, dry 20": ("4 in sparing", "below the dry depth"),
+    "bank 21, dry 20": ("one over the dry depth",),
+    "bank 12, dry 20": ("4 in sparing", "neighbours alone"),
+    "bank 3, dry 1": ("4 in sparing", "no dry depth"),
+    "1024 cells, half 12 deep": ("4 in sparing", "4 in drying the end", "none spared"),
 }
 
 
@@ -64,8 +85,8 @@ def without_limits(found):
     """The model works on past its checks of speeds and faces; those that apply are found."""
     kept = model.DEEPEST, model.GREATEST_Q, model.FASTEST, model.checked_speed, model.fluxes
 
-    def checked_speed(q, h, check):
-        u = model.speed(q, h)
+    def checked_speed(q, h, dry, check):
+        u = model.speed(q, h, dry)
         if abs(u) > kept[2]:
             found.append(check)
         return u

@@ -1,8 +1,9 @@
 // Answers of the step at the edges of its checks: the scope document's own cases, each refusal in each
-// of its places, calls to which two refusals apply, where the first in order is the answer, and water
-// beside a bank, where slopes are spared. A line gives the answer, the volumes, and what `next` holds
-// after the call: -77 where it is as it was. The cases are in the file stdin, which says how to read
-// them. What it must write comes from tests/reference/answers.py.
+// of its places, calls to which two refusals apply, where the first in order is the answer, water
+// beside a bank, where slopes are spared, and thin water, with a dry depth other than 4 in each of its
+// places. A line gives the answer, the volumes, and what `next` holds after the call: -77 where it is
+// as it was. The cases are in the file stdin, which says how to read them. What it must write comes
+// from tests/reference/answers.py.
 mod read;
 mod show;
 
@@ -20,8 +21,9 @@ fn called(line: &[u8], state: &[i32], next: &mut [i32], bed: &[i32], friction: &
         dx: given(line, 0),
         dt: given(line, 1),
         jump: given(line, 2),
-        left: given(line, 3),
-        right: given(line, 4),
+        dry: given(line, 3),
+        left: given(line, 4),
+        right: given(line, 5),
     };
     step::step(state, next, bed, friction, call)
 }

@@ -47,7 +47,7 @@ fn digits(line: &[u8], from: usize) -> u64 {
         if 9 < d {
             return x;
         }
-        x = x % 0x1000_0000 * 10 + d as u64;
+        x = x % 0x1_0000_0000 * 10 + d as u64;
         at += 1;
     }
     x
@@ -149,7 +149,7 @@ pub fn fill_friction(t: &mut [u16], line: &[u8]) {
     }
 }
 
-// Number j beside the tables: dx, dt, J and the kinds of the two ends.
+// Number j beside the tables: dx, dt, J, the dry depth and the kinds of the two ends.
 pub fn given(line: &[u8], j: usize) -> u32 {
     let l = list(line, 4);
     (l[j % 24] % 0x1_0000_0000) as u32
