@@ -51,7 +51,7 @@ def turned(x, side):
 
 # ---- A reach, a face of its bed, a cell of its state
 
-Reach = collections.namedtuple("Reach", "n bed mix flow fast base rough seed")
+Reach = collections.namedtuple("Reach", "n bed mix flow fast dry base rough seed")
 
 
 def cells(x):
@@ -59,12 +59,16 @@ def cells(x):
     return 1 if k < 30 else 2 if k < 66 else 3 if k < 100 else 16 if k < 127 else 1024
 
 
-def shared(x):
+def dry_depth(x):
+    return 4 if x % 4 == 0 else above(x, 1, 63)
+
+
+def shared(dry, x):
     k = x % 16
     if k == 0:
         return pick(x, 12)
     if k < 4:
-        return above(x, 4, 60)
+        return above(x, dry, 60)
     if k < 8:
         return pick(x, 1000)
     if k < 13:
@@ -79,13 +83,15 @@ def drawn(x):
     a = following(x)
     b = following(a)
     calm = n > 16 and a % 8 != 0
+    dry = dry_depth(a >> 16)
     return Reach(
         n,
         a % 7 if calm else a % 16,
         9 if calm else (a >> 4) % 16,
         3 + a % 2 if calm else (a >> 8) % 16,
         b % 6 if calm else b % 10,
-        shared(b >> 4),
+        dry,
+        shared(dry, b >> 4),
         (0, 0, 0, 1, 30, 30, 200, 200)[(a >> 12) % 8],
         following(b),
     )
@@ -115,11 +121,11 @@ def kind_in(mix, x):
     return (x % 2, 1 + x % 2, 2, 3, x % 4, 2 + x % 2, 4, 3 + x % 2, 5, 6, 6, 6, 7, 8, 8, x % 9)[mix]
 
 
-def depth(kind, base, z, x):
+def depth(kind, dry, base, z, x):
     if kind == 0:
         return 0
     if kind == 1:
-        return pick(x, 12)
+        return above(x, max(0, dry - 4), 12)
     if kind == 2:
         return pick(x, 400)
     if kind == 3:
@@ -160,8 +166,8 @@ def drawn_cell(r, zl, zr, x):
     c = following(b)
     d = following(c)
     k = kind_in(r.mix, x)
-    hl = depth(k, r.base, zl, a)
-    hr = right_depth(k, hl, depth(k, r.base, zr, b), c)
+    hl = depth(k, r.dry, r.base, zl, a)
+    hr = right_depth(k, hl, depth(k, r.dry, r.base, zr, b), c)
     h0 = (hl + hr + 1) >> 1
     ql = discharge(r.flow, r.fast, hl, c, r.seed)
     qr = discharge(r.flow, r.fast, hr, d, r.seed)
@@ -197,7 +203,7 @@ def fill_state(state, halves, r):
 # ---- Faults
 
 Lent = collections.namedtuple("Lent", "state next bed friction")
-Given = collections.namedtuple("Given", "dx dt jump left right")
+Given = collections.namedtuple("Given", "dx dt jump dry left right")
 LENGTHS, NUMBERS, BED, FRICTION, STATE = 1, 2, 4, 8, 16
 
 
@@ -225,7 +231,7 @@ def wrong_lengths(l, x):
 
 def wrong_number(g, x):
     much = x & 8
-    k = x % 8
+    k = x % 9
     if k == 0:
         return g._replace(dx=0)
     if k == 1:
@@ -234,9 +240,13 @@ def wrong_number(g, x):
         return g._replace(dt=0)
     if k == 3:
         return g._replace(dt=65536 if much else 4097)
-    if k < 6:
+    if k == 4:
         return g._replace(jump=2**32 - 1 if much else 262145)
+    if k == 5:
+        return g._replace(dry=260 if much else 0)
     if k == 6:
+        return g._replace(dry=2**32 - 1 if much else 65)
+    if k == 7:
         return g._replace(left=2**31 + 1 if much else 2)
     return g._replace(right=2**32 - 1 if much else 2)
 
@@ -272,16 +282,16 @@ def wrong_cell(zl, zr, x):
     return [h + zl + zr, zr - zl, 2**31 - 1, 2**31 - 1]
 
 
-def racing_cell(zl, zr, x):
-    h = above(x, 8, 3000)
+def racing_cell(dry, zl, zr, x):
+    h = above(x, dry + 4, 3000)
     k = x % 4
     if k == 0:
         return over(zl, zr, h, 0, turned(32 * h + 1, x >> 3), 0)
     if k == 1:
-        return over(zl, zr, h, h - 5, 31 * h, 0)
+        return over(zl, zr, h, h - dry - 1, 31 * h, 0)
     if k == 2:
         return over(zl, zr, h, 0, 16 * h, 17 * h)
-    return over(zl, zr, h, h - 4, turned(31 * h, x >> 3), 0)
+    return over(zl, zr, h, h - dry, turned(31 * h, x >> 3), 0)
 
 
 class Tables:
@@ -296,7 +306,7 @@ class Tables:
         fill_friction(self.friction, r)
         fill_state(self.state, self.halves, r)
 
-    def spoil(self, f, n, x):
+    def spoil(self, f, n, dry, x):
         if f & BED:
             k = place(n, x >> 3)
             self.bed[k] = wrong_bed(self.halves[k], x)
@@ -304,22 +314,22 @@ class Tables:
             self.friction[place(n - 1, x >> 3)] = (65535, 256, 201, 201)[x % 4]
         if f & STATE:
             k = place(n - 1, x >> 3)
-            wrong = racing_cell if (x >> 32) % 2 else wrong_cell
-            self.state[4 * k:4 * k + 4] = wrong(self.halves[k], self.halves[k + 1], x)
+            zl, zr = self.halves[k], self.halves[k + 1]
+            self.state[4 * k:4 * k + 4] = racing_cell(dry, zl, zr, x) if (x >> 32) % 2 else wrong_cell(zl, zr, x)
 
 
 # ---- Calls
 
-Search = collections.namedtuple("Search", "n tries dx low high dt")
+Search = collections.namedtuple("Search", "n dry tries dx low high dt")
 
 
-def begun(n, x):
+def begun(n, dry, x):
     a = following(x)
     b = following(a)
     k = a % 8
     dt = 1 + (0 if k < 2 else pick(a, 19) if k < 5 else pick(a, 199) if k < 6 else pick(a, 4095) if k < 7 else 4095)
     tries = 1 if n > 16 else (1, 3, 6, 14)[(b >> 8) % 4]
-    return Search(n, tries, 1 + pick(a, 255 << b % 12), 0, 4097, dt)
+    return Search(n, dry, tries, 1 + pick(a, 255 << b % 12), 0, 4097, dt)
 
 
 def next_dt(low, high):
@@ -330,13 +340,13 @@ def after(s, number):
     tries = s.tries - 1 if number in (0, 7, 8) else s.tries >> 1 if number == 6 else 0
     low, high = (s.dt, s.high) if number == 0 else (s.low, s.dt)
     dt = next_dt(low, high)
-    return Search(s.n, 0 if dt == low else tries, s.dx, low, high, dt)
+    return s._replace(tries=0 if dt == low else tries, low=low, high=high, dt=dt)
 
 
 def given(s, f, x):
     k = x % 8
     jump = (0, 0, 1, pick(x, 10), pick(x, 50), pick(x, 3000), pick(x, 262144), 262144)[k]
-    g = Given(s.dx, s.dt, jump, (x >> 8) % 2, (x >> 9) % 2)
+    g = Given(s.dx, s.dt, jump, s.dry, (x >> 8) % 2, (x >> 9) % 2)
     return wrong_number(g, x >> 10) if f & NUMBERS else g
 
 
@@ -368,7 +378,7 @@ def one(t, s, total, x):
     b = following(a)
     c = following(b)
     f = faults(a)
-    t.spoil(f, s.n, b)
+    t.spoil(f, s.n, s.dry, b)
     l = lent(s.n, f, c)
     after_call = [(b >> 34) + i for i in range(min(l.next + 8, 4104))]
     number, table, w, v = answered(t, l, given(s, f, c))
@@ -391,7 +401,7 @@ def main():
             if s is None or s.tries == 0:
                 r = drawn(x)
                 t.fill(r)
-                s = begun(r.n, r.seed)
+                s = begun(r.n, r.dry, r.seed)
             number, total = one(t, s, total, x)
             counts[number] += 1
             s = after(s, number)

@@ -55,10 +55,17 @@ pub fn roughness(r: u64) -> u64 {
     [0u64, 0, 0, 1, 30, 30, 200, 200][k as usize]
 }
 
+// The dry depth: 4 in a quarter of the reaches, else any of its list.
+pub fn dry(r: u64) -> u64 {
+    let x = following(r) >> 16;
+    if x % 4 == 0 { 4 } else { above(x, 1, 63) }
+}
+
 // The depth or level that the cells share: near nought, near the dry depth, shallow, ordinary, deep.
 fn shared(r: u64) -> u64 {
     let x = following(following(r)) >> 4;
-    let low = [0u64, 4, 4, 4, 0, 0, 0, 0, 400, 400, 400, 400, 400, 400, 400];
+    let d = dry(r);
+    let low = [0u64, d, d, d, 0, 0, 0, 0, 400, 400, 400, 400, 400, 400, 400];
     let more = [
         12u64,
         60,
@@ -126,11 +133,16 @@ fn kind_in(mix: u64, x: u64) -> u64 {
     wrapping_add_u64(first[k], x % (more[k] % 16 + 1))
 }
 
+// A depth about the dry depth.
+fn thin(dry: u64, x: u64) -> u64 {
+    above(x, if dry < 4 { 0 } else { wrapping_sub_u64(dry, 4) }, 12)
+}
+
 // A depth at a face where half the bed is z.
-fn depth(kind: u64, base: u64, z: u64, x: u64) -> u64 {
+fn depth(kind: u64, dry: u64, base: u64, z: u64, x: u64) -> u64 {
     match kind {
         0 => 0,
-        1 => pick(x, 12),
+        1 => thin(dry, x),
         2 => pick(x, 400),
         3 => above(x, 400, 19600),
         4 => below(x, 262144, 3000),
@@ -210,9 +222,9 @@ fn between(zl: u64, zr: u64, hl: u64, hr: u64, ql: u64, qr: u64, x: u64) -> Cell
 pub fn drawn_cell(r: u64, zl: u64, zr: u64, x: u64) -> Cell {
     let k = kind_in(kind(r, 4, 9, 0), x);
     let a = following(x);
-    let hl = depth(k, shared(r), zl, a);
+    let hl = depth(k, dry(r), shared(r), zl, a);
     let b = following(a);
-    let own = depth(k, shared(r), zr, b);
+    let own = depth(k, dry(r), shared(r), zr, b);
     let c = following(b);
     let hr = right_depth(k, hl, own, c);
     let d = following(c);

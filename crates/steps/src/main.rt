@@ -1,8 +1,8 @@
-// The step over 100 blocks of 200 calls that are hard: shallow and dry cells, steep beds, jumps,
-// speeds, depths and discharges at their limits, a dt that closes in on the longest accepted, and
-// faults. A line gives how many calls of a block were accepted, how many were refused with each
-// number from 1 to 8, and the running sum of the answers, the volumes and all that `next` held after
-// each call. What it must write comes from tests/reference/steps.py.
+// The step over 100 blocks of 200 calls that are hard: dry depths of the whole list, cells about as
+// deep and dry ones, steep beds, jumps, speeds, depths and discharges at their limits, a dt that closes
+// in on the longest accepted, and faults. A line gives how many calls of a block were accepted, how
+// many were refused with each number from 1 to 8, and the running sum of the answers, the volumes and
+// all that `next` held after each call. What it must write comes from tests/reference/steps.py.
 mod draw;
 mod fill;
 mod kinds;
@@ -16,6 +16,7 @@ use draw::pick;
 use fill::fill_pattern;
 use fill::summed;
 use kinds::cells;
+use kinds::dry;
 use kinds::seed;
 use libc::STDOUT_FILENO;
 use spoil::given;
@@ -145,8 +146,9 @@ fn made(
         dx: given(0, dx(r), x),
         dt: given(1, dt, x),
         jump: given(2, jump(c), x),
-        left: given(3, (c >> 8) % 2, x),
-        right: given(4, (c >> 9) % 2, x),
+        dry: given(3, dry(r), x),
+        left: given(4, (c >> 8) % 2, x),
+        right: given(5, (c >> 9) % 2, x),
     };
     step::step(state, next, bed, friction, call)
 }

@@ -13,6 +13,7 @@ use crate::fill::put_friction;
 use crate::fill::upto;
 use crate::kinds::Cell;
 use crate::kinds::cells;
+use crate::kinds::dry;
 use crate::kinds::over;
 ghost use Prim.Native.Nat.{_≤_};
 use std::num::wrapping_add_u64;
@@ -92,16 +93,17 @@ pub fn lent(k: u64, r: u64, m: usize, x: u64) -> usize
     upto(spoilt_length(k, n, third(x)), m)
 }
 
-// A number outside its list, just or by much: dx, dx, dt, dt, J, J and the two ends.
+// A number outside its list, just or by much: dx, dx, dt, dt, J, dry depth, dry depth and the two ends.
 fn wrong_number(x: u64) -> u64 {
-    let k = (x % 8) as usize;
-    let just = [0u64, 1048577, 0, 4097, 262145, 262145, 2, 2];
+    let k = (x % 9) as usize;
+    let just = [0u64, 1048577, 0, 4097, 262145, 0, 65, 2, 2];
     let much = [
         0u64,
         0x8000_0000,
         0,
         65536,
         0xffff_ffff,
+        260,
         0xffff_ffff,
         0x8000_0001,
         0xffff_ffff,
@@ -109,10 +111,11 @@ fn wrong_number(x: u64) -> u64 {
     if x & 8 == 0 { just[k] } else { much[k] }
 }
 
-// Number k beside the tables: dx, dt, J and the kinds of the two ends. It is `right` where it has no fault.
+// Number k beside the tables: dx, dt, J, the dry depth and the kinds of the two ends. It is `right` where it
+// has no fault.
 pub fn given(k: u64, right: u64, x: u64) -> u32 {
     let y = third(x) >> 10;
-    let wrong = [0u64, 0, 1, 1, 2, 2, 3, 4][(y % 8) as usize];
+    let wrong = [0u64, 0, 1, 1, 2, 3, 3, 4, 5][(y % 9) as usize];
     let g = if faults(x) & NUMBERS != 0 && wrong == k {
         wrong_number(y)
     } else {
@@ -199,23 +202,24 @@ fn wrong_cell(zl: u64, zr: u64, x: u64) -> Cell {
 }
 
 // A cell that is in range and has a speed over the limit: its mean, a face, or a Gauss point alone.
-fn racing_cell(zl: u64, zr: u64, x: u64) -> Cell {
-    let h = above(x, 8, 3000);
+fn racing_cell(dry: u64, zl: u64, zr: u64, x: u64) -> Cell {
+    let h = above(x, wrapping_add_u64(dry, 4), 3000);
     let fast = wrapping_sub_u64(h << 5, h);
+    // as steep as leaves the shallow face at the dry depth, where it has no speed
+    let steep = wrapping_sub_u64(h, dry);
     match x % 4 {
         0 => over(zl, zr, h, 0, turned(wrapping_add_u64(h << 5, 1), x >> 3), 0),
-        1 => over(zl, zr, h, wrapping_sub_u64(h, 5), fast, 0),
+        1 => over(zl, zr, h, wrapping_sub_u64(steep, 1), fast, 0),
         2 => over(zl, zr, h, 0, h << 4, wrapping_add_u64(h << 4, h)),
-        // the shallow face has no speed at depth 4
-        _ => over(zl, zr, h, wrapping_sub_u64(h, 4), turned(fast, x >> 3), 0),
+        _ => over(zl, zr, h, steep, turned(fast, x >> 3), 0),
     }
 }
 
-fn spoilt_cell(zl: u64, zr: u64, x: u64) -> Cell {
+fn spoilt_cell(dry: u64, zl: u64, zr: u64, x: u64) -> Cell {
     if (x >> 32) % 2 == 0 {
         wrong_cell(zl, zr, x)
     } else {
-        racing_cell(zl, zr, x)
+        racing_cell(dry, zl, zr, x)
     }
 }
 
@@ -223,7 +227,7 @@ fn spoil_over(state: &mut [i32], bed: &[i32], r: u64, x: u64) {
     let k = place(STATE, wrapping_sub_usize(cells(r), 1), x);
     let zl = found(bed, k);
     let zr = found(bed, wrapping_add_usize(k, 1));
-    put_cell(state, k, spoilt_cell(zl, zr, second(x)));
+    put_cell(state, k, spoilt_cell(dry(r), zl, zr, second(x)));
 }
 
 // The state of a call: of another reach where no tries are left, and with its fault.
