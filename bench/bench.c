@@ -17,6 +17,8 @@
 enum {
     METRE = 4096,
     MOST_CELLS = 1024,
+    DRY = 4, /* the dry depth of what is timed */
+    MOST_DRY = 64,
     STEPS = 200, /* of one run, always from the same start */
     ROUNDS = 21, /* in each, all are timed one after the other */
     RANDOM_CALLS = 20000,
@@ -25,14 +27,14 @@ enum {
 
 typedef uint32_t Step(const int32_t *, size_t, int32_t *, size_t, const int32_t *, size_t,
                       const uint16_t *, size_t, uint32_t, uint32_t, uint32_t, uint32_t, uint32_t,
-                      int64_t *);
+                      uint32_t, int64_t *);
 
 enum { LIBRARY, PLAIN, PLAIN_ROOT, WRITINGS };
 static Step *const writings[WRITINGS] = {bassoonsun_step, plain_step, plain_root_step};
 
 typedef struct {
     size_t n;
-    uint32_t dx, dt, jump, left, right;
+    uint32_t dx, dt, jump, dry, left, right;
     int32_t bed[MOST_CELLS + 1];
     uint16_t friction[MOST_CELLS];
     int32_t start[4 * MOST_CELLS];
@@ -56,7 +58,7 @@ static int32_t hill(int64_t i, int64_t a, int64_t b)
 /* Cells of 1 m and 0.030 over a bed with a sill, walls, water at 1.25 m, steps of 1/20 s. */
 static void fill_lake(Case *c, size_t n)
 {
-    *c = (Case){.n = n, .dx = METRE, .dt = METRE / 20, .jump = METRE / 64};
+    *c = (Case){.n = n, .dx = METRE, .dt = METRE / 20, .jump = METRE / 64, .dry = DRY};
     for (size_t i = 0; i <= n; i++)
         c->bed[i] = (hill((int64_t)i, (int64_t)n / 2, (int64_t)n) / 2 + METRE / 4) & ~1;
     for (size_t i = 0; i < n; i++) {
@@ -87,7 +89,7 @@ static const size_t lengths[LENGTHS] = {16, 64, 128, 1024}; /* in cells */
 static uint32_t call(Step *step, const Case *c, const int32_t *now, int32_t *next, int64_t *volumes)
 {
     return step(now, 4 * c->n, next, 4 * c->n, c->bed, c->n + 1, c->friction, c->n, c->dx, c->dt, c->jump,
-                c->left, c->right, volumes);
+                c->dry, c->left, c->right, volumes);
 }
 
 /* All of next and both volumes count, written or not: a refusal must leave them alone. */
@@ -110,15 +112,15 @@ static int64_t drawn(int64_t least, int64_t most)
     return least + (int64_t)(seed % (uint64_t)(most - least + 1));
 }
 
-/* Most depths are those of ditches, some are the thinnest or the deepest there are. */
-static int32_t drawn_depth(int64_t kind)
+/* Most depths are those of ditches, some are about the dry depth or thinner, or the deepest there are. */
+static int32_t drawn_depth(const Case *c, int64_t kind)
 {
-    return (int32_t)(kind == 0 ? drawn(0, 12) : kind == 1 ? drawn(0, 262144) : drawn(200, 20000));
+    return (int32_t)(kind == 0 ? drawn(0, c->dry + 8) : kind == 1 ? drawn(0, 262144) : drawn(200, 20000));
 }
 
 static void draw_cell(Case *c, size_t i, int64_t kind)
 {
-    int32_t left = drawn_depth(kind), right = drawn_depth(kind), quick = kind == 0 ? 40 : 3 * METRE;
+    int32_t left = drawn_depth(c, kind), right = drawn_depth(c, kind), quick = kind == 0 ? 40 : 3 * METRE;
     right ^= (left ^ right ^ c->bed[i] ^ c->bed[i + 1]) & 1; /* so that the mean is whole */
     int32_t l = left + c->bed[i], r = right + c->bed[i + 1];
     int32_t cell[4] = {(l + r) / 2, (r - l) / 2, (int32_t)drawn(-quick, quick), (int32_t)drawn(-quick, quick)};
@@ -129,7 +131,7 @@ static void draw_cell(Case *c, size_t i, int64_t kind)
 static void spoil(Case *c)
 {
     size_t i = (size_t)drawn(0, (int64_t)c->n - 1);
-    switch (drawn(0, 11)) {
+    switch (drawn(0, 12)) {
     case 0: c->dt = (uint32_t)drawn(0, 5000); break;
     case 1: c->bed[i] = (int32_t)drawn(-3, 1048579); break;
     case 2: c->friction[i] = (uint16_t)drawn(190, 65535); break;
@@ -138,6 +140,7 @@ static void spoil(Case *c)
     case 5: c->start[4 * i + 2] = (int32_t)drawn(-8388608, 8388608); break;
     case 6: c->right = 2; break;
     case 7: c->n = (size_t)drawn(0, 1) * 1025; break;
+    case 8: c->dry = (uint32_t)drawn(0, 1) * (MOST_DRY + 1); break;
     default: break;
     }
 }
@@ -146,8 +149,8 @@ static void draw(Case *c)
 {
     size_t n = (size_t)(drawn(0, 199) == 0 ? drawn(900, 1024) : drawn(1, 24));
     *c = (Case){.n = n, .dx = (uint32_t)drawn(500, 80000), .dt = (uint32_t)drawn(1, 300),
-                .jump = (uint32_t)drawn(0, 1) * (uint32_t)drawn(0, 500), .left = (uint32_t)drawn(0, 1),
-                .right = (uint32_t)drawn(0, 1)};
+                .jump = (uint32_t)drawn(0, 1) * (uint32_t)drawn(0, 500), .dry = (uint32_t)drawn(1, MOST_DRY),
+                .left = (uint32_t)drawn(0, 1), .right = (uint32_t)drawn(0, 1)};
     int64_t steep = drawn(0, 1) * 2000;
     for (size_t i = 0; i <= n; i++)
         c->bed[i] = (int32_t)(10000 + drawn(-steep, steep)) & ~1;

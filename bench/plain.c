@@ -17,7 +17,6 @@
 
 enum {
     UNIT = 4096,
-    DRY = 4, /* at or below this depth water has no speed */
     DEEPEST = 262144,
     MOST_DISCHARGE = 8388608,
     FASTEST = 131072,
@@ -27,6 +26,7 @@ enum {
     LONGEST_DT = 4096,
     ROUGHEST = 200,
     MOST_JUMP = 262144,
+    MOST_DRY = 64,
     OPEN = 1
 };
 
@@ -48,7 +48,7 @@ typedef struct {
     size_t n;
     const int32_t *bed;
     const uint16_t *friction;
-    int64_t dx, dt, jump;
+    int64_t dx, dt, jump, dry;
     uint32_t left, right;
 } Reach;
 
@@ -64,7 +64,7 @@ static int64_t bed_slope(const Reach *r, size_t i) { return (r->bed[i + 1] - r->
 
 /* ---- One face */
 
-static int64_t speed(int64_t q, int64_t h) { return h <= DRY ? 0 : q * UNIT / h; }
+static int64_t speed(const Reach *r, int64_t q, int64_t h) { return h <= r->dry ? 0 : q * UNIT / h; }
 
 #ifdef PROCESSOR_ROOT
 /* y is below 2^34, so the double is exact and a root just below a whole number stays below it. */
@@ -147,7 +147,7 @@ static bool in_range(const Reach *r, const Cell *cells)
 static bool slow_enough(const Reach *r, const Cell *cells)
 {
     for (size_t i = 0; i < r->n; i++)
-        if (!within(speed(cells[i].q0, cells[i].e0 - bed_mean(r, i)), FASTEST))
+        if (!within(speed(r, cells[i].q0, cells[i].e0 - bed_mean(r, i)), FASTEST))
             return false;
     return true;
 }
@@ -169,9 +169,9 @@ static void rub(const Reach *r, Cell *cells)
     for (size_t i = 0; i < r->n; i++) {
         Cell *c = &cells[i];
         int64_t h = c->e0 - bed_mean(r, i), f = r->friction[i];
-        if (h <= DRY)
+        if (h <= r->dry)
             continue;
-        int64_t x = 256 * 981 * r->dt * f * f * llabs(speed(c->q0, h)) / (390625 * h * cube_root(h));
+        int64_t x = 256 * 981 * r->dt * f * f * llabs(speed(r, c->q0, h)) / (390625 * h * cube_root(h));
         c->q0 = c->q0 * (65536 + x) / (65536 + 2 * x);
         c->q1 = c->q1 * (65536 + x) / (65536 + 2 * x);
     }
@@ -189,9 +189,9 @@ static bool show(const Reach *r, const Cell *cells, Shown *shown)
         int64_t th = 37837 * h1 / 65536, tq = 37837 * c->q1 / 65536;
         s->hl = h0 - h1;
         s->hr = h0 + h1;
-        s->ul = speed(c->q0 - c->q1, s->hl);
-        s->ur = speed(c->q0 + c->q1, s->hr);
-        int64_t u1 = speed(c->q0 + tq, h0 + th), u2 = speed(c->q0 - tq, h0 - th);
+        s->ul = speed(r, c->q0 - c->q1, s->hl);
+        s->ur = speed(r, c->q0 + c->q1, s->hr);
+        int64_t u1 = speed(r, c->q0 + tq, h0 + th), u2 = speed(r, c->q0 - tq, h0 - th);
         if (!within(s->ul, FASTEST) || !within(s->ur, FASTEST) || !within(u1, FASTEST) ||
             !within(u2, FASTEST))
             return false;
@@ -268,7 +268,7 @@ static bool marked(const Reach *r, const Cell *unfinished, size_t i)
 
 static bool shallow(const Reach *r, const Cell *unfinished, size_t i)
 {
-    return unfinished[i].e0 - bed_mean(r, i) <= DRY;
+    return unfinished[i].e0 - bed_mean(r, i) <= r->dry;
 }
 
 /* A shallow cell and those beside it are not limited: its level is only its bed. */
@@ -303,7 +303,7 @@ static void finish(const Reach *r, const Cell *unfinished, Cell *cells)
             c.e1 = e1;
             c.q1 = 0;
         }
-        if (h0 <= DRY)
+        if (h0 <= r->dry)
             c.q0 = c.q1 = 0;
         cells[i] = c;
     }
@@ -374,14 +374,14 @@ static void store(const Cell *cells, size_t n, int32_t *next)
 
 uint32_t STEP(const int32_t *now, size_t now_len, int32_t *next, size_t next_len, const int32_t *bed,
               size_t bed_len, const uint16_t *friction, size_t n, uint32_t dx, uint32_t dt,
-              uint32_t jump, uint32_t left, uint32_t right, int64_t volumes[2])
+              uint32_t jump, uint32_t dry, uint32_t left, uint32_t right, int64_t volumes[2])
 {
     if (n < 1 || n > MOST_CELLS || now_len != 4 * n || next_len != 4 * n || bed_len != n + 1)
         return 1;
-    if (dx < 1 || dx > LONGEST_DX || dt < 1 || dt > LONGEST_DT || jump > MOST_JUMP || left > OPEN ||
-        right > OPEN)
+    if (dx < 1 || dx > LONGEST_DX || dt < 1 || dt > LONGEST_DT || jump > MOST_JUMP || dry < 1 ||
+        dry > MOST_DRY || left > OPEN || right > OPEN)
         return 2;
-    Reach r = {n, bed, friction, dx, dt, jump, left, right};
+    Reach r = {n, bed, friction, dx, dt, jump, dry, left, right};
     Cell cells[MOST_CELLS];
     if (!bed_in_order(&r))
         return 3;

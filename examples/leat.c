@@ -21,6 +21,7 @@ enum {
     TIME_STEP = METRE / 20, /* unless another is given */
     STEPS = 200,
     JUMP = 64, /* slopes are limited where two cells differ by more than 1/64 m */
+    DRY_DEPTH = 4, /* about 1 mm, as for an earth ditch: water no deeper has no speed */
     MANNING = 30, /* 0.030, an earth channel with some weed */
     WALL = 0, /* an end of the leat; 1 would be an open one */
     LINES = 16, /* of the drawing, */
@@ -84,7 +85,7 @@ static const char *advice(uint32_t refusal)
 {
     static const char *const words[] = {
         "1: the tables do not fit each other. Give 4n, 4n, n + 1 and n numbers, n from 1 to 1024",
-        "2: dx, dt, J or an end kind is out of range. See the ranges in bassoonsun.h",
+        "2: dx, dt, J, the dry depth or an end kind is out of range. See the ranges in bassoonsun.h",
         "3: a bed value is out of range or odd. Round the bed to even numbers from 0 to 1048576",
         "4: a friction value is over 200. Give Manning's n in thousandths, 30 for 0.030",
         "5: a depth or a discharge of the present state is out of range. Look for a level below the bed",
@@ -102,7 +103,7 @@ static int64_t top_speed(const Leat *leat)
     int64_t top = 1, flux[4];
     for (int i = 0; i < CELLS; i++) {
         int64_t h = leat->now[i].level - (leat->bed[i] + leat->bed[i + 1]) / 2;
-        int64_t u = h > 4 ? (int64_t)METRE * leat->now[i].discharge / h : 0; /* thinner water has no speed */
+        int64_t u = h > DRY_DEPTH ? (int64_t)METRE * leat->now[i].discharge / h : 0;
         if (bassoonsun_face(h, u, h, u, flux) == 0 && flux[3] > top)
             top = flux[3];
     }
@@ -125,7 +126,7 @@ static uint32_t step(Leat *leat)
     int64_t volumes[2];
     uint32_t refusal = bassoonsun_step(&leat->now[0].level, 4 * CELLS, &leat->next[0].level, 4 * CELLS,
                                        leat->bed, CELLS + 1, leat->friction, CELLS,
-                                       CELL_LENGTH, leat->dt, JUMP, WALL, WALL, volumes);
+                                       CELL_LENGTH, leat->dt, JUMP, DRY_DEPTH, WALL, WALL, volumes);
     if (refusal == 0) { /* only now do next and volumes hold anything */
         memcpy(leat->now, leat->next, sizeof leat->now);
         leat->brought += volumes[0] - volumes[1];

@@ -46,8 +46,12 @@ extern "C" {
  *   dx        length of a cell, 1 to 1048576 (256 m)
  *   dt        time step, 1 to 4096 (1 s): see HOW LONG A TIME STEP, below
  *   jump      J, 0 to 262144 (64 m): at a face where the levels of two cells differ by more than
- *             J, the slopes of both are limited; but those of a cell with a mean depth of at most
- *             4, and of the cells beside one, are only cut to keep face depths from falling below 0
+ *             J, the slopes of both are limited, unless the dry depth spares them
+ *   dry       the dry depth, 1 to 64 (0.24 mm to 15.6 mm): water no deeper has no speed, is not
+ *             slowed by friction, and loses its discharge at the end of a stage; and the slopes of
+ *             a cell with such a mean depth, and of the cells beside it, are not limited, only cut
+ *             to keep face depths from falling below 0. 4, about 1 mm, suits an ordinary ditch; a
+ *             lined flume takes less, a reed bed more. It may be another in each step
  *   left      kind of the left end: 0 a wall, 1 open (the water outside is as deep and as fast as
  *             that at the end face)
  *   right     kind of the right end, likewise
@@ -63,7 +67,7 @@ extern "C" {
  *
  *   1  the tables do not fit each other: friction_len is 0 or over 1024, or now_len or next_len is
  *      not 4n, or bed_len is not n + 1
- *   2  dx, dt, jump, left or right is outside its range
+ *   2  dx, dt, jump, dry, left or right is outside its range
  *   3  a bed value is out of range or odd
  *   4  a friction value is over 200
  *   5  the present state has a face depth or a face discharge out of range
@@ -85,16 +89,16 @@ extern "C" {
  *     dt = 4096*dx/(3*S)      or 4096, if that is less; work it in 64 bits
  *
  * S being the greatest over the reach of |u| + a, where u = 4096*q/h is the speed of water of depth
- * h and discharge q, and a, the speed of its waves, is the square root of 40181.76*h; these are
- * 1/4096 m/s. bassoonsun_face(h, u, h, u, flux) gives |u| + a as flux[3]. Where water stands beside
- * dry ground, count a twice. In 1 m of still water (h 4096, u 0) S is 12829, and cells of 1 m
- * (dx 4096) take a dt of 435.
+ * h and discharge q, 0 where h is at most the dry depth, and a, the speed of its waves, is the
+ * square root of 40181.76*h; these are 1/4096 m/s. bassoonsun_face(h, u, h, u, flux) gives |u| + a
+ * as flux[3]. Where water stands beside dry ground, count a twice. In 1 m of still water (h 4096,
+ * u 0) S is 12829, and cells of 1 m (dx 4096) take a dt of 435.
  *
  * The call works on the stack: in about 16 KiB for a reach of at most 64 cells, and in about 214 KiB
  * for a longer one. Lend a worker thread that calls it with long reaches 512 KiB. */
 uint32_t bassoonsun_step(const int32_t *now, size_t now_len, int32_t *next, size_t next_len,
                          const int32_t *bed, size_t bed_len, const uint16_t *friction,
-                         size_t friction_len, uint32_t dx, uint32_t dt, uint32_t jump,
+                         size_t friction_len, uint32_t dx, uint32_t dt, uint32_t jump, uint32_t dry,
                          uint32_t left, uint32_t right, int64_t volumes[2]);
 
 /* What crosses one face between water of depth hl and speed ul on its left and of depth hr and

@@ -9,7 +9,7 @@ from math import cos, pi, sin, sqrt
 
 from former import stepped_before_e2
 from picture import BLACK, BLUE, EARTH, ORANGE, Picture
-from reach import UNIT, WALL, Reach, refusal_of, stepped, units
+from reach import DRY, UNIT, WALL, Reach, refusal_of, stepped, units
 from tables import count_text, table
 
 LENGTH, FOOT, SHORE, STRIP = 2048, 1024, 1792, 128      # m; the strip is that of one cell of 16
@@ -19,7 +19,6 @@ SAMPLE, SAMPLES = 6, 150                                # s between samples, and
 RUNS = ((16, 0), (32, 0), (16, 64), (32, 64), (64, 64))             # cells and J
 SMOOTHER = ((0.030, 32), (0.020, 16), (0.020, 32))                  # Manning values and cells
 UNLIMITED = 262144                                      # J at its greatest: no slope is limited
-DRY = 4                                                 # the dry depth, in units
 ARRIVAL = 66                                            # the sample of the profile, when the wave comes
 BELOW, ABOVE = SHORE - STRIP, SHORE
 

@@ -2,7 +2,7 @@
  *
  *     reach STEPS EVERY
  *
- * Read, as whole numbers parted by blanks: n dx dt J left right, then n + 1 beds, n Manning values
+ * Read, as whole numbers parted by blanks: n dx dt J dry left right, then n + 1 beds, n Manning values
  * and 4n numbers of the state, all in the library's units. Written, at the start and after every
  * EVERY steps: one line with what crossed face 0 and face n since the start, and the 4n numbers.
  *
@@ -17,7 +17,7 @@ enum { MOST_CELLS = 1024 };
 
 typedef struct {
     size_t cells;
-    uint32_t dx, dt, jump, left, right;
+    uint32_t dx, dt, jump, dry, left, right;
     int32_t bed[MOST_CELLS + 1];
     uint16_t friction[MOST_CELLS];
     int32_t now[4 * MOST_CELLS], next[4 * MOST_CELLS];
@@ -43,8 +43,8 @@ static int read_friction(uint16_t *table, size_t count)
 /* Gives 1 when a whole reach was read. Only its size is judged here; the library judges the rest. */
 static int read_reach(Reach *reach)
 {
-    if (scanf("%zu %" SCNu32 " %" SCNu32 " %" SCNu32 " %" SCNu32 " %" SCNu32, &reach->cells, &reach->dx,
-              &reach->dt, &reach->jump, &reach->left, &reach->right) != 6 ||
+    if (scanf("%zu %" SCNu32 " %" SCNu32 " %" SCNu32 " %" SCNu32 " %" SCNu32 " %" SCNu32, &reach->cells,
+              &reach->dx, &reach->dt, &reach->jump, &reach->dry, &reach->left, &reach->right) != 7 ||
         reach->cells > MOST_CELLS)
         return 0;
     return read_numbers(reach->bed, reach->cells + 1) && read_friction(reach->friction, reach->cells) &&
@@ -66,7 +66,7 @@ static uint32_t step(Reach *reach)
     int64_t volumes[2];
     uint32_t refusal = bassoonsun_step(reach->now, 4 * n, reach->next, 4 * n, reach->bed, n + 1,
                                        reach->friction, n, reach->dx, reach->dt, reach->jump,
-                                       reach->left, reach->right, volumes);
+                                       reach->dry, reach->left, reach->right, volumes);
     if (refusal != 0)
         return refusal;
     memcpy(reach->now, reach->next, 4 * n * sizeof reach->now[0]);

@@ -10,6 +10,7 @@ from collections import namedtuple
 UNIT = 4096             # one metre, second or m2/s
 GRAVITY = 9.81
 WALL, OPEN = 0, 1
+DRY = 4                 # the dry depth of every run, about 1 mm
 
 # bed: n + 1 numbers; friction: n; cells: n times (level, its slope, discharge, its slope)
 Reach = namedtuple("Reach", "dx dt jump left right bed friction cells")
@@ -24,7 +25,7 @@ def units(metres):
 
 
 def text_of(reach):
-    numbers = [len(reach.cells), reach.dx, reach.dt, reach.jump, reach.left, reach.right]
+    numbers = [len(reach.cells), reach.dx, reach.dt, reach.jump, DRY, reach.left, reach.right]
     numbers += reach.bed + reach.friction
     for cell in reach.cells:
         numbers += cell

@@ -8,7 +8,7 @@
 #include <bassoonsun.h>
 #include <math.h>
 
-enum { METRE = 4096, DX = METRE, DT = METRE / 20, MARK = -77 };
+enum { METRE = 4096, DX = METRE, DT = METRE / 20, DRY = 4, MARK = -77 };
 
 static int passed, failed;
 
@@ -25,7 +25,7 @@ typedef struct {
     const char *what;
     uint32_t due;
     int now_more, next_more, bed_more;      /* elements over what fits n */
-    uint32_t dx, dt, jump, left, right;
+    uint32_t dx, dt, jump, dry, left, right;
     int32_t last_bed;                       /* the last face's bed, */
     uint16_t last_friction;                 /* the last cell's friction */
     int32_t last_level, last_discharge;     /* and means */
@@ -98,13 +98,13 @@ static void try_call(const Call *c, size_t n, int at_end)
     Lent t = lend(c, n, at_end);
     uint32_t given = bassoonsun_step(t.now.first, t.now_len, t.next.first, t.next_len,
                                      t.bed.first, t.bed_len, t.friction.first, n,
-                                     c->dx, c->dt, c->jump, c->left, c->right, t.volumes.first);
+                                     c->dx, c->dt, c->jump, c->dry, c->left, c->right, t.volumes.first);
     check(given == c->due, c->what, n, at_end);
     check(given == 0 ? keeps_water(&t) : untouched(&t), c->what, n, at_end);
     unfence(t.now), unfence(t.next), unfence(t.bed), unfence(t.friction), unfence(t.volumes);
 }
 
-#define GOOD .dx = DX, .dt = DT, .jump = 64, .left = 0, .right = 1, \
+#define GOOD .dx = DX, .dt = DT, .jump = 64, .dry = DRY, .left = 0, .right = 1, \
              .last_bed = 128, .last_friction = 30, .last_level = 5 * METRE / 4
 
 /* A later member of a list takes the place of the same one in GOOD; that is meant here. */
@@ -112,6 +112,8 @@ static void try_call(const Call *c, size_t n, int at_end)
 static const Call calls[] = {
     {GOOD, .what = "accepted", .due = 0},
     {GOOD, .what = "accepted, ends the other way", .due = 0, .left = 1, .right = 0},
+    {GOOD, .what = "accepted, dry depth 1", .due = 0, .dry = 1},
+    {GOOD, .what = "accepted, dry depth 64", .due = 0, .dry = 64},
     {GOOD, .what = "now too long", .due = 1, .now_more = 1},
     {GOOD, .what = "now too short", .due = 1, .now_more = -1},
     {GOOD, .what = "next too long", .due = 1, .next_more = 1},
@@ -123,6 +125,9 @@ static const Call calls[] = {
     {GOOD, .what = "dt 0", .due = 2, .dt = 0},
     {GOOD, .what = "dt too large", .due = 2, .dt = 4097},
     {GOOD, .what = "J too large", .due = 2, .jump = 262145},
+    {GOOD, .what = "dry depth 0", .due = 2, .dry = 0},
+    {GOOD, .what = "dry depth 65", .due = 2, .dry = 65},
+    {GOOD, .what = "dry depth 4294967295", .due = 2, .dry = UINT32_MAX},
     {GOOD, .what = "left end 2", .due = 2, .left = 2},
     {GOOD, .what = "right end 2", .due = 2, .right = 2},
     {GOOD, .what = "odd bed", .due = 3, .last_bed = 127},

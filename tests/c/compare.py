@@ -27,7 +27,6 @@ import double_faces
 import hard
 import model as m
 import roots
-import variants
 
 MARK = b"\xa5"          # serve's, in every byte that a call may write
 PLACES = ("end", "start")
@@ -35,8 +34,8 @@ BLOCK = 2000            # calls at a time, so that memory does not grow with the
 SHOWN = 3               # wrong calls shown of a block
 
 # What is due: the library's number, the way it came about, the tables that the call may write, and
-# a second way that is counted too.
-Due = namedtuple("Due", "answer way tables also", defaults=(None,))
+# further ways that are counted too.
+Due = namedtuple("Due", "answer way tables also", defaults=((),))
 
 # `calls` draws calls from a seed, `asked` writes one for serve, `due` asks the model.  `ways` has
 # each way of answering with an n: it must come at least once in n calls.
@@ -55,7 +54,8 @@ def wide_step(rnd, call):
     if rnd.randrange(10) == 0:
         more = 1 << 16
         return (now + [0] * (4 * more), next_len + 4 * more, bed + [0] * more, friction + [0] * more, *numbers)
-    numbers[rnd.randrange(5)] += rnd.choice((1 << 8, 1 << 16, 1 << 31))
+    k = rnd.randrange(6)
+    numbers[k] = (numbers[k] + rnd.choice((1 << 8, 1 << 16, 1 << 31))) % (1 << 32)
     return (now, next_len, bed, friction, *numbers)
 
 
@@ -70,6 +70,9 @@ def step_asked(call):
     return (table("I", (len(now), next_len, len(bed), len(friction), *numbers))
             + table("i", now) + table("i", bed) + table("H", friction))
 
+
+# Dry depths just outside their list, and the greatest number there is.
+DRY_BEYOND = (m.LEAST_DRY - 1, m.MOST_DRY + 1, (1 << 32) - 1)
 
 # The longest reach; the longest that is worked on short tables, and the next.
 SHORT = 64
@@ -93,7 +96,7 @@ def worked_and_decided(call):
         if any(kept):
             sparing.append(any(a and b for a, b in zip(kept, m.marks(cells, reach.jump))))
         return kept
-    with variants.replaced("spared", spared):
+    with before.replaced(spared=spared):
         found = worked(call)
     if not any(sparing):        # no marked cell was spared: the same before E2, and not worked again
         return found, False
@@ -101,10 +104,30 @@ def worked_and_decided(call):
         return found, worked(call) != found
 
 
+def decided_by_e3(call, found):
+    """Whether the answer was another when a fixed 4 was the dry depth."""
+    if call[7] == before.FIXED_DRY:
+        return False
+    with before.E3():
+        return worked(call) != found
+
+
+def dry_way(dry, number, decided):
+    """How a dry depth at an edge of its list was answered, or None."""
+    if number == 0 and dry in (m.LEAST_DRY, m.MOST_DRY):
+        return "accepted, dry depth %d" % dry
+    if number == 2 and decided and dry in DRY_BEYOND:
+        return "2 numbers, dry depth %d" % dry
+    return None
+
+
 def step_due(call):
-    _, next_len, _, friction, *_ = call
-    (number, given), decided = worked_and_decided(call)
-    also = "decided by E2" + (", long tables" if len(friction) > SHORT else "") if decided else None
+    _, next_len, _, friction, _, _, _, dry, _, _ = call
+    (number, given), by_e2 = worked_and_decided(call)
+    by_e3 = decided_by_e3(call, (number, given))
+    size = ", long tables" if len(friction) > SHORT else ""
+    also = [way for way in (by_e2 and "decided by E2" + size, by_e3 and "decided by E3" + size,
+                            dry_way(dry, number, by_e3)) if way]
     if number:
         return Due(number, "%d %s" % (number, given), MARK * (4 * next_len + 16), also)
     state, left, right = given
@@ -119,6 +142,9 @@ STEP_WAYS = {
     "6 face speed, stage 2": 100, "6 inner-point speed, stage 2": 200,
     "7 faces, stage 2": 50, "8 end state": 1000,
     "decided by E2": 50, "decided by E2, long tables": 2500,
+    "decided by E3": 25, "decided by E3, long tables": 2500,
+    "accepted, dry depth 1": 100, "accepted, dry depth 64": 100,
+    **dict.fromkeys(["2 numbers, dry depth %d" % dry for dry in DRY_BEYOND], 2500),
 }
 
 
@@ -247,7 +273,7 @@ def compare(kind, seed, count, command):
     for block in blocks(kind.calls(seed, count)):
         due = [kind.due(call) for call in block]
         answers.update(d.answer for d in due)
-        ways.update(way for d in due for way in (d.way, d.also) if way)
+        ways.update(way for d in due for way in (d.way, *d.also))
         for place in PLACES:
             wrong[place] += wrong_calls(kind, place, first, block, due, command)
         first += len(block)

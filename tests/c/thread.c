@@ -28,7 +28,7 @@ static void *make_step(void *given)
 {
     Trial *trial = given;
     size_t n = trial->cells;
-    trial->refusal = bassoonsun_step(now, 4 * n, next, 4 * n, bed, n + 1, friction, n, 4096, 204, 64, 0, 1, volumes);
+    trial->refusal = bassoonsun_step(now, 4 * n, next, 4 * n, bed, n + 1, friction, n, 4096, 204, 64, 4, 0, 1, volumes);
     const uint64_t *lowest = trial->stack;
     while (*lowest == PATTERN)
         lowest++;
