@@ -180,11 +180,30 @@ def at_and_over(rule):
     return [(rule(d, d), rule(d + 1, d)) for d in DRY_DEPTHS]
 
 
+def one_cell(h, q, dry):
+    """A cell of some depth and discharge on a flat bed, as the rules of a stage are given it."""
+    return [m.Cell(h, 0, q, 0)], m.Call(1, [0, 0], [m.ROUGHEST], 4096, m.LONGEST_DT, 0, dry, 1, 1)
+
+
+def passes(check, *given):
+    try:
+        check(*given)
+        return True
+    except m.Refused:
+        return False
+
+
 def dry_places():
     case("E3: speed at each dry depth and one over it", at_and_over(lambda h, d: m.speed(-5000, h, d)),
          [(0, -(20480000 // (d + 1))) for d in DRY_DEPTHS])
-    case("E3: friction likewise", at_and_over(lambda h, d: m.friction(32, 9, h, 200, 4096, d)[0] > 0), [(False, True)] * 64)
-    case("E3: drying likewise", at_and_over(lambda h, d: m.dried(m.Cell(h, 0, 7, 3), 0, 0, d)[2:]), [((0, 0), (7, 3))] * 64)
+    case("E3: face speeds likewise", at_and_over(lambda h, d: m.face_speeds(*one_cell(h, 30, d), 1)[0][1].u),
+         [(0, 122880 // (d + 1)) for d in DRY_DEPTHS])
+    case("E3: Gauss points likewise", at_and_over(lambda h, d: m.gauss_sums(*one_cell(h, 30, d), 1)[0]),
+         [(0, 2 * (122880 // (d + 1) * 30 // 4096)) for d in DRY_DEPTHS])
+    case("E3: friction likewise", at_and_over(lambda h, d: m.after_friction(*one_cell(h, 30, d))[0].q0 < 30), [(False, True)] * 64)
+    case("E3: the check of its speed likewise", at_and_over(lambda h, d: passes(m.check_friction_speeds, *one_cell(h, 33 * h, d))),
+         [(True, False)] * 64)
+    case("E3: drying likewise", at_and_over(lambda h, d: m.finished(*one_cell(h, 30, d))[0].q0), [(0, 30)] * 64)
     case("E3: sparing likewise", at_and_over(lambda h, d: spared_at(900, h, dry=d)), [("ss", "--")] * 64)
 
 
