@@ -28,7 +28,8 @@ pub extern "C" fn bassoonsun_step(
     volumes: &mut [i64; 2],
 ) -> u32
     ensures { λ r. ⌜ StepTold
-        (stepOf (lend (now (state .entry)) (length (now (next .entry))) (now (bed .entry)) (now (friction .entry)) dx dt jump dry left right))
+        (stepOf (lend (now (state .entry)) (length (now (next .entry))) (now (bed .entry)) (now (friction .entry))
+        dx dt jump dry left right))
         r (now (next .entry)) (now (next .exit)) (now (volumes .entry)) (now (volumes .exit)) ⌝ }
 {
     let call = Given {

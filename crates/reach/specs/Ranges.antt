@@ -20,7 +20,7 @@ abbrev pub widest : ℤ
 widest = pos 70368744177664
 
 -- a dry depth in its list
-pub record Dry (d : ℤ) : Type 0 where
+pub record DryDepth (d : ℤ) : Type 0 where
   pub least : leastDry ≤ℤ d
   pub most : d ≤ℤ mostDry
 
@@ -32,7 +32,7 @@ pub record Numbers (r : Reach) (c : Call) : Type 0 where
   pub dt-in : UpTo longestStep (c .dt)
   pub jump-pos : pos 0 ≤ℤ c .jump
   pub jump-in : UpTo largestJump (c .jump)
-  pub dry : Dry (c .dry)
+  pub dry : DryDepth (c .dry)
 
 -- a bed that passed check 3, and the beds of n cells
 pub record Ground (b : Bed) : Type 0 where

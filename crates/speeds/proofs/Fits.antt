@@ -11,7 +11,7 @@ use Rattle.rules.specs.Limits.{leastDry, mostDry, deepest, fullest}
 use Rattle.rules.specs.Face.{speed, wave}
 use Rattle.rules.specs.Friction.{cube}
 use Rattle.rules.specs.Refusals.{outside, past, badDry}
-use Rattle.reach.specs.Ranges.{Dry}
+use Rattle.reach.specs.Ranges.{DryDepth}
 use Rattle.rules.specs.Laws.Inside.{above-least, below-most, not-outside}
 use Rattle.speeds.specs.Given.{given, refused, depthFits, dischargeFits, dryFits, speedGiven, waveGiven, cubeGiven}
 use Rattle.speeds.specs.Answers.{valueOf, same, never}
@@ -27,7 +27,7 @@ pub discharge-in : (q : ℤ) → dischargeFits q ≡ true → Within 8388608 q
 unfolding dischargeFits
 discharge-in q e = within-past 8388608 q (not-true (past fullest q) e)
 
-pub dry-in : (d : ℤ) → dryFits d ≡ true → Dry d
+pub dry-in : (d : ℤ) → dryFits d ≡ true → DryDepth d
 unfolding dryFits
 dry-in d e =
     let f = not-true (badDry d) e in record { least = above-least leastDry mostDry d f; most = below-most leastDry mostDry d f }
@@ -41,12 +41,12 @@ pub in-discharge : (q : ℤ) → Within 8388608 q → dischargeFits q ≡ true
 unfolding dischargeFits
 in-discharge q w = ap not (not-beyond 8388608 q w)
 
-pub in-dry : (d : ℤ) → Dry d → dryFits d ≡ true
+pub in-dry : (d : ℤ) → DryDepth d → dryFits d ≡ true
 unfolding dryFits
 in-dry d i = ap not (not-outside leastDry mostDry d (i .least) (i .most))
 
 -- ---- so within the limits
-pub speed-given : (q h d : ℤ) → Within 8388608 q → pos 0 ≤ℤ h → h ≤ℤ deepest → Dry d → speedGiven q h d ≡ given (speed d q h)
+pub speed-given : (q h d : ℤ) → Within 8388608 q → pos 0 ≤ℤ h → h ≤ℤ deepest → DryDepth d → speedGiven q h d ≡ given (speed d q h)
 unfolding speedGiven
 speed-given q h d w a b i = rw (in-discharge q w, in-depth h a b, in-dry d i)
 

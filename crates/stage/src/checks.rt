@@ -28,7 +28,7 @@ ghost use Rattle.tables.specs.Cells.{asCell, seen};
 ghost use Rattle.rules.specs.Refusals.{badCall, badBed, badRough, offCell, fastCell};
 ghost use Rattle.rules.specs.Lent.{misfit};
 ghost use Rattle.reach.specs.Told.{reachIn, callOn, bedIn, bedAt};
-ghost use Rattle.reach.specs.Ranges.{Dry, AllUnfinished};
+ghost use Rattle.reach.specs.Ranges.{DryDepth, AllUnfinished};
 ghost use Rattle.stage.specs.Ranges.{Room, Inside, Ranged};
 
 // 1: do the tables not fit the n cells?
@@ -131,10 +131,10 @@ pub fn off(t: &[Cell], bed: &[i32], reach: Reach) -> bool
     false
 }
 
-// Is the speed of a cell's mean discharge too large? A dry cell has none.
+// Is the speed of a cell's mean discharge too large? A shallow cell has none.
 fn fast_cell(b: Bed, x: Cell, dry: i64) -> bool
     requires { ⌜ Inside (bedIn b) (asCell x) ⌝ }
-    requires { ⌜ Dry dry ⌝ }
+    requires { ⌜ DryDepth dry ⌝ }
     ensures { λ r. ⌜ r ≡ fastCell dry (bedIn b) (asCell x) ⌝ }
 {
     let h = depths(b, x);
@@ -145,7 +145,7 @@ fn fast_cell(b: Bed, x: Cell, dry: i64) -> bool
 pub fn fast(t: &[Cell], bed: &[i32], reach: Reach, call: Call) -> bool
     requires { ⌜ Room reach (now t) ⌝ }
     requires { ⌜ Ranged (now bed) (reach .n) (seen (now t)) ⌝ }
-    requires { ⌜ Dry (call .dry) ⌝ }
+    requires { ⌜ DryDepth (call .dry) ⌝ }
     ensures { λ r. ⌜ r ≡ some (λ i. fastCell (call .dry) (bedAt (now (bed .entry)) i) (seen (now (t .entry)) i)) (reach .n) ⌝ }
 {
     let n = reach.n;

@@ -23,7 +23,7 @@ ghost use Rattle.rules.specs.Friction.{cube, drag, slowed};
 ghost use Rattle.rules.specs.Step.{rubbedCell};
 ghost use Rattle.rules.specs.Refusals.{past, fastCell};
 ghost use Rattle.reach.specs.Told.{bedIn};
-ghost use Rattle.reach.specs.Ranges.{UpTo, Dry, Numbers};
+ghost use Rattle.reach.specs.Ranges.{UpTo, DryDepth, Numbers};
 ghost use Rattle.stage.specs.Rows.{rubbedAt};
 ghost use Rattle.stage.specs.Ranges.{Room, Inside, Ranged, Slows, strongest};
 
@@ -65,7 +65,7 @@ fn slowed_by(x: i64, q: i64) -> i64
 fn strength(call: Call, f: i64, q: i64, h: i64) -> i64
     requires { ⌜ (pos 0 ≤ℤ call .dt) × UpTo longestStep (call .dt) ⌝ }
     requires { ⌜ (pos 0 ≤ℤ f) × UpTo roughest f ⌝ }
-    requires { ⌜ UpTo fullest q × Dry (call .dry) ⌝ }
+    requires { ⌜ UpTo fullest q × DryDepth (call .dry) ⌝ }
     requires { ⌜ (leastDry <ℤ h) × (h ≤ℤ deepest) ⌝ }
     requires { ⌜ past fastest (speed (call .dry) q h) ≡ false ⌝ }
     ensures { λ r. ⌜ r ≡ drag (call .dt) f h (speed (call .dry) q h) ⌝ }
@@ -82,11 +82,11 @@ fn slowed_cell(d: i64, x: Cell) -> Cell
     [x[0], x[1], slowed_by(d, x[2]), slowed_by(d, x[3])]
 }
 
-// A cell after friction of the Manning value f. Dry cells keep what they have.
+// A cell after friction of the Manning value f. Shallow cells keep what they have.
 fn rubbed_cell(call: Call, f: i64, b: Bed, x: Cell) -> Cell
     requires { ⌜ (pos 0 ≤ℤ call .dt) × UpTo longestStep (call .dt) ⌝ }
     requires { ⌜ (pos 0 ≤ℤ f) × UpTo roughest f ⌝ }
-    requires { ⌜ Inside (bedIn b) (asCell x) × Dry (call .dry) ⌝ }
+    requires { ⌜ Inside (bedIn b) (asCell x) × DryDepth (call .dry) ⌝ }
     requires { ⌜ fastCell (call .dry) (bedIn b) (asCell x) ≡ false ⌝ }
     ensures { λ r. ⌜ r ≡ asList (rubbedCell (call .dt) (call .dry) f (bedIn b) (asCell x)) ⌝ }
 {

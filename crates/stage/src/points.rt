@@ -15,7 +15,7 @@ ghost use Rattle.tables.specs.Cells.{asCell, seen};
 ghost use Rattle.rules.specs.Limits.{fullest};
 ghost use Rattle.rules.specs.Stage.{share};
 ghost use Rattle.reach.specs.Told.{bedIn};
-ghost use Rattle.reach.specs.Ranges.{UpTo, Dry};
+ghost use Rattle.reach.specs.Ranges.{UpTo, DryDepth};
 ghost use Rattle.stage.specs.Ranges.{Room, Inside, Ranged, Around, thinFastest};
 ghost use Rattle.stage.specs.Rows.{pointsBy, pointRow, fastPointsAt, momentumAt};
 
@@ -39,7 +39,7 @@ fn carried_both(p: i64, u: i64, q: i64, w: i64) -> i64
 // The row of a cell of mean depth m, mean discharge p, and their slopes' shares d and q.
 fn pair_of(m: i64, d: i64, p: i64, q: i64, dry: i64) -> [i64; 3]
     requires { ⌜ Around m d p q ⌝ }
-    requires { ⌜ Dry dry ⌝ }
+    requires { ⌜ DryDepth dry ⌝ }
     ensures { λ r. ⌜ r ≡ pointsBy dry (m -ℤ d) (p -ℤ q) (m +ℤ d) (p +ℤ q) ⌝ }
 {
     let before = p - q;
@@ -52,7 +52,7 @@ fn pair_of(m: i64, d: i64, p: i64, q: i64, dry: i64) -> [i64; 3]
 // The two speeds of a cell's Gauss points, and the sum of their momenta.
 fn points_of(b: Bed, x: Cell, dry: i64) -> [i64; 3]
     requires { ⌜ Inside (bedIn b) (asCell x) ⌝ }
-    requires { ⌜ Dry dry ⌝ }
+    requires { ⌜ DryDepth dry ⌝ }
     ensures { λ r. ⌜ r ≡ pointRow dry (bedIn b) (asCell x) ⌝ }
 {
     let h = depths(b, x);
@@ -63,7 +63,7 @@ fn points_of(b: Bed, x: Cell, dry: i64) -> [i64; 3]
 pub fn points(t: &[Cell], bed: &[i32], reach: Reach, call: Call, g: &mut [i64]) -> bool
     requires { ⌜ Room reach (now t) × Room reach (now g) ⌝ }
     requires { ⌜ Ranged (now bed) (reach .n) (seen (now t)) ⌝ }
-    requires { ⌜ Dry (call .dry) ⌝ }
+    requires { ⌜ DryDepth (call .dry) ⌝ }
     ensures { λ r. ⌜ FillSays (pos 0) (reach .n) (fastPointsAt (call .dry) (now (bed .entry)) (seen (now (t .entry))))
         (momentumAt (call .dry) (now (bed .entry)) (seen (now (t .entry)))) r (now (g .exit)) ⌝ }
 {

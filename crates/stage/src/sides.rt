@@ -19,7 +19,7 @@ ghost use Rattle.rules.specs.Limits.{deepest, fullest};
 ghost use Rattle.rules.specs.Face.{speed};
 ghost use Rattle.rules.specs.Reach.{short, sideL, sideR};
 ghost use Rattle.reach.specs.Told.{bedIn};
-ghost use Rattle.reach.specs.Ranges.{UpTo, Dry, widest};
+ghost use Rattle.reach.specs.Ranges.{UpTo, DryDepth, widest};
 ghost use Rattle.stage.specs.Ranges.{Room, Inside, Ranged, Around};
 ghost use Rattle.stage.specs.Rows.{sideBy, sideRow, sidesAt, fastSides};
 
@@ -27,7 +27,7 @@ ghost use Rattle.stage.specs.Rows.{sideBy, sideRow, sidesAt, fastSides};
 pub fn speed_of(q: i64, h: i64, dry: i64) -> i64
     requires { ⌜ UpTo fullest q ⌝ }
     requires { ⌜ (pos 0 ≤ℤ h) × (h ≤ℤ deepest) ⌝ }
-    requires { ⌜ Dry dry ⌝ }
+    requires { ⌜ DryDepth dry ⌝ }
     ensures { λ r. ⌜ r ≡ speed dry q h ⌝ }
 {
     match speeds::speed::speed(q, h, dry) {
@@ -55,7 +55,7 @@ fn depth_of(h: i64) -> i64
 // The two sides of a cell of mean depth m and slope d, mean discharge p and slope q.
 fn row_of(m: i64, d: i64, p: i64, q: i64, dry: i64) -> Sides
     requires { ⌜ Around m d p q ⌝ }
-    requires { ⌜ Dry dry ⌝ }
+    requires { ⌜ DryDepth dry ⌝ }
     ensures { λ r. ⌜ r ≡ sideRow (sideBy dry (m -ℤ d) (p -ℤ q)) (sideBy dry (m +ℤ d) (p +ℤ q)) ⌝ }
 {
     let hl = depth_of(m - d);
@@ -68,7 +68,7 @@ fn row_of(m: i64, d: i64, p: i64, q: i64, dry: i64) -> Sides
 // The two sides of a cell.
 fn sides_of(b: Bed, x: Cell, dry: i64) -> Sides
     requires { ⌜ Inside (bedIn b) (asCell x) ⌝ }
-    requires { ⌜ Dry dry ⌝ }
+    requires { ⌜ DryDepth dry ⌝ }
     ensures { λ r. ⌜ r ≡ sideRow (sideL dry (bedIn b) (asCell x)) (sideR dry (bedIn b) (asCell x)) ⌝ }
 {
     let h = depths(b, x);
@@ -79,7 +79,7 @@ fn sides_of(b: Bed, x: Cell, dry: i64) -> Sides
 pub fn sides(t: &[Cell], bed: &[i32], reach: Reach, call: Call, d: &mut [Sides]) -> bool
     requires { ⌜ Room reach (now t) × Room reach (now d) ⌝ }
     requires { ⌜ Ranged (now bed) (reach .n) (seen (now t)) ⌝ }
-    requires { ⌜ Dry (call .dry) ⌝ }
+    requires { ⌜ DryDepth (call .dry) ⌝ }
     ensures { λ r. ⌜ FillSays [] (reach .n) (fastSides (call .dry) (now (bed .entry)) (seen (now (t .entry))))
         (sidesAt (call .dry) (now (bed .entry)) (seen (now (t .entry)))) r (now (d .exit)) ⌝ }
 {

@@ -26,7 +26,7 @@ ghost use Prim.Native.Nat.{_+_, _*_};
 ghost use lib.ListN.{length};
 ghost use Rattle.tables.specs.Cells.{seen};
 ghost use Rattle.rules.specs.Refusals.{verdict};
-ghost use Rattle.reach.specs.Ranges.{Dry, Wides};
+ghost use Rattle.reach.specs.Ranges.{DryDepth, Wides};
 ghost use Rattle.stage.specs.Ranges.{InOrder, Room, FaceRoom, Ranged, FaceRows};
 ghost use Rattle.stage.specs.Says.{readyChecks, OneSays, TwoSays, BothSay};
 ghost use Rattle.stage.specs.Worked.{TablesSay, lentBy, WorkedSays};
@@ -47,7 +47,7 @@ pub enum Worked {
 // Checks 3 to 5 and the friction speeds of the lent state in t, in their order; 0 where none applies.
 fn ready(t: &[Cell], bed: &[i32], friction: &[u16], reach: Reach, call: Call) -> u32
     requires { ⌜ Room reach (now t) × (length (now bed) ≡ reach .n + 1) × (length (now friction) ≡ reach .n) ⌝ }
-    requires { ⌜ Wides (reach .n) (seen (now t)) × Dry (call .dry) ⌝ }
+    requires { ⌜ Wides (reach .n) (seen (now t)) × DryDepth (call .dry) ⌝ }
     ensures { λ r. ⌜ r ≡ verdict (readyChecks (call .dry) (reach .n) (now (bed .entry)) (now (friction .entry)) (seen (now (t .entry)))) ⌝ }
 {
     if bad_bed(bed) {

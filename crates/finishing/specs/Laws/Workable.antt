@@ -22,7 +22,7 @@ use Rattle.rules.specs.Laws.Inside.{above-least, below-most, not-outside}
 use Rattle.reach.specs.declared.Reach.{Reach}
 use Rattle.reach.specs.declared.Call.{Call}
 use Rattle.reach.specs.Told.{bedAt}
-use Rattle.reach.specs.Ranges.{UpTo, widest, Dry, Unfinished, AllUnfinished}
+use Rattle.reach.specs.Ranges.{UpTo, widest, DryDepth, Unfinished, AllUnfinished}
 use Rattle.finishing.specs.Unfit.{eitherPast, tooLarge, hindrances, unfit}
 
 -- ---- a list of tests of which none holds, by place
@@ -69,7 +69,7 @@ pub record Workable (reach : Reach) (call : Call) (bed : List ℤ) (u : List (Li
   pub beds : length bed ≡ reach .n + 1
   pub jump-pos : pos 0 ≤ℤ call .jump
   pub jump-in : UpTo largestJump (call .jump)
-  pub dry : Dry (call .dry)
+  pub dry : DryDepth (call .dry)
   pub cells : AllUnfinished bed (reach .n) (seen u)
 
 module _ (reach : Reach) (call : Call) (bed : List ℤ) (u : List (List ℤ)) (room : ℕ) where

@@ -75,6 +75,7 @@ module _ (state : List ℤ) (room : ℕ) (bed : List ℤ) (friction : List ℕ) 
 
     -- the checks after 2 are those of the step on tables
     pub later-checks : badCall (reachOf lent) (callOf lent) ≡ false
-        → number lent ≡ verdict (readyChecks (callOf lent .dry) n bed friction (stateOf lent) ++ bothChecks (reachOf lent) (callOf lent) (stateOf lent))
+        → number lent
+        ≡ verdict (readyChecks (callOf lent .dry) n bed friction (stateOf lent) ++ bothChecks (reachOf lent) (callOf lent) (stateOf lent))
     unfolding verdict
     later-checks b = after ∙ rw b

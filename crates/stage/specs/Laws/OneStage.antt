@@ -30,17 +30,21 @@ use Rattle.stage.specs.Laws.StateSizes.{sounds, gauss-size}
 
 -- ---- the checks of the speeds, as a stage answers them
 module _ (reach : Reach) (call : Call) (bed : List ℤ) (s : State) (ρ : ℕ → ℤ) (o : 0 < reach .n) where
+  abbrev dry : ℤ
+  dry = call .dry
+
   abbrev checks : List Check
   checks = stageChecks (reachIn reach bed) (callOn call ρ) s
 
-  sides-pass : some (fastSides (call .dry) bed s) (reach .n) ≡ false → some (fastFace (reachIn reach bed) (callOn call ρ) s) (suc (reach .n)) ≡ false
+  sides-pass : some (fastSides dry bed s) (reach .n) ≡ false
+      → some (fastFace (reachIn reach bed) (callOn call ρ) s) (suc (reach .n)) ≡ false
   sides-pass e = sym (fast-faces reach call bed ρ s o) ∙ e
 
-  pub says-fast : some (fastSides (call .dry) bed s) (reach .n) ≡ true → 6 ≡ verdict checks
+  pub says-fast : some (fastSides dry bed s) (reach .n) ≡ true → 6 ≡ verdict checks
   unfolding stageChecks
   says-fast e = stops-at checks 0 tt (sym (fast-faces reach call bed ρ s o) ∙ e)
 
-  pub says-points : some (fastSides (call .dry) bed s) (reach .n) ≡ false → some (fastPointsAt (call .dry) bed s) (reach .n) ≡ true → 6 ≡ verdict checks
+  pub says-points : some (fastSides dry bed s) (reach .n) ≡ false → some (fastPointsAt dry bed s) (reach .n) ≡ true → 6 ≡ verdict checks
   unfolding stageChecks fastGauss
   says-points e f = stops-at checks 1 (sides-pass e, tt) f
 
@@ -53,7 +57,8 @@ momenta dry n bed s inside e g h i l = subst (UpTo mostMomentum) (sym (h i l))
 pub rows-sized : (reach : Reach) (call : Call) (bed : List ℤ) (s : State) → 0 < reach .n → Ranged bed (reach .n) s → Numbers reach call
     → some (fastSides (call .dry) bed s) (reach .n) ≡ false → (d x : List (List ℤ)) → Written [] d (reach .n) (sidesAt (call .dry) bed s)
     → Written [] x (suc (reach .n)) (faceRowAt reach call d) → FaceRows x (reach .n)
-rows-sized reach call bed s o inside num e d x w h = face-rows reach call d x (num .dt-in) o (sounds (call .dry) (reach .n) bed s inside e d w) h
+rows-sized reach call bed s o inside num e d x w h =
+    face-rows reach call d x (num .dt-in) o (sounds (call .dry) (reach .n) bed s inside e d w) h
 
 -- ---- a stage from s that passed them, with its sides in d
 pub record Slowed (reach : Reach) (call : Call) (bed : List ℤ) (s : State) (d : List (List ℤ)) : Type 0 where

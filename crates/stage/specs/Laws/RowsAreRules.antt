@@ -50,6 +50,9 @@ module _ (reach : Reach) (call : Call) (bed : List ℤ) (ρ : ℕ → ℤ) (s : 
   abbrev c : rules.Call
   c = callOn call ρ
 
+  abbrev dry : ℤ
+  dry = call .dry
+
   abbrev n : ℕ
   n = reach .n
 
@@ -81,28 +84,29 @@ module _ (reach : Reach) (call : Call) (bed : List ℤ) (ρ : ℕ → ℤ) (s : 
     one-fast i l false true p q e = at-right i l q
     one-fast i l false false p q e = clash e
 
-    none-fast : some (fastSides (call .dry) bed s) n ≡ false → (i : ℕ) → i < suc n → fastFace r c s i ≡ false
+    none-fast : some (fastSides dry bed s) n ≡ false → (i : ℕ) → i < suc n → fastFace r c s i ≡ false
     unfolding fastFace
-    none-fast e zero l = slow-sides (call .dry) n bed s e zero o .0
+    none-fast e zero l = slow-sides dry n bed s e zero o .0
     none-fast e (suc i) l =
-        let p = slow-sides (call .dry) n bed s e i (omega arith) .1 in
-        by (eqb (suc i) n) (λ d. rw (p, d)) (λ d. rw (p, d) (slow-sides (call .dry) n bed s e (suc i) (inside i n (omega arith) d) .0))
+        let p = slow-sides dry n bed s e i (omega arith) .1 in
+        by (eqb (suc i) n) (λ d. rw (p, d)) (λ d. rw (p, d) (slow-sides dry n bed s e (suc i) (inside i n (omega arith) d) .0))
 
-    pub fast-faces : some (fastSides (call .dry) bed s) n ≡ some (fastFace r c s) (suc n)
+    pub fast-faces : some (fastSides dry bed s) n ≡ some (fastFace r c s) (suc n)
     unfolding fastSides fastL fastR
-    fast-faces = by (some (fastSides (call .dry) bed s) n)
-        (λ e. let f = some-yes (fastSides (call .dry) bed s) n e in let i = f .0 in e ∙ sym (one-fast i (f .1) (fastL i) (fastR i) refl refl (f .2)))
+    fast-faces = by (some (fastSides dry bed s) n)
+        (λ e. let f = some-yes (fastSides dry bed s) n e in let i = f .0 in
+        e ∙ sym (one-fast i (f .1) (fastL i) (fastR i) refl refl (f .2)))
         (λ e. e ∙ sym (none-some (fastFace r c s) (suc n) (none-fast e)))
 
   -- ---- what crosses the faces of a table of sides is what crosses the faces of the state
-  pub cross-at : (d : List (List ℤ)) → Written [] d n (sidesAt (call .dry) bed s) → 0 < n → (i : ℕ) → i < suc n
+  pub cross-at : (d : List (List ℤ)) → Written [] d n (sidesAt dry bed s) → 0 < n → (i : ℕ) → i < suc n
       → crossAt reach call d i ≡ faceAt r c s i
   unfolding crossAt faceAt faceRight leftEnd rightEnd
-  cross-at d w o zero l = ap (λ (x : Side). face (outer (call .left) x) x) (left-in (call .dry) n bed s d w zero o)
-  cross-at d w o (suc i) l = let right = right-in (call .dry) n bed s d w i (omega arith) in
+  cross-at d w o zero l = ap (λ (x : Side). face (outer (call .left) x) x) (left-in dry n bed s d w zero o)
+  cross-at d w o (suc i) l = let right = right-in dry n bed s d w i (omega arith) in
       by (eqb (suc i) n)
       (λ e. rw e (ap (λ (x : Side). face x (outer (call .right) x)) right))
-      (λ e. rw e (ap₂ face right (left-in (call .dry) n bed s d w (suc i) (inside i n (omega arith) e))))
+      (λ e. rw e (ap₂ face right (left-in dry n bed s d w (suc i) (inside i n (omega arith) e))))
 
 -- ---- an update from rows is the rule's
 pub update-is : (dx dt dry : ℤ) (b : Bed) (x : Cell) (l f : Flux)

@@ -14,7 +14,8 @@ use Rattle.finishing.proofs.cell.dried_cell.Tie as tie
 -- what the test says
 test : (c : tie.After-is-shallow) → let s = c .before in
     shallow (s .args .dry) (bedIn (s .args .b)) (asCell (s .args .t2)) ≡ c .is-shallow .result
-test c = let s = c .before in sym (c .is-shallow .ensures ∙ (λ k. shallow (toZ-ofZ (s .fits .dry) k) (bedIn (s .args .b)) (asCell (s .args .t2))))
+test c = let s = c .before in let a = s .args in
+    sym (c .is-shallow .ensures ∙ (λ k. shallow (toZ-ofZ (s .fits .dry) k) (bedIn (a .b)) (asCell (a .t2))))
 
 returns : tie.Need-returns
 unfolding dried

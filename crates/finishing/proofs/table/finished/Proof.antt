@@ -46,8 +46,9 @@ returns : tie.Need-returns
 unfolding finish
 returns c =
     let t = c .before in let k = t .before in let l = k .before in let b = l .before in let dry = b .before .args .call .dry in
+    let read = back {z = dry} (omega (arith, t .struct-told .given)) in
     λ ρ. c .dried-cell .ensures
-    ∙ (λ x. asList (dried (back {z = dry} (omega (arith, t .struct-told .given)) x) (bedIn (b .under .result)) (asCell (k .cut-cell .ensures x))))
+    ∙ (λ x. asList (dried (read x) (bedIn (b .under .result)) (asCell (k .cut-cell .ensures x))))
     ∙ (λ x. asList (dried dry (b .under .ensures x) (cut (b .under .ensures x) (asCell (l .limit .ensures ρ x)))))
 
 pub finished-spec : {M : Type 1} → statement M

@@ -28,7 +28,10 @@ rubbed-cell-requires c κs =
     let w = s .pre .1 .1 .1 i (e .loop-test .taken) in
     rw (back64 (r .rough-of .ok) (r .rough-of .ensures), b .under .ensures, l .loop .inv .1 .above i (omega arith)) (
       (s .pre .1 .0 .dt-pos, s .pre .1 .0 .dt-in),
-      ((nat-nonneg (getD (now (s .args .friction)) i 0), record { abs = w .rough }), ((s .pre .1 .1 .0 i (e .loop-test .taken), s .pre .1 .0 .dry), w .speed)),
+      (
+        (nat-nonneg (getD (now (s .args .friction)) i 0), record { abs = w .rough }),
+        ((s .pre .1 .1 .0 i (e .loop-test .taken), s .pre .1 .0 .dry), w .speed),
+      ),
     )
 
 loop-again : tie.Need-loop-again Inv-loop μ-loop

@@ -2,7 +2,6 @@
 use mathlib.Core.Path.{_≡_, sym, _∙_}
 use mathlib.Core.Bool.{true, false}
 use mathlib.Core.List.{[], _∷_}
-use native.Mathlib.Omega.{arith}
 use lib.IntN.{ℤ, pos}
 use lib.Signed.{_≤ℤ_, _<ℤ_}
 use mir.Facts.{toZ-ofZ}
@@ -20,7 +19,7 @@ use Rattle.rules.specs.Step.{rubbedCell}
 use Rattle.rules.specs.Refusals.{fastCell}
 use Rattle.rules.specs.Laws.DryDepth.{rub-dry, rub-wet}
 use Rattle.reach.specs.Told.{bedIn}
-use Rattle.reach.specs.Ranges.{UpTo, Dry}
+use Rattle.reach.specs.Ranges.{UpTo, DryDepth}
 use Rattle.stage.specs.Ranges.{strongest, Inside}
 use Rattle.stage.specs.Laws.CellSizes.{CellSizes, cell-sizes}
 use Rattle.stage.specs.Laws.FrictionStrength.{drag-nonneg, drag-most}
@@ -41,7 +40,7 @@ module _ (s : tie.Start) where
   inside : Inside bed cell
   inside = s .pre .1 .1 .0 .0
 
-  dry-in : Dry dry
+  dry-in : DryDepth dry
   dry-in = s .pre .1 .1 .0 .1
 
   sizes : CellSizes bed cell

@@ -9,14 +9,14 @@ use Rattle.rules.specs.Limits.{leastDry, deepest, fullest, fastest}
 use Rattle.rules.specs.Face.{speed}
 use Rattle.rules.specs.Refusals.{past}
 use Rattle.whole.specs.Choice.{within-past}
-use Rattle.reach.specs.Ranges.{UpTo, Dry}
+use Rattle.reach.specs.Ranges.{UpTo, DryDepth}
 use Rattle.stage.specs.Laws.FrictionStrength.{wet}
 use Rattle.stage.proofs.friction.strength.Statement.{statement}
 use Rattle.stage.proofs.friction.strength.Tie as tie
 
 -- what is asked of the discharge and the dry depth, of the depth, and of the speed
 module _ (s : tie.Start) where
-  flow : UpTo fullest (s .args .q) × Dry (s .args .call .dry)
+  flow : UpTo fullest (s .args .q) × DryDepth (s .args .call .dry)
   flow = s .pre .1 .1 .0
 
   depth : (leastDry <ℤ s .args .h) × (s .args .h ≤ℤ deepest)

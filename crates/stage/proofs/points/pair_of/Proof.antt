@@ -21,27 +21,28 @@ sub-speed-of : tie.Need-sub-speed-of
 sub-speed-of c = simp (toZ-ofZ, c .fits .m, c .fits .d) (left-fits (c .pre .0))
 
 speed-of-requires : tie.Need-speed-of-requires
-speed-of-requires c κs = simp (toZ-ofZ, c .fits .m, c .fits .d, c .fits .p, c .fits .q, c .fits .dry, ql-fits (c .pre .0), left-fits (c .pre .0))
-    (c .pre .0 .ql, ((c .pre .0 .left, c .pre .0 .left-most), c .pre .1))
+speed-of-requires c κs = let a = c .pre .0 in
+    simp (toZ-ofZ, c .fits .m, c .fits .d, c .fits .p, c .fits .q, c .fits .dry, ql-fits a, left-fits a)
+    (a .ql, ((a .left, a .left-most), c .pre .1))
 
 u-is : (c : tie.After-speed-of) → let a = c .before .args in c .speed-of .result ≡ speed (a .dry) (a .p -ℤ a .q) (a .m -ℤ a .d)
 u-is c =
-    let s = c .before in
-    simp (toZ-ofZ, s .fits .m, s .fits .d, s .fits .p, s .fits .q, s .fits .dry, ql-fits (s .pre .0), left-fits (s .pre .0)) at (c .speed-of .ensures)
+    let s = c .before in let a = s .pre .0 in
+    simp (toZ-ofZ, s .fits .m, s .fits .d, s .fits .p, s .fits .q, s .fits .dry, ql-fits a, left-fits a) at (c .speed-of .ensures)
 
 add-speed-of : tie.Need-add-speed-of
 add-speed-of c = let s = c .before in simp (toZ-ofZ, s .fits .m, s .fits .d) (right-fits (s .pre .0))
 
 speed-of-requires-2 : tie.Need-speed-of-requires-2
 speed-of-requires-2 c κs =
-    let s = c .before in
-    simp (toZ-ofZ, s .fits .m, s .fits .d, s .fits .p, s .fits .q, s .fits .dry, qr-fits (s .pre .0), right-fits (s .pre .0))
-    (s .pre .0 .qr, ((s .pre .0 .right, s .pre .0 .right-most), s .pre .1))
+    let s = c .before in let a = s .pre .0 in
+    simp (toZ-ofZ, s .fits .m, s .fits .d, s .fits .p, s .fits .q, s .fits .dry, qr-fits a, right-fits a)
+    (a .qr, ((a .right, a .right-most), s .pre .1))
 
 w-is : (c : tie.After-speed-of2) → let a = c .before .before .args in c .speed-of2 .result ≡ speed (a .dry) (a .p +ℤ a .q) (a .m +ℤ a .d)
 w-is c =
-    let s = c .before .before in
-    simp (toZ-ofZ, s .fits .m, s .fits .d, s .fits .p, s .fits .q, s .fits .dry, qr-fits (s .pre .0), right-fits (s .pre .0)) at (c .speed-of2 .ensures)
+    let s = c .before .before in let a = s .pre .0 in
+    simp (toZ-ofZ, s .fits .m, s .fits .d, s .fits .p, s .fits .q, s .fits .dry, qr-fits a, right-fits a) at (c .speed-of2 .ensures)
 
 carried-both-requires : tie.Need-carried-both-requires
 carried-both-requires c κs =

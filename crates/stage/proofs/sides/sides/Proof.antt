@@ -51,7 +51,8 @@ returns c =
 
 loop-again : tie.Need-loop-again Inv-loop μ-loop
 loop-again c =
-    let f = c .before in let g = f .before .before .before in let e = g .before .before .before .before in let l = e .before in let s = l .before in
+    let f = c .before in let g = f .before .before .before in let e = g .before .before .before .before in
+    let l = e .before in let s = l .before in
     fill-more [] _ _ _ _ (l .loop .d) (l .loop .i) _ (s .pre .0 .1) (e .loop-test .taken) (l .loop .inv) (fast f ∙ c .if1 .left) (row g)
 
 returns-2 : tie.Need-returns-2 Inv-loop μ-loop

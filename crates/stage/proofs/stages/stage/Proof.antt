@@ -73,7 +73,10 @@ faces-requires : tie.Need-faces-requires
 faces-requires c κs =
     let h = c .before .before in let p = slowed h in let s = start (sided h) in let a = s .args in (
       (s .pre .0 .0, omega arith, omega arith),
-      (s .pre .1 .1 .0, sounds (a .call .dry) (a .reach .n) (now (a .bed)) (state s) (s .pre .1 .1 .1) (p .slow-sides) (d (sided h)) (p .sides)),
+      (
+        s .pre .1 .1 .0,
+        sounds (a .call .dry) (a .reach .n) (now (a .bed)) (state s) (s .pre .1 .1 .1) (p .slow-sides) (d (sided h)) (p .sides),
+      ),
     )
 
 returns-3 : tie.Need-returns-3
@@ -98,7 +101,8 @@ module _ (t : tie.Else3) where
   rows : let a = start (sided passed) .args in Written [] f (suc (a .reach .n)) (faceRowAt (a .reach) (a .call) (d (sided passed)))
   rows = faced .faces .ensures .filled (t .if3 .left)
 
-  points : let s = start (sided passed) in Written (pos 0) (g passed) (s .args .reach .n) (momentumAt (s .args .call .dry) (now (s .args .bed)) (state s))
+  points : let s = start (sided passed) in let a = s .args in
+      Written (pos 0) (g passed) (a .reach .n) (momentumAt (a .call .dry) (now (a .bed)) (state s))
   points = pointed passed .points .ensures .filled (passed .if2 .left)
 
 update-requires : tie.Need-update-requires

@@ -51,13 +51,14 @@ module _ (t : tie.After-rub) where
 
 both-stages-requires : tie.Need-both-stages-requires
 both-stages-requires c κs =
-    let t = c .before .before .before .before .before .before .before .before in let w = checked t in let b = s w in (
+    let t = c .before .before .before .before .before .before .before .before in let w = checked t in
+    let b = s w in let given = b .pre .0 .0 .numbers in (
       b .pre .0 .0,
       (
         (omega arith, omega arith, omega arith, omega arith, omega arith),
         (
           (omega arith, omega arith),
-          rubbed-ranged (lent w) (passed t .if1 .left) (t .rub .ensures) (b .pre .0 .0 .numbers .dt-pos) (b .pre .0 .0 .numbers .dry .least),
+          rubbed-ranged (lent w) (passed t .if1 .left) (t .rub .ensures) (given .dt-pos) (given .dry .least),
         ),
       ),
     )
