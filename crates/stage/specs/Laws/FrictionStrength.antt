@@ -2,18 +2,18 @@
 -- Assumes nothing.
 use Prim.Native.Nat.{suc, _*_}
 use native.Mathlib.Omega.{arith}
-use lib.IntN.{ℤ, pos, negsuc, _*ℤ_}
+use lib.IntN.{ℤ, pos, negsuc, _+ℤ_, _*ℤ_}
 use lib.Signed.{_≤ℤ_, _<ℤ_}
-use Rattle.whole.specs.Parts.{b-mul, b-lit, b-up, b-nonneg, cross, le-lit, le-trans}
+use Rattle.whole.specs.Parts.{b-add, b-mul, b-lit, b-up, b-nonneg, cross, le-lit, le-trans}
 use Rattle.whole.specs.Parts.{lt-le, le-lt-trans, lt-le-trans, lt-suc, nat-nonneg}
 use Rattle.whole.specs.Difference.{lit, nonneg, _⊠_, le!, le?, mul-nonneg}
 use Rattle.whole.specs.Quotient.{quot-nonneg, b-quot-ge}
 use Rattle.whole.specs.Choice.{sizeZ, size-nonneg, b-size}
-use Rattle.rules.specs.Limits.{leastDry, deepest, fastest, roughest, longestStep}
+use Rattle.rules.specs.Limits.{leastDry, deepest, fullest, fastest, roughest, longestStep}
 use Rattle.rules.specs.Friction.{cube, drag}
 use Rattle.rules.specs.Laws.Speeds.{cube-least}
 use Rattle.reach.specs.Ranges.{UpTo}
-use Rattle.stage.specs.Ranges.{strongest}
+use Rattle.stage.specs.Ranges.{strongest, largestProduct, mostSlowed}
 
 -- whatever the friction and the speed
 pub drag-nonneg : (dt f h u : ℤ) → pos 0 ≤ℤ dt → pos 0 ≤ℤ h → pos 0 ≤ℤ drag dt f h u
@@ -28,6 +28,11 @@ drag-nonneg dt f h u p q =
     square : (f : ℤ) → pos 0 ≤ℤ (f *ℤ f)
     square (pos n) = mul-nonneg (pos n) (pos n) (nat-nonneg n) (nat-nonneg n)
     square (negsuc n) = nat-nonneg (suc n * suc n)
+
+-- what it divides for its strength, where the speed has been checked, at any depth
+pub dividend-size : (dt f u : ℤ) → UpTo longestStep dt → UpTo roughest f → UpTo fastest u
+    → UpTo largestProduct (pos 256 *ℤ pos 981 *ℤ dt *ℤ (f *ℤ f) *ℤ sizeZ u)
+dividend-size dt f u p q r = b-mul (b-mul (b-mul (b-lit (pos 256 *ℤ pos 981)) p) (b-mul q q)) (b-size u r)
 
 -- ---- of water that is not dry, at any dry depth
 module _ (h : ℤ) (low : leastDry <ℤ h) (high : h ≤ℤ deepest) where
@@ -50,6 +55,8 @@ module _ (h : ℤ) (low : leastDry <ℤ h) (high : h ≤ℤ deepest) where
 
   pub drag-most : (dt f u : ℤ) → UpTo longestStep dt → UpTo roughest f → UpTo fastest u → UpTo strongest (drag dt f h u)
   unfolding drag
-  drag-most dt f u p q r =
-      b-up 21438427962 (b-quot-ge 251562499 (b-mul (b-mul (b-mul (b-lit (pos 256 *ℤ pos 981)) p) (b-mul q q)) (b-size u r)) divisor-least)
-      tt
+  drag-most dt f u p q r = b-up 21438427962 (b-quot-ge 251562499 (dividend-size dt f u p q r) divisor-least) tt
+
+-- and what it divides for what it leaves of a discharge
+pub slowed-product : (x q : ℤ) → UpTo strongest x → UpTo fullest q → UpTo mostSlowed (q *ℤ (pos 65536 +ℤ x))
+slowed-product x q p r = b-mul r (b-add (b-lit (pos 65536)) p)
