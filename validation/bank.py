@@ -9,7 +9,7 @@ from math import cos, pi, sin, sqrt
 
 from former import stepped_before_e2
 from picture import BLACK, BLUE, EARTH, ORANGE, Picture
-from reach import DRY, UNIT, WALL, Reach, refusal_of, stepped, units
+from reach import DITCH_DRY, UNIT, WALL, Reach, refusal_of, stepped, units
 from tables import count_text, table
 
 LENGTH, FOOT, SHORE, STRIP = 2048, 1024, 1792, 128      # m; the strip is that of one cell of 16
@@ -55,7 +55,7 @@ class Bank:
 
     def reach(self):
         cells = [self.with_wave(i) for i in range(self.n)]
-        return Reach(LENGTH * UNIT // self.n, self.dt, self.jump, WALL, WALL, self.bed,
+        return Reach(LENGTH * UNIT // self.n, self.dt, self.jump, DITCH_DRY, WALL, WALL, self.bed,
                      [self.friction] * self.n, cells)
 
     def depths(self, states, start):
@@ -140,7 +140,7 @@ def lines_of_cells(bank, state):
     """Each cell's own level line, and so the steps between them; dry cells are left out."""
     points = []
     for i, (mean, slope, _, _) in enumerate(state.cells):
-        if mean - (bank.bed[i] + bank.bed[i + 1]) // 2 > DRY:
+        if mean - (bank.bed[i] + bank.bed[i + 1]) // 2 > DITCH_DRY:
             points += [(i * bank.width, (mean - slope) / UNIT / bank.deep),
                        ((i + 1) * bank.width, (mean + slope) / UNIT / bank.deep)]
     return [(x, level) for x, level in points if x >= FOOT]

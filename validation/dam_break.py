@@ -6,7 +6,7 @@ The library's unit stays 1/4096 m, so in the large case rounding counts 16 times
 """
 
 from picture import BLACK, BLUE, ORANGE, Picture
-from reach import UNIT, WALL, Reach, stepped
+from reach import DITCH_DRY, UNIT, WALL, Reach, stepped
 from stoker import DamBreak
 from tables import count_text, order_text, orders, table
 
@@ -23,7 +23,7 @@ def broken(command, n, size, pace):
     dt = dx // (COURANT * pace)
     steps = SECONDS * pace * UNIT // dt
     cells = [((HIGH if i < n // 2 else LOW) * size * UNIT, 0, 0, 0) for i in range(n)]
-    reach = Reach(dx, dt, JUMP * size, WALL, WALL, [0] * (n + 1), [0] * n, cells)
+    reach = Reach(dx, dt, JUMP * size, DITCH_DRY, WALL, WALL, [0] * (n + 1), [0] * n, cells)
     last = stepped(command, reach, steps, steps)[-1]
     return [cell[0] / UNIT / size for cell in last.cells]
 

@@ -6,7 +6,7 @@ The steps are those of tests/model, which gives the library's own numbers, with 
 import sys
 from pathlib import Path
 
-from reach import DRY, State
+from reach import State
 
 # Found here, and not among the files beside this one.
 sys.path.append(str(Path(__file__).resolve().parent.parent / "tests" / "model"))
@@ -22,7 +22,7 @@ def stepped_before_e2(reach, steps, every):
     with before.E2():
         for k in range(1, steps + 1):
             answer = model.step(now, len(now), reach.bed, reach.friction, reach.dx, reach.dt, reach.jump,
-                                DRY, reach.left, reach.right)
+                                reach.dry, reach.left, reach.right)
             if answer[0] == "refused":
                 return states, (k, answer[1])
             _, now, first, last = answer

@@ -1,7 +1,7 @@
 """A lake at rest among islands, as in section 4.1 of Kesserwani and Liang (2012)."""
 
 from picture import BLUE, EARTH, WATER, Picture
-from reach import OPEN, UNIT, WALL, Reach, lines_of, units
+from reach import DITCH_DRY, OPEN, UNIT, WALL, Reach, lines_of, units
 from tables import count_text, table
 
 LENGTH, CELLS, STEPS = 1500, 80, 5000
@@ -90,7 +90,8 @@ def report(command):
     dx = LENGTH * UNIT // CELLS
     rows = []
     for name, friction, jump, end, dt in runs():
-        lines = lines_of(command, Reach(dx, dt, jump, end, end, bed, friction, cells), STEPS, 1)
+        reach = Reach(dx, dt, jump, DITCH_DRY, end, end, bed, friction, cells)
+        lines = lines_of(command, reach, STEPS, 1)
         if len(lines) != STEPS + 1 or not lines[0].startswith("0 0 "):
             raise SystemExit("lake: %d lines came back" % len(lines))
         rows.append((name, "%g" % (dt / UNIT), str(jump), count_text(STEPS), count_text(changed_lines(lines))))

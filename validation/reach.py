@@ -10,10 +10,10 @@ from collections import namedtuple
 UNIT = 4096             # one metre, second or m2/s
 GRAVITY = 9.81
 WALL, OPEN = 0, 1
-DRY = 4                 # the dry depth of every run, about 1 mm
+DITCH_DRY = 4           # the dry depth of an ordinary ditch, about 1 mm
 
 # bed: n + 1 numbers; friction: n; cells: n times (level, its slope, discharge, its slope)
-Reach = namedtuple("Reach", "dx dt jump left right bed friction cells")
+Reach = namedtuple("Reach", "dx dt jump dry left right bed friction cells")
 
 # What crossed the two ends since the start, and the cells, after some number of steps.
 State = namedtuple("State", "crossed cells")
@@ -25,7 +25,7 @@ def units(metres):
 
 
 def text_of(reach):
-    numbers = [len(reach.cells), reach.dx, reach.dt, reach.jump, DRY, reach.left, reach.right]
+    numbers = [len(reach.cells), reach.dx, reach.dt, reach.jump, reach.dry, reach.left, reach.right]
     numbers += reach.bed + reach.friction
     for cell in reach.cells:
         numbers += cell
@@ -45,15 +45,20 @@ def lines_of(command, reach, steps, every):
     return done.stdout.splitlines()
 
 
-def refusal_of(command, reach, steps):
-    """The first step that is refused and its number, or None where all are accepted."""
+def ended(command, reach, steps):
+    """The last state and None, or None and the first refused step with its number."""
     done = run(command, reach, steps, steps)
     if done.returncode == 0:
-        return None
+        return state_of(done.stdout.splitlines()[-1]), None
     found = re.search(r"step (\d+) is refused with (\d+)", done.stderr)
     if found is None:
         raise SystemExit(done.stderr)
-    return int(found.group(1)), int(found.group(2))
+    return None, (int(found.group(1)), int(found.group(2)))
+
+
+def refusal_of(command, reach, steps):
+    """The first step that is refused and its number, or None where all are accepted."""
+    return ended(command, reach, steps)[1]
 
 
 def state_of(line):

@@ -7,7 +7,7 @@ is run in the size of a ditch and 16 times as large, where rounding counts 16 ti
 from math import cos, pi, sin, sqrt
 
 from picture import BLACK, BLUE, GREEN, ORANGE, Picture
-from reach import GRAVITY, UNIT, WALL, Reach, refusal_of, stepped, units
+from reach import DITCH_DRY, GRAVITY, UNIT, WALL, Reach, refusal_of, stepped, units
 from tables import count_text, order_text, orders, table
 
 LENGTH, DEPTH, HEIGHT = 64, 2, 0.02         # of the ditch, in metres
@@ -47,7 +47,7 @@ class Basin:
         cells = [(units(self.depth + self.height * self.shape(i)),
                   units(self.height * (cos(k * (i + 1)) - cos(k * i)) / 2), 0, 0) for i in range(self.n)]
         bed, friction = [0] * (self.n + 1), [0] * self.n
-        return Reach(self.dx, self.dt, UNLIMITED, WALL, WALL, bed, friction, cells)
+        return Reach(self.dx, self.dt, UNLIMITED, DITCH_DRY, WALL, WALL, bed, friction, cells)
 
     def rise(self, level):
         """How far a level is above the still level, in wave heights."""
