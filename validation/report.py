@@ -12,6 +12,7 @@ from pathlib import Path
 
 import bank
 import dam_break
+import dry_depth
 import lake
 import standing_wave
 
@@ -21,7 +22,7 @@ PAGE = DOCS / "VALIDATION.md"
 
 def made(command):
     tables, pictures = {}, {}
-    for case in (dam_break, lake, bank, standing_wave):
+    for case in (dam_break, lake, bank, standing_wave, dry_depth):
         some_tables, some_pictures = case.report(command)
         tables.update(some_tables)
         pictures.update(some_pictures)
