@@ -78,13 +78,12 @@ extern "C" {
  *      below nought
  *
  * 6 (at faces and Gauss points), 7 and 8 are made for stage one and then again for stage two. A
- * dam break onto dry ground soon comes to a 6, whatever dt, unless the water is shallow and rough:
- * over cells of 10 m with a Manning value of 0.030, 0.3 m of water ran with a dry depth of 4 and a
- * dt of 0.1 s. With a larger dry depth deeper water runs: 1 m did with 64 and not with 16, 3 m with
- * neither. A wave over a wet bed runs between walls. An open end is for water that leaves faster
- * than its waves run: when slower water reaches it, water was seen to come in from outside, and
- * after a wave of 0.5 m on 1 m of water the level at the end rose until a 7. These are trials of the
- * rules and no theorems.
+ * dam break onto dry ground soon comes to a 6 or a 7, unless the dry depth takes the speed from its
+ * thin front: over cells of 10 m with a Manning value of 0.030 and a dt of 0.3 s, 0.3 m of water ran
+ * with 16 and not with 4, 1 m with 64 and not with 16, 3 m with none. A wave over a wet bed runs
+ * between walls. An open end is for water that leaves faster than its waves run: when slower water
+ * reaches it, water was seen to come in from outside, and after a wave of 0.5 m on 1 m of water the
+ * level at the end rose until a 7. These are trials of the rules and no theorems.
  *
  * HOW LONG A TIME STEP. The longest dt that is accepted is not stable: in trials a ripple grew until
  * a later step was refused. Take a third of a cell a step, which in these whole numbers is
