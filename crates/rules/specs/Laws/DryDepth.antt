@@ -58,7 +58,7 @@ module _ (r : Reach) (c : Call) (s : State) (i : ℕ) where
   unfolding sideR
   still-right l = still (c .dry) _ (depthR b x) l
 
-  -- and Gauss points no deeper have none to check and no momentum to turn the discharge's slope
+  -- and Gauss points no deeper have none to check, and 0 stands for what they carry in the discharge's slope
   module _ (before : depthBefore b x ≤ℤ c .dry) (behind : depthBehind b x ≤ℤ c .dry) where
     pub still-checked : fastGauss r c s i ≡ false
     unfolding fastGauss fastPoints sizeZ
