@@ -50,8 +50,9 @@ extern "C" {
  *   dry       the dry depth, 1 to 64 (0.24 mm to 15.6 mm): water no deeper has no speed, is not
  *             slowed by friction, and loses its discharge at the end of a stage; and the slopes of
  *             a cell with such a mean depth, and of the cells beside it, are not limited, only cut
- *             to keep face depths from falling below 0. 4, about 1 mm, suits an ordinary ditch; a
- *             lined flume takes less, a reed bed more. It may be another in each step
+ *             to keep face depths from falling below 0. It still levels out where depths at a face
+ *             differ. 4, about 1 mm, suits an ordinary ditch; a lined flume takes less, a reed bed
+ *             more. It may be another in each step
  *   left      kind of the left end: 0 a wall, 1 open (the water outside is as deep and as fast as
  *             that at the end face)
  *   right     kind of the right end, likewise

@@ -21,7 +21,7 @@ use Rattle.rules.specs.Refusals.{Check, chk, verdict, checks, refusal}
 use Rattle.rules.specs.Lent.{Lent, reachOf, callOf, stateOf, cellsOf, misfits, number, filled, crossed, Outcome, refused, accepted, stepOf}
 use Rattle.rules.specs.AtRest.{Dry, Flat, AtRest}
 use Rattle.rules.specs.Laws.Agree.{Same}
-use Rattle.rules.specs.Laws.DryDepth.{finished-still}
+use Rattle.rules.specs.Laws.DryDepth.{finished-calm}
 use Rattle.rules.specs.Laws.Lengths.{fitted, first-number, later-number, fits, unrefused}
 use Rattle.rules.specs.Laws.Positive.{Nonneg, Wet}
 use Rattle.rules.specs.Laws.Balance as balance
@@ -158,14 +158,14 @@ module _ (bed : List ℤ) (n dx : ℕ) (s : State) where
   }
 
 -- a table that an accepted call wrote has no discharge in a cell no deeper than its dry depth
-pub written-still : (l : Lent) {new : List ℤ} → new ≡ filled l → (i : ℕ) → i < cellsOf l → meanDepth (l .bed) new i ≤ℤ pos (l .dry)
+pub written-calm : (l : Lent) {new : List ℤ} → new ≡ filled l → (i : ℕ) → i < cellsOf l → meanDepth (l .bed) new i ≤ℤ pos (l .dry)
     → (at new (4 * i + 2) ≡ pos 0) × (at new (4 * i + 3) ≡ pos 0)
 unfolding filled next meanDepth meanBed h0 z0
-written-still l {new} e i m d =
+written-calm l {new} e i m d =
     let r = reachOf l in let c = callOf l in let s = stateOf l in
     let is : cellAt new i ≡ next r c s i = ap (λ (t : List ℤ). cellAt t i) e ∙ cellAt-flat (cellsOf l) (next r c s) i m in
-    let still = finished-still r c (joined r c s) i (subst (λ (x : Cell). h0 (under r i) x ≤ℤ c .dry) is d) in
-    (ap (λ (x : Cell). x .q0) is ∙ still .0, ap (λ (x : Cell). x .q1) is ∙ still .1)
+    let calm = finished-calm r c (joined r c s) i (subst (λ (x : Cell). h0 (under r i) x ≤ℤ c .dry) is d) in
+    (ap (λ (x : Cell). x .q0) is ∙ calm .0, ap (λ (x : Cell). x .q1) is ∙ calm .1)
 
 -- ---- an accepted call as a step of the rules
 pub record One (bed : List ℤ) (n dx : ℕ) (c : Call) (s m : List ℤ) (w v : ℤ) : Type 0 where

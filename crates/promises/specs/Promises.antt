@@ -62,7 +62,7 @@ use Rattle.promises.specs.Seen.{at, meanDepth, NoneBelow, Excess, stageT
 use Rattle.promises.specs.First.{FirstMet, first-verdict, verdict-first, first-listed}
 use Rattle.promises.specs.Outcomes.{allChecks, number-is, refuses-with, refused-number, refused-some}
 use Rattle.promises.specs.Outcomes.{refused-table, refused-later, taken, reachAt, lent, call, one, none-below}
-use Rattle.promises.specs.Outcomes.{none-below-table, excess-table, wet, water-is, at-rest, written-still, run}
+use Rattle.promises.specs.Outcomes.{none-below-table, excess-table, wet, water-is, at-rest, written-calm, run}
 
 -- ---- demand 1: one answer, one content of the table
 pub step-answer : (l : Lent) {a b : Answer} {old new new′ : List ℤ} → Gives (stepOf l) a old new → Gives (stepOf l) b old new′ → a ≡ b
@@ -146,9 +146,9 @@ pub four-as-before : (l : before-E3.Lent) → stepOf (given 4 l) ≡ before-E3.s
 four-as-before l = given-four l
 
 -- whichever it is, what an accepted call writes has no discharge where it is no deeper
-pub shallow-still : (l : Lent) (w v : ℤ) (old new : List ℤ) → Gives (stepOf l) (Accepted w v) old new → (i : ℕ) → i < cellsOf l
+pub shallow-calm : (l : Lent) (w v : ℤ) (old new : List ℤ) → Gives (stepOf l) (Accepted w v) old new → (i : ℕ) → i < cellsOf l
     → meanDepth (l .bed) new i ≤ℤ pos (l .dry) → (at new (4 * i + 2) ≡ pos 0) × (at new (4 * i + 3) ≡ pos 0)
-shallow-still l w v old new g i m d = written-still l (taken l w v old new g .table) i m d
+shallow-calm l w v old new g i m d = written-calm l (taken l w v old new g .table) i m d
 
 -- ---- demand 3, over any number of accepted calls on one bed with n cells of length dx; all else that they are given may differ
 module _ (bed : List ℤ) (n dx : ℕ) where

@@ -27,7 +27,7 @@ pub const FULLEST: i64 = 8388608;
 
 pub const FASTEST: i64 = 131072;
 
-// The dry depth, at or below which water does not move, from about 0.2 mm to about 16 mm.
+// The dry depth, at or below which water has no speed, from about 0.2 mm to about 16 mm.
 pub const LEAST_DRY: i64 = 1;
 
 pub const MOST_DRY: i64 = 64;

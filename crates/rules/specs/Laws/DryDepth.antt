@@ -1,4 +1,4 @@
--- What the dry depth of a call decides, in each place that reads it: water no deeper than it stands still.
+-- What the dry depth of a call decides, in each place that reads it: water no deeper has no speed, and once finished no discharge.
 -- Who is spared by it stands in Limiter.
 -- Assumes nothing.
 use mathlib.Core.Path.{_≡_, _∙_, ap}
@@ -84,6 +84,6 @@ module _ (r : Reach) (c : Call) (s : State) (i : ℕ) where
         λ k. record { e0 = x .e0; e1 = x .e1; q0 = kept (x .q0) k; q1 = kept (x .q1) k }
 
   -- and a finished cell no deeper has no discharge
-  pub finished-still : h0 b (finish r c s i) ≤ℤ c .dry → (finish r c s i .q0 ≡ pos 0) × (finish r c s i .q1 ≡ pos 0)
+  pub finished-calm : h0 b (finish r c s i) ≤ℤ c .dry → (finish r c s i .q0 ≡ pos 0) × (finish r c s i .q1 ≡ pos 0)
   unfolding finish dried cut limit h0
-  finished-still l = let e = yes-le (h0 b x) (c .dry) l in (rw e, rw e)
+  finished-calm l = let e = yes-le (h0 b x) (c .dry) l in (rw e, rw e)
