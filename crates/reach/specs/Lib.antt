@@ -2,3 +2,4 @@
 pub mod Told
 pub mod Ranges
 pub mod Size
+pub mod Laws

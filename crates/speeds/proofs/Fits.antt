@@ -7,11 +7,12 @@ use lib.IntN.{ℤ, pos}
 use lib.Signed.{_≤ℤ_}
 use Rattle.whole.specs.Parts.{Within}
 use Rattle.whole.specs.Choice.{within-past, not-beyond}
-use Rattle.rules.specs.Limits.{leastDry, mostDry, deepest, fullest}
+use Rattle.rules.specs.Limits.{deepest, fullest}
 use Rattle.rules.specs.Face.{speed, wave}
 use Rattle.rules.specs.Friction.{cube}
 use Rattle.rules.specs.Refusals.{outside, past, badDry}
 use Rattle.reach.specs.Ranges.{DryDepth}
+use Rattle.reach.specs.Laws.DryList.{in-list, not-bad}
 use Rattle.rules.specs.Laws.Inside.{above-least, below-most, not-outside}
 use Rattle.speeds.specs.Given.{given, refused, depthFits, dischargeFits, dryFits, speedGiven, waveGiven, cubeGiven}
 use Rattle.speeds.specs.Answers.{valueOf, same, never}
@@ -29,8 +30,7 @@ discharge-in q e = within-past 8388608 q (not-true (past fullest q) e)
 
 pub dry-in : (d : ℤ) → dryFits d ≡ true → DryDepth d
 unfolding dryFits
-dry-in d e =
-    let f = not-true (badDry d) e in record { least = above-least leastDry mostDry d f; most = below-most leastDry mostDry d f }
+dry-in d e = in-list d (not-true (badDry d) e)
 
 -- ---- to the tests
 pub in-depth : (h : ℤ) → pos 0 ≤ℤ h → h ≤ℤ deepest → depthFits h ≡ true
@@ -43,7 +43,7 @@ in-discharge q w = ap not (not-beyond 8388608 q w)
 
 pub in-dry : (d : ℤ) → DryDepth d → dryFits d ≡ true
 unfolding dryFits
-in-dry d i = ap not (not-outside leastDry mostDry d (i .least) (i .most))
+in-dry d i = ap not (not-bad d i)
 
 -- ---- so within the limits
 pub speed-given : (q h d : ℤ) → Within 8388608 q → pos 0 ≤ℤ h → h ≤ℤ deepest → DryDepth d → speedGiven q h d ≡ given (speed d q h)

@@ -1,36 +1,30 @@
 -- What can be finished, by the ranges of its numbers.
 -- Assumes nothing.
-use mathlib.Core.Path.{_≡_, refl}
+use mathlib.Core.Path.{_≡_}
 use mathlib.Core.Bool.{Bool, false}
-use mathlib.Core.List.{List, [], _∷_}
-use Prim.Native.Nat.{ℕ, zero, suc, _+_, _≤_}
+use mathlib.Core.List.{List}
+use Prim.Native.Nat.{ℕ, _+_, _≤_}
 use borrow.Author.Tests.{eq-eqb, le-ltb, eqb-true, ltb-false}
 use lib.Dec.{eqb}
-use lib.ListN.{length, getD}
+use lib.ListN.{length}
 use lib.IntN.{ℤ, pos, natAbs}
-use lib.Signed.{ltZ, _≤ℤ_}
+use lib.Signed.{_≤ℤ_}
 use Rattle.whole.specs.Flags.{or-l, or-r, not-f}
 use Rattle.whole.specs.Parts.{Within, b-nonneg, range-b}
 use Rattle.whole.specs.Choice.{not-beyond, within-past}
-use Rattle.whole.specs.Tests.{lt-no, no-lt}
 use Rattle.tables.specs.Some.{some-none, none-some}
 use Rattle.tables.specs.Cells.{Cell, seen}
-use Rattle.rules.specs.Limits.{mostCells, highestBed, largestJump, leastDry, mostDry}
+use Rattle.rules.specs.Limits.{mostCells, highestBed, largestJump}
 use Rattle.rules.specs.Reach.{Bed}
 use Rattle.rules.specs.Refusals.{any, past}
+use Rattle.rules.specs.Laws.Accept.{none-at}
 use Rattle.rules.specs.Laws.Inside.{above-least, below-most, not-outside}
 use Rattle.reach.specs.declared.Reach.{Reach}
 use Rattle.reach.specs.declared.Call.{Call}
 use Rattle.reach.specs.Told.{bedAt}
 use Rattle.reach.specs.Ranges.{UpTo, widest, DryDepth, Unfinished, AllUnfinished}
+use Rattle.reach.specs.Laws.DryList.{in-list, not-bad}
 use Rattle.finishing.specs.Unfit.{eitherPast, tooLarge, hindrances, unfit}
-
--- ---- a list of tests of which none holds, by place
-none-at : (bs : List Bool) → any bs ≡ false → (k : ℕ) → getD bs k false ≡ false
-unfolding any
-none-at [] e k = refl
-none-at (b ∷ bs) e zero = or-l b (any bs) e
-none-at (b ∷ bs) e (suc k) = none-at bs (or-r b (any bs) e) k
 
 -- ---- two numbers within a limit
 both-in : (most : ℕ) (x y : ℤ) → eitherPast (pos most) x y ≡ false → Within most x × Within most y
@@ -81,8 +75,7 @@ module _ (reach : Reach) (call : Call) (bed : List ℤ) (u : List (List ℤ)) (r
   fit-works e =
       let n = reach .n in let jump = call .jump in
       let none = none-at (hindrances reach call bed u room) e in
-      let low = lt-no jump (pos 0) (or-l (ltZ jump (pos 0)) (ltZ largestJump jump) (none 4)) in
-      let high = lt-no largestJump jump (or-r (ltZ jump (pos 0)) (ltZ largestJump jump) (none 4)) in
+      let low = above-least (pos 0) largestJump jump (none 4) in let high = below-most (pos 0) largestJump jump (none 4) in
       record {
         lent = ltb-false (length u) n (none 0);
         placed = ltb-false room n (none 1);
@@ -90,7 +83,7 @@ module _ (reach : Reach) (call : Call) (bed : List ℤ) (u : List (List ℤ)) (r
         beds = eqb-true (length bed) (n + 1) (not-f (eqb (length bed) (n + 1)) (none 3));
         jump-pos = low;
         jump-in = b-nonneg low high;
-        dry = record { least = above-least leastDry mostDry (call .dry) (none 5); most = below-most leastDry mostDry (call .dry) (none 5) };
+        dry = in-list (call .dry) (none 5);
         cells = λ i l. small-enough (bedAt bed i) (seen u i) (some-none large n (none 6) i l);
       }
 
@@ -102,8 +95,7 @@ module _ (reach : Reach) (call : Call) (bed : List ℤ) (u : List (List ℤ)) (r
         le-ltb room (reach .n) (w .placed),
         le-ltb mostCells (reach .n) (w .most),
         eq-eqb (length bed) (reach .n + 1) (w .beds),
-        no-lt (call .jump) (pos 0) (w .jump-pos),
-        no-lt largestJump (call .jump) (range-b (w .jump-in) .1),
-        not-outside leastDry mostDry (call .dry) (w .dry .least) (w .dry .most),
+        not-outside (pos 0) largestJump (call .jump) (w .jump-pos) (range-b (w .jump-in) .1),
+        not-bad (call .dry) (w .dry),
         none-some large (reach .n) (λ i l. not-large (bedAt bed i) (seen u i) (w .cells i l)),
       )

@@ -9,10 +9,10 @@ use lib.ListN.{length}
 use lib.IntN.{ℤ, pos}
 use Rattle.whole.specs.Flags.{fails}
 use Rattle.whole.specs.Parts.{of-le, lt-of, le-trans, nat-nonneg}
-use Rattle.rules.specs.Limits.{longestCell, longestStep, largestJump, leastDry, mostDry}
+use Rattle.rules.specs.Limits.{longestCell, longestStep, largestJump}
 use Rattle.rules.specs.Refusals.{callTests, badCall, off, fastFriction, chk, verdict, stageChecks, early, checks, refusal}
 use Rattle.rules.specs.Laws.Accept.{none-at}
-use Rattle.rules.specs.Laws.Inside.{above-least, below-most}
+use Rattle.rules.specs.Laws.Inside.{above-least}
 use Rattle.rules.specs.Laws.Lengths.{first-number, later-number}
 use Rattle.rules.specs.Lent.{Lent, reachOf, callOf, stateOf, misfit, number}
 use Rattle.reach.specs.declared.Reach.{Reach}
@@ -20,6 +20,7 @@ use Rattle.reach.specs.declared.Call.{Call}
 use Rattle.reach.specs.declared.Given.{Given}
 use Rattle.reach.specs.Told.{reachIn, callOn}
 use Rattle.reach.specs.Ranges.{Numbers}
+use Rattle.reach.specs.Laws.DryList.{in-list}
 use Rattle.stage.specs.Says.{readyChecks, bothChecks}
 use Rattle.stage.specs.Worked.{lentBy}
 use Rattle.stage.specs.Laws.LentChecks.{between}
@@ -38,10 +39,7 @@ numbers reach call bed ρ e =
       dt-in = between (pos 1) 4096 (call .dt) (nat-nonneg 1) (fails 1);
       jump-pos = above-least (pos 0) largestJump (call .jump) (fails 2);
       jump-in = between (pos 0) 262144 (call .jump) (nat-nonneg 0) (fails 2);
-      dry = record {
-        least = above-least leastDry mostDry (call .dry) (fails 3);
-        most = below-most leastDry mostDry (call .dry) (fails 3);
-      };
+      dry = in-list (call .dry) (fails 3);
     }
 
 -- the numbers of a call as its caller gave them, widened

@@ -1,0 +1,2 @@
+-- What follows of the numbers of a reach.
+pub mod DryList
