@@ -78,12 +78,7 @@ unfoldable pub number : Lent → ℕ
 number a =
     cond (misfit (length (a .now)) (a .room) (length (a .bed)) (cellsOf a)) 1 (verdict (checks (reachOf a) (callOf a) (stateOf a)))
 
--- the next table, and the volume W at face i
-unfoldable pub filled : Lent → List ℤ
-filled a = flat (row (cellsOf a) (next (reachOf a) (callOf a) (stateOf a)))
-
-unfoldable pub crossed : Lent → ℕ → ℤ
-crossed a i = carry (reachOf a) (callOf a) (stateOf a) i
-
+-- that number; or the next table and W at face 0 and at face n
 unfoldable pub stepOf : Lent → Outcome
-stepOf a = cond (eqb (number a) 0) (accepted (filled a) (crossed a 0) (crossed a (cellsOf a))) (refused (number a))
+stepOf a = let r = reachOf a in let c = callOf a in let s = stateOf a in
+    cond (eqb (number a) 0) (accepted (flat (row (r .n) (next r c s))) (carry r c s 0) (carry r c s (r .n))) (refused (number a))

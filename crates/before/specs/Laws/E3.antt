@@ -5,7 +5,7 @@ use Prim.Native.Nat.{ℕ}
 use Rattle.rules.specs.Refusals.{any, early, stageChecks, refusal}
 use Rattle.rules.specs.Refusals as rules
 use Rattle.rules.specs.Lent as lent
-use Rattle.before.specs.E3.{Lent, badCall, checks, number, filled, crossed, stepOf}
+use Rattle.before.specs.E3.{Lent, badCall, checks, number, stepOf}
 
 -- a call of before E3, given a dry depth besides
 abbrev pub given : ℕ → Lent → lent.Lent
@@ -24,6 +24,6 @@ given dry a = record {
 
 -- with the same number, or the same table and volumes
 pub given-four : (a : Lent) → lent.stepOf (given 4 a) ≡ stepOf a
-unfolding lent.stepOf stepOf lent.number number lent.filled filled lent.crossed crossed refusal rules.checks checks early stageChecks
-    rules.badCall badCall any
+unfolding lent.stepOf stepOf lent.number number lent.filled lent.crossed refusal rules.checks checks early stageChecks rules.badCall
+    badCall any
 given-four a = refl
