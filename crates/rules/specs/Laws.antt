@@ -4,6 +4,10 @@ pub mod Mixed
 pub mod Mirror
 pub mod Face
 pub mod Sizes
+pub mod Shown
+pub mod Ends
+pub mod EndChecks
+pub mod EndSizes
 pub mod Agree
 pub mod Inside
 pub mod Accept
@@ -17,4 +21,4 @@ pub mod Rest
 pub mod Limiter
 pub mod DryDepth
 pub mod Runs
-pub mod Walls
+pub mod EndVolumes

@@ -2,6 +2,8 @@
 pub mod Limits
 pub mod Face
 pub mod Lawful
+pub mod Shown
+pub mod Ends
 pub mod Reach
 pub mod Stage
 pub mod Finishing

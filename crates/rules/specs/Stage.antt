@@ -1,24 +1,14 @@
--- One stage: the ends, the faces and what they carry, and each cell after it. The letters V, E, D, g1 and g2 are the scope document's.
-use mathlib.Core.Bool.{cond}
-use Prim.Native.Nat.{ℕ, zero, suc}
-use lib.Dec.{eqb}
-use lib.IntN.{ℤ, pos, negℤ, _+ℤ_, _-ℤ_, _*ℤ_}
+-- One stage: its faces and what they carry, and each cell after it. The letters E, D, g1 and g2 are the scope document's.
+use Prim.Native.Nat.{ℕ}
+use lib.IntN.{ℤ, pos, _+ℤ_, _-ℤ_, _*ℤ_}
 use lib.Signed.{quotZ}
 use Rattle.tables.specs.Cells.{Cell}
 use Rattle.rules.specs.Face.{Side, Flux, speed}
+use Rattle.rules.specs.Shown.{Shown, crossRight, crossAt, volume}
+use Rattle.rules.specs.Ends.{leftEnd, rightEnd}
 use Rattle.rules.specs.Reach.{Reach, Call, State, Bed, under, z1, h0, h1, depthL, depthR, groundL, groundR, sideL, sideR}
 
 -- ---- faces
--- the outer side of an end: the same depth; the speed reversed at a wall (0), the same at an open end (1)
-unfoldable pub outer : ℕ → Side → Side
-outer kind x = record { h = x .h; u = cond (eqb kind 0) (negℤ (x .u)) (x .u) }
-
-unfoldable pub leftEnd : Reach → Call → Side → Flux
-leftEnd r c x = r .face (outer (c .left) x) x
-
-unfoldable pub rightEnd : Reach → Call → Side → Flux
-rightEnd r c x = r .face x (outer (c .right) x)
-
 -- the side that cell i shows to its left and right face
 abbrev pub atLeft : Reach → Call → State → ℕ → Side
 atLeft r c s i = sideL (c .dry) (under r i) (s i)
@@ -26,17 +16,23 @@ atLeft r c s i = sideL (c .dry) (under r i) (s i)
 abbrev pub atRight : Reach → Call → State → ℕ → Side
 atRight r c s i = sideR (c .dry) (under r i) (s i)
 
+-- the row that its faces see
+abbrev pub shown : Reach → Call → State → Shown
+shown r c s = record {
+  n = r .n;
+  face = r .face;
+  left = leftEnd (r .face) (c .dry) (c .left);
+  right = rightEnd (r .face) (c .dry) (c .right);
+  toLeft = atLeft r c s;
+  toRight = atRight r c s;
+}
+
 -- the face right of cell i, and the face at place i of 0 to n
-unfoldable pub faceRight : Reach → Call → State → ℕ → Flux
-faceRight r c s i = cond (eqb (suc i) (r .n)) (rightEnd r c (atRight r c s i)) (r .face (atRight r c s i) (atLeft r c s (suc i)))
+abbrev pub faceRight : Reach → Call → State → ℕ → Flux
+faceRight r c s i = crossRight (shown r c s) i
 
-unfoldable pub faceAt : Reach → Call → State → ℕ → Flux
-faceAt r c s zero = leftEnd r c (atLeft r c s zero)
-faceAt r c s (suc i) = faceRight r c s i
-
--- V = F·dt/dx: what a face carries in one stage, in depths over one cell
-unfoldable pub volume : ℤ → ℤ → Flux → ℤ
-volume dx dt f = quotZ (f .F *ℤ dt) dx
+abbrev pub faceAt : Reach → Call → State → ℕ → Flux
+faceAt r c s i = crossAt (shown r c s) i
 
 -- ---- the two Gauss points
 -- the share of a slope there, 1/√3

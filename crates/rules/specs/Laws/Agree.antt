@@ -1,38 +1,27 @@
 -- States that agree in the reach give one answer: the working tables hold no more than the n cells.
 -- Assumes nothing.
-use mathlib.Core.Path.{_≡_, refl, sym, _∙_, ap, ap₂, subst}
-use mathlib.Core.Bool.{false, not, cond, _&&_, _||_}
+use mathlib.Core.Path.{_≡_, refl, _∙_, ap, ap₂}
+use mathlib.Core.Bool.{not, cond, _&&_, _||_}
 use mathlib.Core.List.{[], _∷_}
 use Prim.Native.Nat.{ℕ, zero, suc, _<_}
 use native.Mathlib.Omega.{arith}
-use lib.Dec.{T, eqb, eqb-refl}
+use lib.Dec.{eqb}
 use lib.IntN.{ℤ, pos, _-ℤ_, _*ℤ_}
 use lib.Signed.{ltZ}
-use Rattle.whole.specs.Flags.{holds, by, clash}
+use Rattle.whole.specs.Flags.{by}
 use Rattle.whole.specs.Choice.{sizeZ}
 use Rattle.tables.specs.Some.{some, some-same}
 use Rattle.tables.specs.Cells.{Cell}
 use Rattle.rules.specs.Face.{Side, Flux}
 use Rattle.rules.specs.Reach.{Reach, Call, State, el, er, under, shallow, sideL, sideR}
-use Rattle.rules.specs.Stage.{leftEnd, rightEnd, atLeft, atRight, faceRight, faceAt, update, stage}
+use Rattle.rules.specs.Stage.{atLeft, atRight, shown, faceRight, faceAt, update, stage}
 use Rattle.rules.specs.Finishing.{parted, marked, shallowAt, shallowLeft, shallowRight, spared, isLimited}
 use Rattle.rules.specs.Finishing.{minmod, withRight, withLeft, limited, limit, cut, dried, finish}
-use Rattle.rules.specs.Refusals.{offCell, off, fastSide, fastFace, fastPoints, fastGauss, tooLong, chk, stageChecks}
+use Rattle.rules.specs.Refusals.{offCell, off, fastSide, fastInflow, fastFace, fastPoints, fastGauss, tooLong, chk, stageChecks}
+use Rattle.rules.specs.Laws.Shown.{inside, last, right-same, at-same}
 
 abbrev pub Same : Reach → State → State → Type 0
 Same r s t = (i : ℕ) → i < r .n → s i ≡ t i
-
--- a cell that is not the last has a right neighbour
-pub inside : (i n : ℕ) → i < n → eqb (suc i) n ≡ false → suc i < n
-inside i n l e = omega (arith, differ)
-  where
-    differ : suc i ≡ n → ⊥
-    differ d = clash (sym e ∙ holds (eqb (suc i) n) (subst (λ (m : ℕ). T (eqb (suc i) m)) d (eqb-refl (suc i))))
-
--- a choice between the last cell and the others
-last : {A : Type 0} (i n : ℕ) → i < n → (x y x′ y′ : A) → x ≡ x′ → (suc i < n → y ≡ y′)
-    → cond (eqb (suc i) n) x y ≡ cond (eqb (suc i) n) x′ y′
-last i n l x y x′ y′ p q = by (eqb (suc i) n) (λ e. rw e p) (λ e. rw e (q (inside i n l e)))
 
 module _ (r : Reach) (c : Call) (s t : State) (e : Same r s t) where
   -- ---- a stage
@@ -43,16 +32,10 @@ module _ (r : Reach) (c : Call) (s t : State) (e : Same r s t) where
   atRight-same i l = ap (sideR (c .dry) (under r i)) (e i l)
 
   pub faceRight-same : (i : ℕ) → i < r .n → faceRight r c s i ≡ faceRight r c t i
-  unfolding faceRight
-  faceRight-same i l = last i (r .n) l
-      (rightEnd r c (atRight r c s i)) (r .face (atRight r c s i) (atLeft r c s (suc i)))
-      (rightEnd r c (atRight r c t i)) (r .face (atRight r c t i) (atLeft r c t (suc i)))
-      (ap (rightEnd r c) (atRight-same i l)) (λ m. ap₂ (r .face) (atRight-same i l) (atLeft-same (suc i) m))
+  faceRight-same = right-same (shown r c s) (atLeft r c t) (atRight r c t) atLeft-same atRight-same
 
   pub faceAt-same : 0 < r .n → (i : ℕ) → i < suc (r .n) → faceAt r c s i ≡ faceAt r c t i
-  unfolding faceAt
-  faceAt-same o zero l = ap (leftEnd r c) (atLeft-same zero o)
-  faceAt-same o (suc i) l = faceRight-same i (omega arith)
+  faceAt-same = at-same (shown r c s) (atLeft r c t) (atRight r c t) atLeft-same atRight-same
 
   pub stage-same : Same r (stage r c s) (stage r c t)
   unfolding stage
@@ -129,11 +112,12 @@ module _ (r : Reach) (c : Call) (o : 0 < r .n) (s t : State) (e : Same r s t) wh
 
   fastFace-at : (i : ℕ) → i < suc (r .n) → fastFace r c s i ≡ fastFace r c t i
   unfolding fastFace
-  fastFace-at zero l = ap fastSide (atLeft-same r c s t e zero o)
-  fastFace-at (suc i) l = by (eqb (suc i) (r .n))
-      (λ d. rw d (ap (λ (x : Side). fastSide x || false) (atRight-same r c s t e i (omega arith))))
-      (λ d. rw d (ap₂ (λ (x y : Side). fastSide x || fastSide y) (atRight-same r c s t e i (omega arith))
-      (atLeft-same r c s t e (suc i) (inside i (r .n) (omega arith) d))))
+  fastFace-at zero l = ap (λ (x : Side). fastInflow (c .dry) (c .left) x || fastSide x) (atLeft-same r c s t e zero o)
+  fastFace-at (suc i) l = let m : i < r .n = omega arith in let q = atRight-same r c s t e i m in
+      ap₂ _||_ (ap fastSide q) (last i (r .n) m
+      (fastInflow (c .dry) (c .right) (atRight r c s i)) (fastSide (atLeft r c s (suc i)))
+      (fastInflow (c .dry) (c .right) (atRight r c t i)) (fastSide (atLeft r c t (suc i)))
+      (ap (fastInflow (c .dry) (c .right)) q) (λ k. ap fastSide (atLeft-same r c s t e (suc i) k)))
 
   pub fastFace-same : some (fastFace r c s) (suc (r .n)) ≡ some (fastFace r c t) (suc (r .n))
   fastFace-same = some-same (fastFace r c s) (fastFace r c t) (suc (r .n)) fastFace-at

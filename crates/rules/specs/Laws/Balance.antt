@@ -1,15 +1,22 @@
 -- The water balances: the sum of the depths changes by what crosses the two ends. Nothing of the face rule is used.
 -- Assumes nothing.
-use mathlib.Core.Path.{_≡_, refl, _∙_, ap₂}
+use mathlib.Core.Path.{_≡_, refl, _∙_, ap, ap₂}
 use mathlib.Core.List.{[], _∷_}
 use Prim.Native.Nat.{ℕ, zero, suc, _<_}
 use native.Mathlib.Omega.{arith}
 use lib.IntN.{ℤ, pos, _+ℤ_, _-ℤ_}
-use Rattle.whole.specs.Difference.{at, _⊞_, _⊟_, eq! }
+use lib.Signed.{quotZ}
+use Rattle.whole.specs.Difference.{at, lit, _⊞_, _⊟_, _⊠_, eq! }
 use Rattle.whole.specs.Ring.{v, k, _⊕_, _⊝_, solve}
 use Rattle.rules.specs.Reach.{Reach, Call, State, under, z0, h0}
 use Rattle.rules.specs.Finishing.{limit, cut, dried, finish}
-use Rattle.rules.specs.Step.{rubbed, rubbedCell, carry, joinedCell, joined, next}
+use Rattle.rules.specs.Step.{rubbed, rubbedCell, half, carry, joinedCell, joined, next}
+use Rattle.rules.specs.Laws.EvenBed.{twice}
+
+-- half of twice a number is that number
+pub half-same : (a : ℤ) → half a a ≡ a
+unfolding half
+half-same a = ap (λ (z : ℤ). quotZ z (pos 2)) (eq! (at a ⊞ at a) (at a ⊠ lit 2) (omega arith)) ∙ twice a
 
 unfoldable pub sum : (ℕ → ℤ) → ℕ → ℤ
 sum f zero = pos 0

@@ -14,7 +14,7 @@ use Rattle.whole.specs.Choice.{sizeZ}
 use Rattle.tables.specs.Cells.{Cell}
 use Rattle.rules.specs.Reach.{Reach, Call, State, el, er, under, h0}
 use Rattle.rules.specs.Finishing.{parted, marked, shallowAt, shallowLeft, shallowRight, spared, isLimited, limit, cut, dried, finish}
-use Rattle.rules.specs.Laws.Agree.{inside}
+use Rattle.rules.specs.Laws.Shown.{inside}
 
 not-last : (i n : ℕ) → suc i < n → eqb (suc i) n ≡ false
 not-last i n l = ne-eqb (suc i) n (λ e. let z : ⊥ = omega arith in z)

@@ -1,7 +1,7 @@
 -- Where each check stands in its list, from 0 on.
 use Prim.Native.Nat.{ℕ}
 
--- in `early`: the numbers of the call, the bed, the state, the friction speeds, and stage one's faces
+-- in `early`: the numbers of the call, the bed, the state, the friction speeds, and stage one's face speeds and faces
 abbrev pub call : ℕ
 call = 0
 
@@ -14,6 +14,9 @@ state = 3
 abbrev pub friction : ℕ
 friction = 4
 
+abbrev pub speeds-one : ℕ
+speeds-one = 5
+
 abbrev pub faces-one : ℕ
 faces-one = 7
 
@@ -21,9 +24,12 @@ faces-one = 7
 abbrev pub faces : ℕ
 faces = 2
 
--- in `late`: the finished stage one, stage two's faces, and the end state
+-- in `late`: the finished stage one, stage two's face speeds and faces, and the end state
 abbrev pub stage-one : ℕ
 stage-one = 0
+
+abbrev pub speeds-two : ℕ
+speeds-two = 1
 
 abbrev pub faces-two : ℕ
 faces-two = 3

@@ -1,67 +1,32 @@
--- No depth falls below nought. Of the face rule only `bounds` is used.
+-- No depth falls below nought: the law of a row of faces, and what finishing makes of a mean that is not below nought.
 -- Assumes nothing.
-use mathlib.Core.Path.{_≡_, refl, _∙_, ap, subst}
-use mathlib.Core.Bool.{true, cond}
-use Prim.Native.Nat.{ℕ, zero, suc, _<_}
+use mathlib.Core.Path.{_≡_, refl}
+use mathlib.Core.Bool.{cond}
+use Prim.Native.Nat.{ℕ, suc, _<_}
 use native.Mathlib.Omega.{arith}
-use lib.Dec.{eqb, eqb→eq}
-use lib.IntN.{ℤ, pos, negℤ, _+ℤ_, _-ℤ_, _*ℤ_}
+use lib.IntN.{ℤ, pos, negℤ, _+ℤ_, _-ℤ_}
 use lib.Signed.{quotZ, ltZ, _≤ℤ_, _<ℤ_}
-use Rattle.whole.specs.Flags.{cond-ind, held}
-use Rattle.whole.specs.Parts.{of-le, le-refl, lt-le, cross}
-use Rattle.whole.specs.Difference.{at, lit, nonneg, _⊞_, _⊟_, ⊖, _⊠_, le!, eq!, le?, plus-none}
-use Rattle.whole.specs.Quotient.{mul-cancel-le, half-le, halves, quot-neg}
+use Rattle.whole.specs.Flags.{cond-ind}
+use Rattle.whole.specs.Parts.{of-le, le-refl}
+use Rattle.whole.specs.Difference.{at, lit, _⊞_, _⊟_, ⊖, _⊠_, le!, le?, plus-none}
+use Rattle.whole.specs.Quotient.{halves}
 use Rattle.whole.specs.Tests.{lt-no}
 use Rattle.whole.specs.Choice.{maxZ, max-r, max-none}
 use Rattle.tables.specs.Cells.{Cell}
-use Rattle.rules.specs.Face.{Side, Flux}
-use Rattle.rules.specs.Lawful.{Lawful, flip}
+use Rattle.rules.specs.Lawful.{Lawful}
+use Rattle.rules.specs.Shown.{crossAt, volume}
 use Rattle.rules.specs.Reach.{Reach, Call, State, Bed, under, z0, z1, h0, h1, hl, hr, short, depthL, depthR, sideL, sideR}
-use Rattle.rules.specs.Stage.{outer, leftEnd, rightEnd, atLeft, atRight, faceRight, faceAt, volume, update, stage}
+use Rattle.rules.specs.Stage.{shown, faceRight, faceAt, update, stage}
 use Rattle.rules.specs.Finishing.{limit, clipped, cut, dried, finish}
 use Rattle.rules.specs.Step.{rubbed, rubbedCell, stageOne, half, carry, joinedCell, joined, next}
+use Rattle.rules.specs.Laws.Shown.{InTime, SoundRow, keeps}
+use Rattle.rules.specs.Laws.Ends.{left-end-takes, right-end-takes}
 
 -- what a call's numbers satisfy
 pub record Fine (r : Reach) (c : Call) : Type 0 where
   pub dx : pos 0 <ℤ r .dx
   pub dt : pos 0 ≤ℤ c .dt
   pub jump : pos 0 ≤ℤ c .jump
-
--- ---- what one face takes: shared by every reach
--- rightward out of a depth h at most h·S; over a step that is short enough, at most half of h
-pub takes-right : (r : Reach) (c : Call) → Fine r c → (f : Flux) → pos 0 ≤ℤ f .S → (pos 2 *ℤ c .dt *ℤ f .S) ≤ℤ (pos 4096 *ℤ r .dx) → (h : ℤ)
-    → pos 0 ≤ℤ h → (pos 4096 *ℤ f .F) ≤ℤ (h *ℤ f .S) → (pos 2 *ℤ volume (r .dx) (c .dt) f) ≤ℤ h
-unfolding volume
-takes-right r c ok f S≥0 brief h h≥0 out = half-le (f .F *ℤ c .dt) (r .dx) h (ok .dx) h≥0
-    (mul-cancel-le (pos 2 *ℤ (f .F *ℤ c .dt)) (h *ℤ r .dx) (pos 4096) (record { lt = tt })
-    (let a = nonneg h≥0 in let b = nonneg (ok .dt) in let s = nonneg S≥0 in let d = nonneg (lt-le (ok .dx)) in let x = at (f .F) in
-    le! (lit 2 ⊠ (x ⊠ b) ⊠ lit 4096) (a ⊠ d ⊠ lit 4096)
-    (omega (
-      arith,
-      cross (le? (lit 0) b (ok .dt)) (le? (lit 4096 ⊠ x) (a ⊠ s) out),
-      cross (le? (lit 0) a h≥0) (le? (lit 2 ⊠ b ⊠ s) (lit 4096 ⊠ d) brief),
-    ))))
-
-pub volume-flip : (dx dt : ℤ) (f : Flux) → volume dx dt (flip f) ≡ negℤ (volume dx dt f)
-unfolding volume
-volume-flip dx dt f =
-    ap (λ (z : ℤ). quotZ z dx) (eq! (⊖ (at (f .F)) ⊠ at dt) (⊖ (at (f .F) ⊠ at dt)) (omega arith)) ∙ quot-neg (f .F *ℤ dt) dx
-
--- leftward: the mirror image
-pub takes-left : (r : Reach) (c : Call) → Fine r c → (f : Flux) → pos 0 ≤ℤ f .S → (pos 2 *ℤ c .dt *ℤ f .S) ≤ℤ (pos 4096 *ℤ r .dx) → (h : ℤ)
-    → pos 0 ≤ℤ h → negℤ (h *ℤ f .S) ≤ℤ (pos 4096 *ℤ f .F) → negℤ h ≤ℤ (pos 2 *ℤ volume (r .dx) (c .dt) f)
-takes-left r c ok f S≥0 brief h h≥0 back =
-    let w = volume (r .dx) (c .dt) f in
-    let k : (pos 2 *ℤ volume (r .dx) (c .dt) (flip f)) ≤ℤ h =
-    takes-right r c ok (flip f) S≥0 brief h h≥0
-    (le! (lit 4096 ⊠ ⊖ (at (f .F))) (at h ⊠ at (f .S)) (omega (arith, le? (⊖ (at h ⊠ at (f .S))) (lit 4096 ⊠ at (f .F)) back))) in
-    let m : (pos 2 *ℤ negℤ w) ≤ℤ h = rw (volume-flip (r .dx) (c .dt) f) at k in
-    le! (⊖ (at h)) (lit 2 ⊠ at w) (omega (arith, le? (lit 2 ⊠ ⊖ (at w)) (at h) m))
-
--- a mean of at least half the face depths, of which each face takes at most half
-pub stays : (m a b vl vr : ℤ) → (a +ℤ b) ≤ℤ (pos 2 *ℤ m) → (pos 2 *ℤ vr) ≤ℤ b → negℤ a ≤ℤ (pos 2 *ℤ vl) → pos 0 ≤ℤ (m +ℤ vl -ℤ vr)
-stays m a b vl vr p q d = le! (lit 0) (at m ⊞ at vl ⊟ at vr)
-    (omega (arith, le? (at a ⊞ at b) (lit 2 ⊠ at m) p, le? (lit 2 ⊠ at vr) (at b) q, le? (⊖ (at a)) (lit 2 ⊠ at vl) d))
 
 -- ---- the depths of a state
 pub record Nonneg (b : Bed) (x : Cell) : Type 0 where
@@ -105,73 +70,28 @@ sideR≥0 : (d : ℤ) (b : Bed) (x : Cell) → pos 0 ≤ℤ sideR d b x .h
 unfolding sideR depthR
 sideR≥0 d b x = lifted (hr b x)
 
--- ---- faces: what is taken from the cell left of a face, and from the one right of it
-pub record TakesRight (h : ℤ) (f : Flux) : Type 0 where
-  pub size : pos 0 ≤ℤ f .S
-  pub out : (pos 4096 *ℤ f .F) ≤ℤ (h *ℤ f .S)
-
-pub record TakesLeft (h : ℤ) (f : Flux) : Type 0 where
-  pub size : pos 0 ≤ℤ f .S
-  pub back : negℤ (h *ℤ f .S) ≤ℤ (pos 4096 *ℤ f .F)
-
-pub inner : (i n : ℕ) → i < n → eqb i n ≡ true → ⊥
-inner i n l e = let k : i ≡ n = eqb→eq i n (held (eqb i n) e) in omega arith
-
 -- at every face 2·dt·S is at most 4096·dx
 abbrev pub Brief : Reach → Call → State → Type 0
-Brief r c s = (i : ℕ) → i < suc (r .n) → (pos 2 *ℤ c .dt *ℤ faceAt r c s i .S) ≤ℤ (pos 4096 *ℤ r .dx)
+Brief r c s = (i : ℕ) → i < suc (r .n) → InTime (r .dx) (c .dt) (faceAt r c s i)
 
-module _ (r : Reach) (law : Lawful (r .face)) (c : Call) (ok : Fine r c) where
-  pub inner-right : (a b : Side) → pos 0 ≤ℤ a .h → pos 0 ≤ℤ b .h → TakesRight (a .h) (r .face a b)
-  inner-right a b p q = let k = law .bounds a b p q in record { size = k .size; out = k .out }
+-- the row of a state is sound: the shortfall correction leaves no depth below nought, and no end takes more than its cell has
+sound : (r : Reach) → Lawful (r .face) → (c : Call) (s : State) → SoundRow (shown r c s)
+sound r law c s = record {
+  law = law;
+  left = left-end-takes (r .face) law (c .dry) (c .left);
+  right = right-end-takes (r .face) law (c .dry) (c .right);
+  toLeft = λ i l. sideL≥0 (c .dry) (under r i) (s i);
+  toRight = λ i l. sideR≥0 (c .dry) (under r i) (s i);
+}
 
-  pub inner-left : (a b : Side) → pos 0 ≤ℤ a .h → pos 0 ≤ℤ b .h → TakesLeft (b .h) (r .face a b)
-  inner-left a b p q = let k = law .bounds a b p q in record { size = k .size; back = k .back }
-
-  pub end-right : (x : Side) → pos 0 ≤ℤ x .h → TakesRight (x .h) (rightEnd r c x)
-  unfolding rightEnd outer
-  end-right x h = inner-right x (outer (c .right) x) h h
-
-  pub end-left : (x : Side) → pos 0 ≤ℤ x .h → TakesLeft (x .h) (leftEnd r c x)
-  unfolding leftEnd outer
-  end-left x h = inner-left (outer (c .left) x) x h h
-
-  face-right : (s : State) (i : ℕ) → TakesRight (atRight r c s i .h) (faceRight r c s i)
-  unfolding faceRight
-  face-right s i = let a = atRight r c s i in let b = atLeft r c s (suc i) in
-      cond-ind (eqb (suc i) (r .n)) (rightEnd r c a) (r .face a b) (TakesRight (a .h))
-      (λ e. end-right a (sideR≥0 (c .dry) (under r i) (s i)))
-      (λ e. inner-right a b (sideR≥0 (c .dry) (under r i) (s i)) (sideL≥0 (c .dry) (under r (suc i)) (s (suc i))))
-
-  face-left : (s : State) (i : ℕ) → i < r .n → TakesLeft (atLeft r c s i .h) (faceAt r c s i)
-  unfolding faceAt faceRight
-  face-left s zero l = end-left (atLeft r c s zero) (sideL≥0 (c .dry) (under r zero) (s zero))
-  face-left s (suc i) l = let a = atRight r c s i in let b = atLeft r c s (suc i) in
-      cond-ind (eqb (suc i) (r .n)) (rightEnd r c a) (r .face a b) (TakesLeft (b .h)) (λ e. absurd (inner (suc i) (r .n) l e))
-      (λ e. inner-left a b (sideR≥0 (c .dry) (under r i) (s i)) (sideL≥0 (c .dry) (under r (suc i)) (s (suc i))))
-
-  -- ---- a stage
-  module _ (s : State) (w : Wet r s) (t : Brief r c s) (i : ℕ) (l : i < r .n) where
-    out-right : (pos 2 *ℤ volume (r .dx) (c .dt) (faceRight r c s i)) ≤ℤ hr (under r i) (s i)
-    unfolding faceAt sideR
-    out-right =
-        let b = under r i in let x = s i in let f = faceRight r c s i in
-        let k : TakesRight (hr b x) f = subst (λ (z : ℤ). TakesRight z f) (depthR-is b x (w i l .right)) (face-right s i) in
-        takes-right r c ok f (k .size) (t (suc i) (omega arith)) (hr b x) (w i l .right) (k .out)
-
-    out-left : negℤ (hl (under r i) (s i)) ≤ℤ (pos 2 *ℤ volume (r .dx) (c .dt) (faceAt r c s i))
-    unfolding sideL
-    out-left =
-        let b = under r i in let x = s i in let f = faceAt r c s i in
-        let k : TakesLeft (hl b x) f = subst (λ (z : ℤ). TakesLeft z f) (depthL-is b x (w i l .left)) (face-left s i l) in
-        takes-left r c ok f (k .size) (t i (omega arith)) (hl b x) (w i l .left) (k .back)
-
-    pub stage-mean : pos 0
-        ≤ℤ (h0 (under r i) (s i) +ℤ volume (r .dx) (c .dt) (faceAt r c s i) -ℤ volume (r .dx) (c .dt) (faceRight r c s i))
-    unfolding hl hr
-    stage-mean = let b = under r i in let x = s i in let m = h0 b x in let d = h1 b x in
-        stays m (hl b x) (hr b x) (volume (r .dx) (c .dt) (faceAt r c s i)) (volume (r .dx) (c .dt) (faceRight r c s i))
-        (le! (at m ⊟ at d ⊞ (at m ⊞ at d)) (lit 2 ⊠ at m) (omega arith)) out-right out-left
+-- ---- a stage: the two depths that a cell shows come to twice its mean
+module _ (r : Reach) (law : Lawful (r .face)) (c : Call) (ok : Fine r c) (s : State) (w : Wet r s) (t : Brief r c s) where
+  pub stage-mean : (i : ℕ) → i < r .n
+      → pos 0 ≤ℤ (h0 (under r i) (s i) +ℤ volume (r .dx) (c .dt) (faceAt r c s i) -ℤ volume (r .dx) (c .dt) (faceRight r c s i))
+  unfolding sideL sideR hl hr
+  stage-mean i l = let b = under r i in let x = s i in let m = h0 b x in let d = h1 b x in
+      keeps (shown r c s) (sound r law c s) (r .dx) (c .dt) (ok .dx) (ok .dt) t i l m
+      (rw (depthL-is b x (w i l .left), depthR-is b x (w i l .right)) (le! (at m ⊟ at d ⊞ (at m ⊞ at d)) (lit 2 ⊠ at m) (omega arith)))
 
 -- ---- finishing
 pub clipped-most : (m x : ℤ) → pos 0 ≤ℤ m → clipped m x ≤ℤ m
@@ -239,7 +159,7 @@ module _ (r : Reach) (law : Lawful (r .face)) (c : Call) (ok : Fine r c) (s : St
     later = stage-mean r law c ok (stageOne r c s) stageOne-wet t′ i l
 
     pub joined-mean : pos 0 ≤ℤ h0 (under r i) (joined r c s i)
-    unfolding joined joinedCell carry half rubbed rubbedCell h0 faceAt
+    unfolding joined joinedCell carry half rubbed rubbedCell h0 crossAt
     joined-mean =
         let a = rubbed r c s i .e0 in let b = z0 (under r i) in
         let x = volume (r .dx) (c .dt) (faceAt r c (rubbed r c s) i) in let y = volume (r .dx) (c .dt) (faceRight r c (rubbed r c s) i) in

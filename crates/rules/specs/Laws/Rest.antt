@@ -1,4 +1,4 @@
--- A lake at rest stays as it is. Of the face rule only `still` is used.
+-- A lake at rest stays as it is, where no water is brought in: its faces are a row of still water.
 -- Assumes nothing.
 use mathlib.Core.Path.{_≡_, refl, sym, _∙_, ap, ap₂, subst}
 use mathlib.Core.Bool.{false, cond}
@@ -8,8 +8,8 @@ use Prim.Native.Nat.{ℕ, zero, suc, _<_}
 use native.Mathlib.Omega.{arith}
 use lib.Dec.{eqb}
 use lib.IntN.{ℤ, pos, negℤ, _+ℤ_, _-ℤ_, _*ℤ_}
-use lib.Signed.{quotZ, leZ, _≤ℤ_}
-use Rattle.whole.specs.Flags.{cond-ind, cond-same, by}
+use lib.Signed.{leZ, _≤ℤ_}
+use Rattle.whole.specs.Flags.{cond-same, by}
 use Rattle.whole.specs.Parts.{of-le, of-eq}
 use Rattle.whole.specs.Difference.{at, lit, _⊞_, _⊟_, ⊖, _⊠_, le!, eq!, le?, eq?, plus-none, times-none, none-times}
 use Rattle.whole.specs.Ring.{v, k, _⊕_, _⊗_, _⊝_, solve}
@@ -21,15 +21,19 @@ use Rattle.rules.specs.Face.{Side, Flux, speed}
 use Rattle.rules.specs.Lawful.{Still, resting, Lawful}
 use Rattle.rules.specs.Reach.{Reach, Call, State, el, er, ql, qr, Bed, under, z0, z1, h0, h1, hl}
 use Rattle.rules.specs.Reach.{hr, short, depthL, depthR, groundL, groundR, sideL, sideR}
-use Rattle.rules.specs.Stage.{outer, leftEnd, rightEnd, atLeft, atRight, faceRight, faceAt, volume, share}
+use Rattle.rules.specs.Shown.{volume}
+use Rattle.rules.specs.Stage.{atLeft, atRight, shown, faceRight, faceAt, share}
 use Rattle.rules.specs.Stage.{depthBefore, depthBehind, carried, gauss, push, tilt, update, stage}
 use Rattle.rules.specs.Finishing.{parted, marked, isLimited, limit, beyond, clipped, cut, dried, finish}
 use Rattle.rules.specs.Friction.{drag, slowed}
 use Rattle.rules.specs.Step.{rub, rubbedCell, rubbed, stageOne, half, carry, joinedCell, joined, next}
 use Rattle.rules.specs.AtRest.{Dry, Flat, Calm, AtRest}
 use Rattle.rules.specs.Laws.Speeds.{speed-none}
-use Rattle.rules.specs.Laws.Agree.{Same, inside}
-use Rattle.rules.specs.Laws.EvenBed.{EvenBed, twice, hl-is, hr-is}
+use Rattle.rules.specs.Laws.Agree.{Same}
+use Rattle.rules.specs.Laws.Shown.{inside, none-volume, QuietRow, quiet-left, quiet-right, none-crosses}
+use Rattle.rules.specs.Laws.Ends.{left-end-still, right-end-still}
+use Rattle.rules.specs.Laws.EvenBed.{EvenBed, hl-is, hr-is}
+use Rattle.rules.specs.Laws.Balance.{half-same}
 use Rattle.rules.specs.Laws.Positive.{Nonneg, no-short, depthL-is, depthR-is}
 
 pub rest-same : (r : Reach) (s t : State) → Same r t s → AtRest r s → AtRest r t
@@ -75,18 +79,10 @@ tilt-alg m d z ka kc p q c =
     ∙ ap (λ (t : ℤ). pos 4 *ℤ t)
     (⊎-elim (λ e. ap (λ (t : ℤ). t *ℤ (d +ℤ z)) e ∙ none-times (d +ℤ z)) (λ e. ap (λ (t : ℤ). d *ℤ t) e ∙ times-none d) c)
 
--- an end beside still water is still: its outer side has no speed either
-outer-still : (kind : ℕ) (h : ℤ) → outer kind (resting h) ≡ resting h
-unfolding outer
-outer-still kind h = λ j. record { h = h; u = cond-same (eqb kind 0) (pos 0) (pos 0) (pos 0) refl refl j }
-
-pub leftEnd-still : (r : Reach) → Lawful (r .face) → (c : Call) (h : ℤ) → pos 0 ≤ℤ h → Still h (leftEnd r c (resting h))
-unfolding leftEnd
-leftEnd-still r law c h p = subst (λ (x : Side). Still h (r .face x (resting h))) (sym (outer-still (c .left) h)) (law .still h p)
-
-pub rightEnd-still : (r : Reach) → Lawful (r .face) → (c : Call) (h : ℤ) → pos 0 ≤ℤ h → Still h (rightEnd r c (resting h))
-unfolding rightEnd
-rightEnd-still r law c h p = subst (λ (x : Side). Still h (r .face (resting h) x)) (sym (outer-still (c .right) h)) (law .still h p)
+-- a call that brings no water in
+pub record NoInflow (c : Call) : Type 0 where
+  pub left : c .left .q ≡ 0
+  pub right : c .right .q ≡ 0
 
 -- ---- a reach at rest
 module _ (r : Reach) (ev : EvenBed r) (s : State) (a : AtRest r s) where
@@ -109,7 +105,7 @@ module _ (r : Reach) (ev : EvenBed r) (s : State) (a : AtRest r s) where
   pub meet : (i : ℕ) → suc i < r .n → hr (under r i) (s i) ≡ hl (under r (suc i)) (s (suc i))
   meet i l = hr-is r ev i (omega arith) (s i) ∙ ap (λ (z : ℤ). z -ℤ r .bed (suc i)) (a .level i l) ∙ sym (hl-is r ev (suc i) l (s (suc i)))
 
-  module _ (law : Lawful (r .face)) (c : Call) where
+  module _ (law : Lawful (r .face)) (c : Call) (shut : NoInflow c) where
     sideL-rest : (i : ℕ) → i < r .n → atLeft r c s i ≡ resting (hl (under r i) (s i))
     unfolding sideL
     sideL-rest i l = side-is (atLeft r c s i) (resting (hl (under r i) (s i))) (depthL-is (under r i) (s i) (rest-wet i l .left))
@@ -122,26 +118,27 @@ module _ (r : Reach) (ev : EvenBed r) (s : State) (a : AtRest r s) where
         (speed-calm (c .dry) (qr (s i)) (depthR (under r i) (s i))
         (eq! (at (s i .q0) ⊞ at (s i .q1)) (lit 0) (omega (arith, of-eq (a .calm i l .q0), of-eq (a .calm i l .q1)))))
 
-    faceRight-still : (i : ℕ) → i < r .n → Still (hr (under r i) (s i)) (faceRight r c s i)
-    unfolding faceRight
-    faceRight-still i l = let h = hr (under r i) (s i) in
-        cond-ind (eqb (suc i) (r .n)) (rightEnd r c (atRight r c s i)) (r .face (atRight r c s i) (atLeft r c s (suc i))) (Still h)
-        (λ e. subst (λ (x : Side). Still h (rightEnd r c x)) (sym (sideR-rest i l)) (rightEnd-still r law c h (rest-wet i l .right)))
-        (λ e. let m : suc i < r .n = inside i (r .n) l e in
-        subst (λ (x : Side). Still h (r .face x (atLeft r c s (suc i)))) (sym (sideR-rest i l))
-        (subst (λ (x : Side). Still h (r .face (resting h) x)) (ap resting (meet i m) ∙ sym (sideL-rest (suc i) m))
-        (law .still h (rest-wet i l .right))))
+    -- its row is one of still water, so nothing flows
+    abbrev lefts : ℕ → ℤ
+    lefts i = hl (under r i) (s i)
 
-    faceAt-still : (i : ℕ) → i < r .n → Still (hl (under r i) (s i)) (faceAt r c s i)
-    unfolding faceAt
-    faceAt-still zero l = let h = hl (under r zero) (s zero) in
-        subst (λ (x : Side). Still h (leftEnd r c x)) (sym (sideL-rest zero l)) (leftEnd-still r law c h (rest-wet zero l .left))
-    faceAt-still (suc i) l = subst (λ (h : ℤ). Still h (faceRight r c s i)) (meet i l) (faceRight-still i (omega arith))
+    abbrev rights : ℕ → ℤ
+    rights i = hr (under r i) (s i)
 
-    -- nothing flows
-    pub volume-none : {h : ℤ} {f : Flux} → Still h f → volume (r .dx) (c .dt) f ≡ pos 0
-    unfolding volume
-    volume-none {h} {f} p = quot-none (f .F *ℤ c .dt) (r .dx) (ap (λ (z : ℤ). z *ℤ c .dt) (p .F≡) ∙ none-times (c .dt))
+    quiet : QuietRow (shown r c s) lefts rights
+    quiet = record {
+      law = law;
+      left = left-end-still (r .face) law (c .dry) (c .left) (shut .left);
+      right = right-end-still (r .face) law (c .dry) (c .right) (shut .right);
+      toLeft = sideL-rest;
+      toRight = sideR-rest;
+      a≥0 = λ i l. rest-wet i l .left;
+      b≥0 = λ i l. rest-wet i l .right;
+      meet = meet;
+    }
+
+    abbrev still-volume : {h : ℤ} {f : Flux} → Still h f → volume (r .dx) (c .dt) f ≡ pos 0
+    still-volume {h} {f} p = none-volume (r .dx) (c .dt) f (p .F≡)
 
     push-none : (i : ℕ) → i < r .n → (l f : Flux) → Still (hl (under r i) (s i)) l → Still (hr (under r i) (s i)) f
         → push (under r i) (s i) l f ≡ pos 0
@@ -185,7 +182,7 @@ module _ (r : Reach) (ev : EvenBed r) (s : State) (a : AtRest r s) where
     unfolding update
     update-rest i m l f p q = let x = s i in let y = update (r .dx) (c .dt) (c .dry) (under r i) x l f in let w = a .calm i m in
         cell-is y x
-        (ap₂ (λ (a b : ℤ). x .e0 +ℤ a -ℤ b) (volume-none p) (volume-none q) ∙ plus-none (x .e0 +ℤ pos 0) ∙ plus-none (x .e0))
+        (ap₂ (λ (a b : ℤ). x .e0 +ℤ a -ℤ b) (still-volume p) (still-volume q) ∙ plus-none (x .e0 +ℤ pos 0) ∙ plus-none (x .e0))
         (ap (λ (z : ℤ). x .e1 -ℤ z) (quot-none (pos 3 *ℤ (f .F +ℤ l .F -ℤ pos 2 *ℤ x .q0) *ℤ c .dt) (r .dx)
         (rw (p .F≡, q .F≡, w .q0) (none-times (c .dt)))) ∙ plus-none (x .e1))
         (ap₂ (λ (a b : ℤ). x .q0 +ℤ a +ℤ b)
@@ -200,7 +197,9 @@ module _ (r : Reach) (ev : EvenBed r) (s : State) (a : AtRest r s) where
 
     pub stage-rest : Same r (stage r c s) s
     unfolding stage
-    stage-rest i l = update-rest i l (faceAt r c s i) (faceRight r c s i) (faceAt-still i l) (faceRight-still i l)
+    stage-rest i l =
+        update-rest i l (faceAt r c s i) (faceRight r c s i) (quiet-left (shown r c s) lefts rights quiet i l)
+        (quiet-right (shown r c s) lefts rights quiet i l)
 
     -- ---- finishing
     parted-none : pos 0 ≤ℤ c .jump → (i : ℕ) → i < r .n → parted r c s i ≡ false
@@ -252,26 +251,20 @@ module _ (r : Reach) (ev : EvenBed r) (s : State) (a : AtRest r s) where
         (rub-none i (s i) (s i .q1) (a .calm i l .q1))
 
     pub face-none : 0 < r .n → (i : ℕ) → i < suc (r .n) → volume (r .dx) (c .dt) (faceAt r c s i) ≡ pos 0
-    unfolding faceAt
-    face-none o zero l = volume-none (faceAt-still zero o)
-    face-none o (suc i) l = volume-none (faceRight-still i (omega arith))
-
-half-same : (a : ℤ) → half a a ≡ a
-unfolding half
-half-same a = ap (λ (z : ℤ). quotZ z (pos 2)) (eq! (at a ⊞ at a) (at a ⊠ lit 2) (omega arith)) ∙ twice a
+    face-none = none-crosses (shown r c s) lefts rights quiet (r .dx) (c .dt)
 
 -- ---- the step
-module _ (r : Reach) (law : Lawful (r .face)) (ev : EvenBed r) (n>0 : 0 < r .n) (c : Call) (j : pos 0 ≤ℤ c .jump) (s : State)
-    (a : AtRest r s) where
+module _ (r : Reach) (law : Lawful (r .face)) (ev : EvenBed r) (n>0 : 0 < r .n) (c : Call) (shut : NoInflow c) (j : pos 0 ≤ℤ c .jump)
+    (s : State) (a : AtRest r s) where
   rubbed-at : AtRest r (rubbed r c s)
-  rubbed-at = rest-same r s (rubbed r c s) (rubbed-rest r ev s a law c) a
+  rubbed-at = rest-same r s (rubbed r c s) (rubbed-rest r ev s a law c shut) a
 
   staged : Same r (stage r c (rubbed r c s)) s
-  staged i l = stage-rest r ev (rubbed r c s) rubbed-at law c i l ∙ rubbed-rest r ev s a law c i l
+  staged i l = stage-rest r ev (rubbed r c s) rubbed-at law c shut i l ∙ rubbed-rest r ev s a law c shut i l
 
   stageOne-rest : Same r (stageOne r c s) s
   unfolding stageOne
-  stageOne-rest i l = finish-rest r ev (stage r c (rubbed r c s)) (rest-same r s (stage r c (rubbed r c s)) staged a) law c j i l
+  stageOne-rest i l = finish-rest r ev (stage r c (rubbed r c s)) (rest-same r s (stage r c (rubbed r c s)) staged a) law c shut j i l
       ∙ staged i l
 
   stageOne-at : AtRest r (stageOne r c s)
@@ -281,22 +274,22 @@ module _ (r : Reach) (law : Lawful (r .face)) (ev : EvenBed r) (n>0 : 0 < r .n) 
   pub carry-none : (i : ℕ) → i < suc (r .n) → carry r c s i ≡ pos 0
   unfolding carry half
   carry-none i l =
-      ap₂ half (face-none r ev (rubbed r c s) rubbed-at law c n>0 i l) (face-none r ev (stageOne r c s) stageOne-at law c n>0 i l)
+      ap₂ half (face-none r ev (rubbed r c s) rubbed-at law c shut n>0 i l) (face-none r ev (stageOne r c s) stageOne-at law c shut n>0 i l)
 
   joined-rest : Same r (joined r c s) s
   unfolding joined joinedCell
   joined-rest i l =
       let x = rubbed r c s i in let y = stage r c (stageOne r c s) i in
-      let e : y ≡ x = stage-rest r ev (stageOne r c s) stageOne-at law c i l ∙ stageOne-rest i l ∙ sym (rubbed-rest r ev s a law c i l) in
+      let e : y ≡ x = stage-rest r ev (stageOne r c s) stageOne-at law c shut i l ∙ stageOne-rest i l ∙ sym (rubbed-rest r ev s a law c shut i l) in
       cell-is (joined r c s i) x
       (ap₂ (λ (p q : ℤ). x .e0 +ℤ p -ℤ q) (carry-none i (omega arith)) (carry-none (suc i) (omega arith)) ∙ plus-none (x .e0 +ℤ pos 0)
       ∙ plus-none (x .e0))
       (ap (λ (z : Cell). half (x .e1) (z .e1)) e ∙ half-same (x .e1))
       (ap (λ (z : Cell). half (x .q0) (z .q0)) e ∙ half-same (x .q0))
       (ap (λ (z : Cell). half (x .q1) (z .q1)) e ∙ half-same (x .q1))
-      ∙ rubbed-rest r ev s a law c i l
+      ∙ rubbed-rest r ev s a law c shut i l
 
   -- a lake at rest keeps every number
   pub next-rest : Same r (next r c s) s
   unfolding next
-  next-rest i l = finish-rest r ev (joined r c s) (rest-same r s (joined r c s) joined-rest a) law c j i l ∙ joined-rest i l
+  next-rest i l = finish-rest r ev (joined r c s) (rest-same r s (joined r c s) joined-rest a) law c shut j i l ∙ joined-rest i l

@@ -1,6 +1,6 @@
 -- Demand 3: the laws of a call by its refusal number, and of any number of accepted calls on one reach.
 -- Assumes nothing.
-use mathlib.Core.Path.{_≡_, refl, sym, _∙_, ap, ap₂, subst}
+use mathlib.Core.Path.{_≡_, sym, _∙_, ap, subst}
 use mathlib.Core.Bool.{true, false, not}
 use mathlib.Core.List.{List, [], _∷_, _++_}
 use mathlib.Core.Logic.{_⊎_, inl, inr}
@@ -22,7 +22,8 @@ use Rattle.rules.specs.Lawful.{Lawful}
 use Rattle.rules.specs.Reach.{Reach, Call, State, ql, qr, Bed, under, h0, hl, hr}
 use Rattle.rules.specs.Stage.{faceAt}
 use Rattle.rules.specs.Step.{rubbed, stageOne, carry, next}
-use Rattle.rules.specs.Refusals.{outside, past, callTests, badCall, badBed, cellTests, offCell, off, fastCell, fastFriction, tooLong}
+use Rattle.rules.specs.Refusals.{outside, past, callTests, badEnd, badCall, badBed, cellTests, offCell, off}
+use Rattle.rules.specs.Refusals.{fastCell, fastFriction, fastFace, tooLong}
 use Rattle.rules.specs.Refusals.{Check, chk, stageChecks, early, checks, verdict, refusal}
 use Rattle.rules.specs.AtRest.{AtRest}
 use Rattle.rules.specs.Laws.Agree.{Same}
@@ -33,7 +34,8 @@ use Rattle.rules.specs.Laws.Places as place
 use Rattle.rules.specs.Laws.Positive.{Fine, Nonneg, Wet, mean≥0, Brief, stageOne-wet, next-wet}
 use Rattle.rules.specs.Laws.Balance.{sum-same, water, balanced}
 use Rattle.rules.specs.Laws.EvenBed.{even-of, EvenBed}
-use Rattle.rules.specs.Laws.Rest.{rest-same, next-rest, carry-none}
+use Rattle.rules.specs.Laws.EndChecks.{SlowInflows, slow-inflows}
+use Rattle.rules.specs.Laws.Rest.{NoInflow, next-rest, carry-none}
 
 -- ---- what the checks say
 fine : (r : Reach) (c : Call) → badCall r c ≡ false → Fine r c
@@ -167,6 +169,27 @@ accepted-slow r c s e i l =
     let clear = clear-at (early r c s) (passed 0 (early r c s) (late r c s) tt e .0) in
     some-none (fastFriction r c s) (r .n) (clear place.friction) i l
 
+-- nor is any speed at a face of either stage, that of an inflow included
+pub accepted-speeds : (r : Reach) (c : Call) (s : State) → refusal r c s ≡ 0
+    → (some (fastFace r c (rubbed r c s)) (suc (r .n)) ≡ false) × (some (fastFace r c (stageOne r c s)) (suc (r .n)) ≡ false)
+unfolding refusal checks early stageChecks
+accepted-speeds r c s e =
+    let p = passed 0 (early r c s) (late r c s) tt e in
+    (clear-at (early r c s) (p .0) place.speeds-one, clear-at (late r c s) (cleared (late r c s) tt (sym (p .1))) place.speeds-two)
+
+pub accepted-inflows : (r : Reach) (c : Call) (s : State) → 0 < r .n → refusal r c s ≡ 0
+    → SlowInflows r c (rubbed r c s) × SlowInflows r c (stageOne r c s)
+accepted-inflows r c s o e = let p = accepted-speeds r c s e in
+    (slow-inflows r c (rubbed r c s) o (p .0), slow-inflows r c (stageOne r c s) o (p .1))
+
+-- and its ends are in their lists
+pub accepted-ends : (r : Reach) (c : Call) (s : State) → refusal r c s ≡ 0 → (badEnd (c .left) ≡ false) × (badEnd (c .right) ≡ false)
+unfolding refusal checks early stageChecks badCall
+accepted-ends r c s e =
+    let clear = clear-at (early r c s) (passed 0 (early r c s) (late r c s) tt e .0) in
+    let fails = none-at (callTests r c) (clear place.call) in
+    (fails 4, fails 5)
+
 -- no depth, mean or face, is below nought: in the state it starts from, in the finished stage one, in the end state
 pub record Depths (r : Reach) (s : State) : Type 0 where
   pub faces : Wet r s
@@ -211,15 +234,11 @@ run-wet r law (step c s m t a b e f k) w =
     let p = accepted r c s e in
     run-wet r law k (wet-same r (next r c s) m f (wet-next r law c s (p .early) (p .brief)))
 
--- a lake at rest keeps every number, and nothing crosses its ends
-pub run-rest : (r : Reach) → Lawful (r .face) → 0 < r .n → {s t : State} {a b : ℤ} → Run r s t a b → AtRest r s
-    → (Same r t s) × (a ≡ pos 0) × (b ≡ pos 0)
-run-rest r law o (stop s) w = (λ i l. refl, refl, refl)
-run-rest r law o (step c s m t a b e f k) w =
-    let p = accepted r c s e in let ev = p .early .even in let j = p .early .fine .jump in
-    let same : Same r m s = λ i l. f i l ∙ next-rest r law ev o c j s w i l in
-    let q = run-rest r law o k (rest-same r s m same w) in (
-      λ i l. q .0 i l ∙ same i l,
-      ap₂ _+ℤ_ (carry-none r law ev o c j s w 0 (omega arith)) (q .1),
-      ap₂ _+ℤ_ (carry-none r law ev o c j s w (r .n) (omega arith)) (q .2),
-    )
+-- a call that is accepted and brings no water in keeps every number of a lake at rest, and nothing crosses its ends
+pub accepted-rest : (r : Reach) → Lawful (r .face) → 0 < r .n → (c : Call) (s : State) → refusal r c s ≡ 0 → NoInflow c → AtRest r s
+    → (Same r (next r c s) s) × (carry r c s 0 ≡ pos 0) × (carry r c s (r .n) ≡ pos 0)
+accepted-rest r law o c s e shut a = let p = accepted r c s e in let ev = p .early .even in let j = p .early .fine .jump in (
+  next-rest r law ev o c shut j s a,
+  carry-none r law ev o c shut j s a 0 (omega arith),
+  carry-none r law ev o c shut j s a (r .n) (omega arith),
+)
