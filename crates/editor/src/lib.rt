@@ -4,11 +4,12 @@ use double::face::DoubleAnswer;
 use face::answer::Carried;
 use root::RootAnswer;
 use step::Answer;
+use step::End;
 use step::Given;
 ghost use lib.ListN.{length};
 ghost use Rattle.rules.specs.Lent.{stepOf};
 ghost use Rattle.face.specs.Given.{side, faceGiven};
-ghost use Rattle.step.specs.Gives.{lend};
+ghost use Rattle.step.specs.Gives.{end, lend};
 ghost use Rattle.editor.specs.Told.{StepTold, FaceTold, DoubleTold, RootTold};
 
 // 0 when the step is accepted, else the refusal's number; `volumes`, W at face 0 and at face n, is
@@ -25,20 +26,30 @@ pub extern "C" fn bassoonsun_step(
     dry: u32,
     left: u32,
     right: u32,
+    left_q: u32,
+    right_q: u32,
     volumes: &mut [i64; 2],
 ) -> u32
     ensures { λ r. ⌜ StepTold
         (stepOf (lend (now (state .entry)) (length (now (next .entry))) (now (bed .entry)) (now (friction .entry))
-        dx dt jump dry left right))
+        dx dt jump dry (end left «left_q») (end right «right_q»)))
         r (now (next .entry)) (now (next .exit)) (now (volumes .entry)) (now (volumes .exit)) ⌝ }
 {
+    let first = End {
+        kind: left,
+        q: left_q,
+    };
+    let last = End {
+        kind: right,
+        q: right_q,
+    };
     let call = Given {
         dx,
         dt,
         jump,
         dry,
-        left,
-        right,
+        left: first,
+        right: last,
     };
     let a = step::step(state, next, bed, friction, call);
     match a {

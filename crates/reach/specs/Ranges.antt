@@ -1,11 +1,11 @@
 -- How large the numbers of a call, a bed and a cell in work may be.
 use mathlib.Core.List.{List}
-use Prim.Native.Nat.{ℕ, _<_}
+use Prim.Native.Nat.{ℕ, _≤_, _<_}
 use lib.IntN.{ℤ, pos, natAbs}
 use lib.Signed.{_≤ℤ_, _<ℤ_}
 use Rattle.whole.specs.Parts.{Within}
 use Rattle.tables.specs.Cells.{Cell}
-use Rattle.rules.specs.Limits.{highestBed, longestCell, longestStep, largestJump, leastDry, mostDry}
+use Rattle.rules.specs.Limits.{highestBed, longestCell, longestStep, largestJump, leastDry, mostDry, largestInflow}
 use Rattle.rules.specs.Reach.{State, Bed}
 use Rattle.reach.specs.declared.Reach.{Reach}
 use Rattle.reach.specs.declared.Call.{Call}
@@ -33,6 +33,8 @@ pub record Numbers (r : Reach) (c : Call) : Type 0 where
   pub jump-pos : pos 0 ≤ℤ c .jump
   pub jump-in : UpTo largestJump (c .jump)
   pub dry : DryDepth (c .dry)
+  pub left-q : c .left .q ≤ largestInflow
+  pub right-q : c .right .q ≤ largestInflow
 
 -- a bed that passed check 3, and the beds of n cells
 pub record Ground (b : Bed) : Type 0 where

@@ -4,8 +4,10 @@ use Prim.Native.Nat.{ℕ, suc}
 use lib.ListN.{getD}
 use lib.IntN.{ℤ, pos}
 use Rattle.rules.specs.Face.{face}
+use Rattle.rules.specs.Ends as rules-ends
 use Rattle.rules.specs.Reach as rules
 use Rattle.reach.specs.declared.Reach.{Reach}
+use Rattle.reach.specs.declared.End.{End}
 use Rattle.reach.specs.declared.Call.{Call}
 use Rattle.reach.specs.declared.bed.Bed.{Bed}
 
@@ -13,9 +15,12 @@ use Rattle.reach.specs.declared.bed.Bed.{Bed}
 abbrev pub reachIn : Reach → List ℤ → rules.Reach
 reachIn r bed = record { n = r .n; dx = r .dx; bed = λ i. getD bed i (pos 0); face = face }
 
--- the call, with the friction ρ of each cell
+-- an end; and the call, with the friction ρ of each cell
+abbrev pub endIn : End → rules-ends.End
+endIn e = record { kind = e .kind; q = e .q }
+
 abbrev pub callOn : Call → (ℕ → ℤ) → rules.Call
-callOn c ρ = record { dt = c .dt; jump = c .jump; dry = c .dry; rough = ρ; left = c .left; right = c .right }
+callOn c ρ = record { dt = c .dt; jump = c .jump; dry = c .dry; rough = ρ; left = endIn (c .left); right = endIn (c .right) }
 
 -- the bed of a cell; and the bed under cell i, of the lent table
 abbrev pub bedIn : Bed → rules.Bed

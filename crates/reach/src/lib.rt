@@ -14,14 +14,20 @@ pub struct Reach {
     pub dx: i64,
 }
 
-// What may differ: the time step, the jump, the dry depth, and the kinds of the two ends, 0 a wall or
-// 1 open.
+// An end: its kind, 0 a wall, 1 open, 2 an inflow; and the discharge that an inflow brings into the
+// reach, 0 at an end of another kind.
+pub struct End {
+    pub kind: u32,
+    pub q: u32,
+}
+
+// What may differ: the time step, the jump, the dry depth, and the two ends.
 pub struct Call {
     pub dt: i64,
     pub jump: i64,
     pub dry: i64,
-    pub left: u32,
-    pub right: u32,
+    pub left: End,
+    pub right: End,
 }
 
 // The numbers of a call as its caller gives them, each still to be held against its list.
@@ -30,6 +36,6 @@ pub struct Given {
     pub dt: u32,
     pub jump: u32,
     pub dry: u32,
-    pub left: u32,
-    pub right: u32,
+    pub left: End,
+    pub right: End,
 }

@@ -50,6 +50,10 @@ pub speed-given : (q h d : ℤ) → Within 8388608 q → pos 0 ≤ℤ h → h �
 unfolding speedGiven
 speed-given q h d w a b i = rw (in-discharge q w, in-depth h a b, in-dry d i)
 
+pub wave-given : (h : ℤ) → pos 0 ≤ℤ h → h ≤ℤ deepest → waveGiven h ≡ given (wave h)
+unfolding waveGiven
+wave-given h a b = rw (in-depth h a b)
+
 pub cube-given : (h : ℤ) → pos 0 ≤ℤ h → h ≤ℤ deepest → cubeGiven h ≡ given (cube h)
 unfolding cubeGiven
 cube-given h a b = rw (in-depth h a b)

@@ -1,22 +1,24 @@
 -- The rows that a stage keeps, what travels between them, and what is worked out of them, as the rules' records.
-use mathlib.Core.Bool.{Bool, cond, _||_}
+use mathlib.Core.Path.{_≡_}
+use mathlib.Core.Bool.{Bool, false, _||_}
 use mathlib.Core.List.{List, [], _∷_}
-use Prim.Native.Nat.{ℕ, zero, suc, _<_}
-use lib.Dec.{eqb}
+use Prim.Native.Nat.{ℕ, suc, _-_, _<_}
 use lib.ListN.{getD}
 use lib.IntN.{ℤ, pos, _+ℤ_, _-ℤ_, _*ℤ_}
 use lib.Signed.{quotZ, ltZ}
 use Rattle.tables.specs.Cells.{Cell}
 use Rattle.rules.specs.Face.{speed, face}
 use Rattle.rules.specs.Face as rules
+use Rattle.rules.specs.Shown.{Shown, crossAt, volume}
+use Rattle.rules.specs.Ends.{leftEnd, rightEnd}
 use Rattle.rules.specs.Reach.{State, Bed, short, h0, h1, sideL, sideR}
-use Rattle.rules.specs.Stage.{outer, volume, carried, flowBefore, flowBehind, depthBefore, depthBehind, gauss}
+use Rattle.rules.specs.Stage.{carried, flowBefore, flowBehind, depthBefore, depthBehind, gauss}
 use Rattle.rules.specs.Step.{half, rubbedCell, joinedCell}
-use Rattle.rules.specs.Refusals.{fastSide, fastPoints}
+use Rattle.rules.specs.Refusals.{fastSide, fastInflow, fastPoints}
 use Rattle.rules.specs.Laws.Sizes.{Sound}
 use Rattle.reach.specs.declared.Reach.{Reach}
 use Rattle.reach.specs.declared.Call.{Call}
-use Rattle.reach.specs.Told.{bedAt}
+use Rattle.reach.specs.Told.{endIn, bedAt}
 use Rattle.stage.specs.declared.rows.Side.{Side}
 use Rattle.stage.specs.declared.rows.Flux.{Flux}
 
@@ -55,6 +57,13 @@ sidesAt dry bed s i = sideRow (sideL dry (bedAt bed i) (s i)) (sideR dry (bedAt 
 -- a cell with a side that is too fast
 unfoldable pub fastSides : ℤ → List ℤ → State → ℕ → Bool
 fastSides dry bed s i = fastSide (sideL dry (bedAt bed i) (s i)) || fastSide (sideR dry (bedAt bed i) (s i))
+
+-- an end whose inflow is too fast, of the left one and of the right
+unfoldable pub fastEnds : Reach → Call → List (List ℤ) → Bool
+fastEnds r c d = fastInflow (c .dry) (endIn (c .left)) (leftIn d 0) || fastInflow (c .dry) (endIn (c .right)) (rightIn d (r .n - 1))
+
+abbrev pub SlowEnds : Reach → Call → List (List ℤ) → Type 0
+SlowEnds r c d = fastEnds r c d ≡ false
 
 -- ---- Gauss points: their two speeds, and g1 + g2
 -- by the depth and the discharge before the middle, and those behind it
@@ -95,17 +104,25 @@ volumeOf l = getD l 3 (pos 0)
 unfoldable pub longFlux : ℤ → ℤ → rules.Flux → Bool
 longFlux dx dt x = ltZ (pos 4096 *ℤ dx) (pos 2 *ℤ dt *ℤ x .S)
 
--- what crosses face i of 0 to n between the sides of a table
-unfoldable pub crossAt : Reach → Call → List (List ℤ) → ℕ → rules.Flux
-crossAt r c d zero = face (outer (c .left) (leftIn d zero)) (leftIn d zero)
-crossAt r c d (suc i) =
-    cond (eqb (suc i) (r .n)) (face (rightIn d i) (outer (c .right) (rightIn d i))) (face (rightIn d i) (leftIn d (suc i)))
+-- the row that a table of sides shows its faces, and what crosses face i of 0 to n
+abbrev pub shownIn : Reach → Call → List (List ℤ) → Shown
+shownIn r c d = record {
+  n = r .n;
+  face = face;
+  left = leftEnd face (c .dry) (endIn (c .left));
+  right = rightEnd face (c .dry) (endIn (c .right));
+  toLeft = leftIn d;
+  toRight = rightIn d;
+}
+
+abbrev pub crossIn : Reach → Call → List (List ℤ) → ℕ → rules.Flux
+crossIn r c d i = crossAt (shownIn r c d) i
 
 abbrev pub longAt : Reach → Call → List (List ℤ) → ℕ → Bool
-longAt r c d i = longFlux (r .dx) (c .dt) (crossAt r c d i)
+longAt r c d i = longFlux (r .dx) (c .dt) (crossIn r c d i)
 
 abbrev pub faceRowAt : Reach → Call → List (List ℤ) → ℕ → List ℤ
-faceRowAt r c d i = faceRow (r .dx) (c .dt) (crossAt r c d i)
+faceRowAt r c d i = faceRow (r .dx) (c .dt) (crossIn r c d i)
 
 -- ---- a cell after the stage, from the rows l and f of its faces and its momentum g
 -- dt/dx of three times a sum, and how a pressure moves a discharge

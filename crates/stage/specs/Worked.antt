@@ -13,7 +13,7 @@ use Rattle.rules.specs.Lent.{Lent, reachOf, callOf, stateOf, number}
 use Rattle.reach.specs.declared.Reach.{Reach as ToldReach}
 use Rattle.reach.specs.declared.Call.{Call as ToldCall}
 use Rattle.reach.specs.declared.Given.{Given}
-use Rattle.reach.specs.Told.{reachIn, callOn}
+use Rattle.reach.specs.Told.{endIn, reachIn, callOn}
 use Rattle.reach.specs.Ranges.{UpTo}
 use Rattle.stage.specs.Ranges.{mostVolume}
 use Rattle.stage.specs.Says.{readyChecks, bothChecks}
@@ -59,8 +59,8 @@ lentBy state room bed friction g = record {
   dt = g .dt;
   jump = g .jump;
   dry = g .dry;
-  left = g .left;
-  right = g .right;
+  left = endIn (g .left);
+  right = endIn (g .right);
 }
 
 abbrev pub WorkedSays : Lent → Worked → List ℤ → List ℤ → Type 0

@@ -4,6 +4,7 @@ use crate::cell::off_cell;
 use crate::sides::speed_of;
 use reach::Call;
 use reach::Cell;
+use reach::End;
 use reach::Reach;
 use reach::bed::Bed;
 use reach::bed::bed_at;
@@ -11,6 +12,8 @@ use reach::bed::under;
 use reach::limits::CELLS;
 use reach::limits::FASTEST;
 use reach::limits::HIGHEST_BED;
+use reach::limits::INFLOW;
+use reach::limits::LARGEST_INFLOW;
 use reach::limits::LARGEST_JUMP;
 use reach::limits::LONGEST_CELL;
 use reach::limits::LONGEST_STEP;
@@ -25,9 +28,9 @@ ghost use lib.ListN.{getD, length};
 ghost use lib.IntN.{ℤ, pos};
 ghost use Rattle.tables.specs.Some.{some};
 ghost use Rattle.tables.specs.Cells.{asCell, seen};
-ghost use Rattle.rules.specs.Refusals.{badCall, badBed, badRough, offCell, fastCell};
+ghost use Rattle.rules.specs.Refusals.{badEnd, badCall, badBed, badRough, offCell, fastCell};
 ghost use Rattle.rules.specs.Lent.{misfit};
-ghost use Rattle.reach.specs.Told.{reachIn, callOn, bedIn, bedAt};
+ghost use Rattle.reach.specs.Told.{endIn, reachIn, callOn, bedIn, bedAt};
 ghost use Rattle.reach.specs.Ranges.{DryDepth, AllUnfinished};
 ghost use Rattle.stage.specs.Ranges.{Room, Inside, Ranged};
 
@@ -53,7 +56,23 @@ pub fn bad_lengths(state: usize, next: usize, bed: usize, n: usize) -> bool
     false
 }
 
-// 2: is a number or an end kind outside its list? It reads neither the bed nor the friction.
+// Is the kind or the inflow of an end outside its list, or is there an inflow at an end of another kind?
+fn bad_end(end: End) -> bool
+    ensures { λ r. ⌜ r ≡ badEnd (endIn end) ⌝ }
+{
+    if INFLOW < end.kind {
+        return true;
+    }
+    if LARGEST_INFLOW < end.q {
+        return true;
+    }
+    if end.kind == INFLOW {
+        return false;
+    }
+    end.q != 0
+}
+
+// 2: is a number or an end outside its list? It reads neither the bed nor the friction.
 pub fn bad_numbers(reach: Reach, call: Call) -> bool
     ensures { λ r. ⌜ ((bed : List ℤ) (ρ : ℕ → ℤ) → r ≡ badCall (reachIn reach bed) (callOn call ρ)) ⌝ }
 {
@@ -69,10 +88,10 @@ pub fn bad_numbers(reach: Reach, call: Call) -> bool
     if bad_dry(call.dry) {
         return true;
     }
-    if 1 < call.left {
+    if bad_end(call.left) {
         return true;
     }
-    1 < call.right
+    bad_end(call.right)
 }
 
 // Is a bed value out of range or odd?

@@ -1,65 +1,36 @@
 // What crosses each face of the reach: worked once a stage, and kept with its volume.
+use crate::ends::crossing;
+use crate::ends::left_end;
+use crate::ends::right_end;
 use crate::rows::FaceRow;
 use crate::rows::Flux;
-use crate::rows::Side;
 use crate::rows::Sides;
 use crate::rows::left_side;
 use crate::rows::right_side;
-use face::answer::Carried;
 use reach::Call;
 use reach::Reach;
 ghost use mathlib.Core.Path.{_≡_};
 ghost use mathlib.Core.List.{[]};
 ghost use Prim.Native.Nat.{suc, _≤_, _<_};
 ghost use Rattle.tables.specs.Filling.{FillSays};
-ghost use Rattle.rules.specs.Face.{face};
-ghost use Rattle.rules.specs.Stage as rules;
-ghost use Rattle.rules.specs.Laws.Sizes.{Sound, Sized};
+ghost use Rattle.rules.specs.Laws.Sizes.{Sized};
 ghost use Rattle.reach.specs.Ranges.{Numbers};
-ghost use Rattle.stage.specs.Rows.{Sounds, sideIn, fluxIn, faceRow, longFlux, crossAt, longAt, faceRowAt};
+ghost use Rattle.stage.specs.Rows.{Sounds, SlowEnds, fluxIn, faceRow, longFlux, crossIn, longAt, faceRowAt};
 ghost use Rattle.stage.specs.Ranges.{Room, FaceRoom};
-
-// The outer side of an end: as deep as the inner; its speed is reversed at a wall, the same at an
-// open end.
-fn outer(kind: u32, x: Side) -> Side
-    requires { ⌜ Sound (sideIn x) ⌝ }
-    ensures { λ r. ⌜ sideIn r ≡ rules.outer kind (sideIn x) ⌝ }
-{
-    if kind == 0 {
-        return Side { h: x.h, u: -x.u };
-    }
-    x
-}
-
-// What crosses between two sides. Both are within the limits, so the face crate never refuses.
-fn crossing(l: Side, r: Side) -> Flux
-    requires { ⌜ Sound (sideIn l) × Sound (sideIn r) ⌝ }
-    ensures { λ x. ⌜ fluxIn x ≡ face (sideIn l) (sideIn r) ⌝ }
-{
-    match face::flux::face(l.h, l.u, r.h, r.u) {
-        Carried::Flux(f, k, a, s) => Flux { f, k, a, s },
-        Carried::Refused => Flux {
-            f: 0,
-            k: 0,
-            a: 0,
-            s: 0,
-        },
-    }
-}
 
 // What crosses face i, between the sides in d.
 fn face_at(d: &[Sides], reach: Reach, call: Call, i: usize) -> Flux
     requires { ⌜ (0 < reach .n) × Room reach (now d) × (i ≤ reach .n) ⌝ }
+    requires { ⌜ Numbers reach call ⌝ }
     requires { ⌜ Sounds (now d) (reach .n) ⌝ }
-    ensures { λ r. ⌜ fluxIn r ≡ crossAt reach call (now (d .entry)) i ⌝ }
+    ensures { λ r. ⌜ fluxIn r ≡ crossIn reach call (now (d .entry)) i ⌝ }
 {
     if i == 0 {
-        let first = left_side(d[0]);
-        return crossing(outer(call.left, first), first);
+        return left_end(call.left, left_side(d[0]), call.dry);
     }
     let before = right_side(d[i - 1]);
     if i == reach.n {
-        return crossing(before, outer(call.right, before));
+        return right_end(call.right, before, call.dry);
     }
     crossing(before, left_side(d[i]))
 }
@@ -86,7 +57,7 @@ fn face_row(x: Flux, reach: Reach, call: Call) -> FaceRow
 pub fn faces(d: &[Sides], reach: Reach, call: Call, f: &mut [FaceRow]) -> bool
     requires { ⌜ (0 < reach .n) × Room reach (now d) × FaceRoom reach (now f) ⌝ }
     requires { ⌜ Numbers reach call ⌝ }
-    requires { ⌜ Sounds (now d) (reach .n) ⌝ }
+    requires { ⌜ Sounds (now d) (reach .n) × SlowEnds reach call (now d) ⌝ }
     ensures { λ r. ⌜ FillSays [] (suc (reach .n))
         (longAt reach call (now (d .entry))) (faceRowAt reach call (now (d .entry))) r (now (f .exit)) ⌝ }
 {

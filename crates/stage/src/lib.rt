@@ -4,6 +4,7 @@
 mod cell;
 mod checks;
 mod ending;
+mod ends;
 mod faces;
 mod friction;
 mod joining;

@@ -1,4 +1,5 @@
 // One stage, from a state that is in range.
+use crate::ends::fast_ends;
 use crate::faces::faces;
 use crate::points::points;
 use crate::rows::FaceRow;
@@ -36,6 +37,9 @@ pub fn stage(
         StageSays (reachIn reach (now (bed .entry))) (callOn call ρ) (seen (now (t .entry))) r (now (f .exit)) (now (u .exit))) ⌝ }
 {
     if sides(t, bed, reach, call, d) {
+        return 6;
+    }
+    if fast_ends(d, reach, call) {
         return 6;
     }
     if points(t, bed, reach, call, g) {

@@ -280,12 +280,14 @@ pub fn work(state: &[i32], next: &mut [i32], bed: &[i32], friction: &[u16], give
         n,
         dx: widened(given.dx),
     };
+    let left = given.left;
+    let right = given.right;
     let call = Call {
         dt: widened(given.dt),
         jump: widened(given.jump),
         dry: widened(given.dry),
-        left: given.left,
-        right: given.right,
+        left,
+        right,
     };
     if bad_numbers(reach, call) {
         return Worked::Refused(2);

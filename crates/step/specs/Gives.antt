@@ -3,12 +3,16 @@ use mathlib.Core.Path.{_≡_, sym, _∙_}
 use mathlib.Core.List.{List}
 use Prim.Native.Nat.{ℕ}
 use lib.IntN.{ℤ, pos}
+use Rattle.rules.specs.Ends.{End}
 use Rattle.rules.specs.Lent.{Lent, Outcome, refused, accepted}
 use Rattle.step.specs.declared.Answer.{Answer}
 use Rattle.step.specs.declared.Answer.the-variants.{Refused, Accepted}
 
--- what is lent and given
-abbrev pub lend : List ℤ → ℕ → List ℤ → List ℕ → ℕ → ℕ → ℕ → ℕ → ℕ → ℕ → Lent
+-- an end, by its kind and its Q; and what is lent and given
+abbrev pub end : ℕ → ℕ → End
+end kind q = record { kind = kind; q = q }
+
+abbrev pub lend : List ℤ → ℕ → List ℤ → List ℕ → ℕ → ℕ → ℕ → ℕ → End → End → Lent
 lend state room bed friction dx dt jump dry left right = record {
   now = state;
   room = room;

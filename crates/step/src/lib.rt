@@ -6,6 +6,7 @@ ghost use lib.ListN.{length};
 ghost use Rattle.rules.specs.Lent.{stepOf};
 ghost use Rattle.stage.specs.Worked.{lentBy};
 ghost use Rattle.step.specs.Gives.{Gives};
+pub use reach::End;
 pub use reach::Given;
 
 pub enum Answer {

@@ -1,35 +1,30 @@
--- What crosses a face at an end and between two cells, and its sizes where all sides are within the limits.
+-- What crosses a face at an end and between two cells, and its sizes where all sides and inflows are within the limits.
 -- Assumes nothing.
 use mathlib.Core.Path.{_≡_, refl, sym, subst}
+use mathlib.Core.Bool.{Bool}
 use mathlib.Core.List.{List, []}
 use Prim.Native.Nat.{ℕ, zero, suc, _-_, _≤_, _<_}
 use native.Mathlib.Omega.{arith}
 use native.Mathlib.Decide.{ℕ-discrete}
 use borrow.Author.Tests.{eq-eqb, ne-eqb}
-use lib.Dec.{eqb}
-use lib.IntN.{ℤ, negℤ}
-use Rattle.whole.specs.Flags.{cond-ind}
-use Rattle.whole.specs.Parts.{b-neg, b-mul, b-nonneg}
+use lib.IntN.{ℤ}
+use Rattle.whole.specs.Flags.{or-l, or-r}
+use Rattle.whole.specs.Parts.{b-mul, b-nonneg}
 use Rattle.whole.specs.Quotient.{b-quot}
 use Rattle.tables.specs.Rows.{Written}
-use Rattle.rules.specs.Limits.{longestStep, fastest}
+use Rattle.rules.specs.Limits.{longestStep}
 use Rattle.rules.specs.Face.{Side, Flux, face}
-use Rattle.rules.specs.Stage.{outer, volume}
-use Rattle.rules.specs.Laws.Sizes.{Sound, Sized, face-sized}
+use Rattle.rules.specs.Shown.{crossRight, crossAt, volume}
+use Rattle.rules.specs.Ends.{leftEnd, rightEnd}
+use Rattle.rules.specs.Refusals.{fastInflow}
+use Rattle.rules.specs.Laws.Sizes.{Sized, face-sized}
+use Rattle.rules.specs.Laws.EndSizes.{left-end-sized, right-end-sized}
 use Rattle.reach.specs.declared.Reach.{Reach}
 use Rattle.reach.specs.declared.Call.{Call}
-use Rattle.reach.specs.Ranges.{UpTo}
-use Rattle.stage.specs.Rows.{leftIn, rightIn, Sounds, faceRow, crossAt, faceRowAt}
+use Rattle.reach.specs.Told.{endIn}
+use Rattle.reach.specs.Ranges.{UpTo, Numbers}
+use Rattle.stage.specs.Rows.{leftIn, rightIn, Sounds, fastEnds, SlowEnds, faceRow, crossIn, faceRowAt}
 use Rattle.stage.specs.Ranges.{Row, FaceRows}
-
--- the outer side of an end is as deep and as fast as the inner
-pub outer-sound : (kind : ℕ) (x : Side) → Sound x → Sound (outer kind x)
-unfolding outer
-outer-sound kind x s = record {
-  least = s .least;
-  most = s .most;
-  speed = cond-ind (eqb kind 0) (negℤ (x .u)) (x .u) (UpTo fastest) (λ e. b-neg (s .speed)) (λ e. s .speed);
-}
 
 -- the row that is kept of a face
 row-sized : (dx dt : ℤ) (f : Flux) → UpTo longestStep dt → Sized f → Row (faceRow dx dt f)
@@ -40,34 +35,53 @@ module _ (reach : Reach) (call : Call) (d : List (List ℤ)) where
   abbrev n : ℕ
   n = reach .n
 
-  pub at-left : (i : ℕ) → i ≡ 0 → crossAt reach call d i ≡ face (outer (call .left) (leftIn d 0)) (leftIn d 0)
+  abbrev left : Side → Flux
+  left = leftEnd face (call .dry) (endIn (call .left))
+
+  abbrev right : Side → Flux
+  right = rightEnd face (call .dry) (endIn (call .right))
+
+  pub at-left : (i : ℕ) → i ≡ 0 → crossIn reach call d i ≡ left (leftIn d 0)
   unfolding crossAt
   at-left i e = rw e
 
-  pub at-right : (i : ℕ) → (i ≡ 0 → ⊥) → i ≡ n
-      → crossAt reach call d i ≡ face (rightIn d (i - 1)) (outer (call .right) (rightIn d (i - 1)))
-  unfolding crossAt
+  pub at-right : (i : ℕ) → (i ≡ 0 → ⊥) → i ≡ n → crossIn reach call d i ≡ right (rightIn d (i - 1))
+  unfolding crossAt crossRight
   at-right zero f e = absurd (f refl)
   at-right (suc i) f e = let l : suc i - 1 ≡ i = omega arith in rw (eq-eqb (suc i) n e, l)
 
-  pub at-inner : (i : ℕ) → (i ≡ 0 → ⊥) → (i ≡ n → ⊥) → crossAt reach call d i ≡ face (rightIn d (i - 1)) (leftIn d i)
-  unfolding crossAt
+  pub at-inner : (i : ℕ) → (i ≡ 0 → ⊥) → (i ≡ n → ⊥) → crossIn reach call d i ≡ face (rightIn d (i - 1)) (leftIn d i)
+  unfolding crossAt crossRight
   at-inner zero f e = absurd (f refl)
   at-inner (suc i) f e = let l : suc i - 1 ≡ i = omega arith in rw (ne-eqb (suc i) n e, l)
 
-  -- what crosses a face is as large as the limits of its sides allow
-  pub cross-sized : 0 < n → Sounds d n → (i : ℕ) → i ≤ n → Sized (crossAt reach call d i)
-  cross-sized l s i h = go (ℕ-discrete i 0) (ℕ-discrete i n)
-    where
-      go : Dec (i ≡ 0) → Dec (i ≡ n) → Sized (crossAt reach call d i)
-      go (yes e) q = let x = s 0 (omega arith) .0 in
-          subst Sized (sym (at-left i e)) (face-sized _ _ (outer-sound (call .left) (leftIn d 0) x) x)
-      go (no f) (yes e) = let x = s (i - 1) (omega (arith, f)) .1 in
-          subst Sized (sym (at-right i f e)) (face-sized _ _ x (outer-sound (call .right) (rightIn d (i - 1)) x))
-      go (no f) (no e) = subst Sized (sym (at-inner i f e)) (face-sized _ _ (s (i - 1) (omega (arith, f)) .1) (s i (omega (arith, e)) .0))
+  -- what crosses a face is as large as the limits of its sides and of the ends' inflows allow
+  module _ (o : 0 < n) (num : Numbers reach call) (s : Sounds d n) (slow : SlowEnds reach call d) where
+    abbrev inLeft : Bool
+    inLeft = fastInflow (call .dry) (endIn (call .left)) (leftIn d 0)
 
-  -- and the rows that are kept of all faces have the sizes that an update asks
-  pub face-rows : (f : List (List ℤ)) → UpTo longestStep (call .dt) → 0 < n → Sounds d n
-      → Written [] f (suc n) (faceRowAt reach call d) → FaceRows f n
-  face-rows f t l s w i h =
-      subst Row (sym (w i h)) (row-sized (reach .dx) (call .dt) (crossAt reach call d i) t (cross-sized l s i (omega arith)))
+    abbrev inRight : Bool
+    inRight = fastInflow (call .dry) (endIn (call .right)) (rightIn d (n - 1))
+
+    left-sized : Sized (left (leftIn d 0))
+    unfolding fastEnds
+    left-sized = left-end-sized (call .dry) (endIn (call .left)) (leftIn d 0) (s 0 o .0) (num .left-q) (or-l inLeft inRight slow)
+
+    right-sized : Sized (right (rightIn d (n - 1)))
+    unfolding fastEnds
+    right-sized =
+        right-end-sized (call .dry) (endIn (call .right)) (rightIn d (n - 1)) (s (n - 1) (omega arith) .1) (num .right-q) (or-r inLeft inRight slow)
+
+    pub cross-sized : (i : ℕ) → i ≤ n → Sized (crossIn reach call d i)
+    cross-sized i h = go (ℕ-discrete i 0) (ℕ-discrete i n)
+      where
+        go : Dec (i ≡ 0) → Dec (i ≡ n) → Sized (crossIn reach call d i)
+        go (yes e) q = subst Sized (sym (at-left i e)) left-sized
+        go (no f) (yes e) = subst Sized (sym (at-right i f e)) (subst (λ (m : ℕ). Sized (right (rightIn d (m - 1)))) (sym e) right-sized)
+        go (no f) (no e) =
+            subst Sized (sym (at-inner i f e)) (face-sized _ _ (s (i - 1) (omega (arith, f)) .1) (s i (omega (arith, e)) .0))
+
+    -- and the rows that are kept of all faces have the sizes that an update asks
+    pub face-rows : (f : List (List ℤ)) → Written [] f (suc n) (faceRowAt reach call d) → FaceRows f n
+    face-rows f w i h =
+        subst Row (sym (w i h)) (row-sized (reach .dx) (call .dt) (crossIn reach call d i) (num .dt-in) (cross-sized i (omega arith)))

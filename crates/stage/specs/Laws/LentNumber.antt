@@ -18,7 +18,8 @@ use Rattle.rules.specs.Lent.{Lent, reachOf, callOf, stateOf, misfit, number}
 use Rattle.reach.specs.declared.Reach.{Reach}
 use Rattle.reach.specs.declared.Call.{Call}
 use Rattle.reach.specs.declared.Given.{Given}
-use Rattle.reach.specs.Told.{reachIn, callOn}
+use Rattle.rules.specs.Laws.EndChecks.{inflow-in}
+use Rattle.reach.specs.Told.{endIn, reachIn, callOn}
 use Rattle.reach.specs.Ranges.{Numbers}
 use Rattle.reach.specs.Laws.DryList.{in-list}
 use Rattle.stage.specs.Says.{readyChecks, bothChecks}
@@ -40,6 +41,8 @@ numbers reach call bed ρ e =
       jump-pos = above-least (pos 0) largestJump (call .jump) (fails 2);
       jump-in = between (pos 0) 262144 (call .jump) (nat-nonneg 0) (fails 2);
       dry = in-list (call .dry) (fails 3);
+      left-q = inflow-in (endIn (call .left)) (fails 4);
+      right-q = inflow-in (endIn (call .right)) (fails 5);
     }
 
 -- the numbers of a call as its caller gave them, widened

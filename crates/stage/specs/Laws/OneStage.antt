@@ -12,6 +12,7 @@ use Rattle.tables.specs.Rows.{Written}
 use Rattle.tables.specs.Cells.{asList, Holds}
 use Rattle.rules.specs.Reach as rules
 use Rattle.rules.specs.Reach.{State}
+use Rattle.rules.specs.Shown.{crossAt}
 use Rattle.rules.specs.Stage.{faceRight, faceAt, stage}
 use Rattle.rules.specs.Refusals.{fastFace, fastGauss, tooLong, Check, verdict, stageChecks}
 use Rattle.rules.specs.Laws.Verdicts.{stops-at, none-stops}
@@ -19,34 +20,50 @@ use Rattle.reach.specs.declared.Reach.{Reach}
 use Rattle.reach.specs.declared.Call.{Call}
 use Rattle.reach.specs.Told.{reachIn, callOn, bedAt}
 use Rattle.reach.specs.Ranges.{UpTo, Numbers}
-use Rattle.stage.specs.Rows.{sidesAt, fastSides, fastPointsAt, momentumAt, faceRow, longFlux, longAt, crossAt, faceRowAt, updateAt}
+use Rattle.stage.specs.Rows.{sidesAt, Sounds, fastSides, fastEnds, SlowEnds, fastPointsAt, momentumAt}
+use Rattle.stage.specs.Rows.{faceRow, longFlux, longAt, crossIn, faceRowAt, updateAt}
 use Rattle.stage.specs.Rows as rows
 use Rattle.stage.specs.Ranges.{mostMomentum, Small, Smalls, Ranged, FaceRows, Momenta}
 use Rattle.stage.specs.Says.{FacesOf, StageDone}
 use Rattle.stage.specs.Laws.Faces.{face-rows}
 use Rattle.stage.specs.Laws.UpdateSizes.{update-small}
-use Rattle.stage.specs.Laws.RowsAreRules.{fast-faces, cross-at, update-is}
+use Rattle.stage.specs.Laws.RowsAreRules.{sides-fast, ends-fast, none-fast, cross-at, update-is}
 use Rattle.stage.specs.Laws.StateSizes.{sounds, gauss-size}
 
 -- ---- the checks of the speeds, as a stage answers them
-module _ (reach : Reach) (call : Call) (bed : List ℤ) (s : State) (ρ : ℕ → ℤ) (o : 0 < reach .n) where
+module _ (reach : Reach) (call : Call) (bed : List ℤ) (s : State) (ρ : ℕ → ℤ) where
   abbrev dry : ℤ
   dry = call .dry
 
   abbrev checks : List Check
   checks = stageChecks (reachIn reach bed) (callOn call ρ) s
 
-  sides-pass : some (fastSides dry bed s) (reach .n) ≡ false
-      → some (fastFace (reachIn reach bed) (callOn call ρ) s) (suc (reach .n)) ≡ false
-  sides-pass e = sym (fast-faces reach call bed ρ s o) ∙ e
-
   pub says-fast : some (fastSides dry bed s) (reach .n) ≡ true → 6 ≡ verdict checks
   unfolding stageChecks
-  says-fast e = stops-at checks 0 tt (sym (fast-faces reach call bed ρ s o) ∙ e)
+  says-fast e = stops-at checks 0 tt (sides-fast reach call bed ρ s e)
 
-  pub says-points : some (fastSides dry bed s) (reach .n) ≡ false → some (fastPointsAt dry bed s) (reach .n) ≡ true → 6 ≡ verdict checks
-  unfolding stageChecks fastGauss
-  says-points e f = stops-at checks 1 (sides-pass e, tt) f
+-- ---- a stage from s whose sides passed, with its sides in d
+pub record Sided (reach : Reach) (call : Call) (bed : List ℤ) (s : State) (d : List (List ℤ)) : Type 0 where
+  pub least : 0 < reach .n
+  pub sides : Written [] d (reach .n) (sidesAt (call .dry) bed s)
+  pub slow-sides : some (fastSides (call .dry) bed s) (reach .n) ≡ false
+
+module _ {reach : Reach} {call : Call} {bed : List ℤ} {s : State} {d : List (List ℤ)} (p : Sided reach call bed s d) where
+  pub sides-sound : Ranged bed (reach .n) s → Sounds d (reach .n)
+  sides-sound inside = sounds (call .dry) (reach .n) bed s inside (p .slow-sides) d (p .sides)
+
+  module _ (ρ : ℕ → ℤ) where
+    pub says-inflow : fastEnds reach call d ≡ true → 6 ≡ verdict (checks reach call bed s ρ)
+    unfolding stageChecks
+    says-inflow e = stops-at (checks reach call bed s ρ) 0 tt (ends-fast reach call bed ρ s (p .least) d (p .sides) e)
+
+    faces-pass : SlowEnds reach call d → some (fastFace (reachIn reach bed) (callOn call ρ) s) (suc (reach .n)) ≡ false
+    faces-pass = none-fast reach call bed ρ s (p .least) d (p .sides) (p .slow-sides)
+
+    pub says-points : SlowEnds reach call d → some (fastPointsAt (call .dry) bed s) (reach .n) ≡ true
+        → 6 ≡ verdict (checks reach call bed s ρ)
+    unfolding stageChecks fastGauss
+    says-points e f = stops-at (checks reach call bed s ρ) 1 (faces-pass e, tt) f
 
 -- ---- the momenta of points that are not too fast, and the rows of faces whose sides are not, have the sizes that an update asks
 pub momenta : (dry : ℤ) (n : ℕ) (bed : List ℤ) (s : State) → Ranged bed n s → some (fastPointsAt dry bed s) n ≡ false
@@ -54,22 +71,18 @@ pub momenta : (dry : ℤ) (n : ℕ) (bed : List ℤ) (s : State) → Ranged bed 
 momenta dry n bed s inside e g h i l = subst (UpTo mostMomentum) (sym (h i l))
     (gauss-size dry (bedAt bed i) (s i) (inside i l) (some-none (fastPointsAt dry bed s) n e i l))
 
-pub rows-sized : (reach : Reach) (call : Call) (bed : List ℤ) (s : State) → 0 < reach .n → Ranged bed (reach .n) s → Numbers reach call
-    → some (fastSides (call .dry) bed s) (reach .n) ≡ false → (d x : List (List ℤ)) → Written [] d (reach .n) (sidesAt (call .dry) bed s)
-    → Written [] x (suc (reach .n)) (faceRowAt reach call d) → FaceRows x (reach .n)
-rows-sized reach call bed s o inside num e d x w h =
-    face-rows reach call d x (num .dt-in) o (sounds (call .dry) (reach .n) bed s inside e d w) h
-
--- ---- a stage from s that passed them, with its sides in d
+-- ---- a stage from s that passed all three
 pub record Slowed (reach : Reach) (call : Call) (bed : List ℤ) (s : State) (d : List (List ℤ)) : Type 0 where
-  pub least : 0 < reach .n
-  pub sides : Written [] d (reach .n) (sidesAt (call .dry) bed s)
-  pub slow-sides : some (fastSides (call .dry) bed s) (reach .n) ≡ false
+  pub sided : Sided reach call bed s d
+  pub slow-ends : SlowEnds reach call d
   pub slow-points : some (fastPointsAt (call .dry) bed s) (reach .n) ≡ false
 
 module _ {reach : Reach} {call : Call} {bed : List ℤ} {s : State} {d : List (List ℤ)} (p : Slowed reach call bed s d) where
   abbrev n : ℕ
   n = reach .n
+
+  pub rows-sized : Ranged bed n s → Numbers reach call → (x : List (List ℤ)) → Written [] x (suc n) (faceRowAt reach call d) → FaceRows x n
+  rows-sized inside num = face-rows reach call d (p .sided .least) num (sides-sound (p .sided) inside) (p .slow-ends)
 
   module _ (ρ : ℕ → ℤ) where
     abbrev r : rules.Reach
@@ -78,8 +91,11 @@ module _ {reach : Reach} {call : Call} {bed : List ℤ} {s : State} {d : List (L
     abbrev c : rules.Call
     c = callOn call ρ
 
-    face-is : (i : ℕ) → i < suc n → crossAt reach call d i ≡ faceAt r c s i
-    face-is = cross-at reach call bed ρ s d (p .sides) (p .least)
+    face-is : (i : ℕ) → i < suc n → crossIn reach call d i ≡ faceAt r c s i
+    face-is = cross-at reach call bed ρ s (p .sided .least) d (p .sided .sides)
+
+    faces-slow : some (fastFace r c s) (suc n) ≡ false
+    faces-slow = faces-pass (p .sided) ρ (p .slow-ends)
 
     long-is : some (longAt reach call d) (suc n) ≡ some (tooLong r c s) (suc n)
     unfolding tooLong longFlux
@@ -89,12 +105,12 @@ module _ {reach : Reach} {call : Call} {bed : List ℤ} {s : State} {d : List (L
     pub says-long : some (longAt reach call d) (suc n) ≡ true → 7 ≡ verdict (stageChecks r c s)
     unfolding stageChecks fastGauss
     says-long h =
-        stops-at (stageChecks r c s) 2 (sides-pass reach call bed s ρ (p .least) (p .slow-sides), (p .slow-points, tt)) (sym long-is ∙ h)
+        stops-at (stageChecks r c s) 2 (faces-slow, (p .slow-points, tt)) (sym long-is ∙ h)
 
     pub says-none : some (longAt reach call d) (suc n) ≡ false → 0 ≡ verdict (stageChecks r c s)
     unfolding stageChecks fastGauss
     says-none h =
-        none-stops (stageChecks r c s) (sides-pass reach call bed s ρ (p .least) (p .slow-sides), (p .slow-points, (sym long-is ∙ h, tt)))
+        none-stops (stageChecks r c s) (faces-slow, (p .slow-points, (sym long-is ∙ h, tt)))
 
     -- ---- what it leaves
     module _ (inside : Ranged bed n s) (num : Numbers reach call) (x : List (List ℤ)) (g : List ℤ)
@@ -102,11 +118,11 @@ module _ {reach : Reach} {call : Call} {bed : List ℤ} {s : State} {d : List (L
       faces : FacesOf r c s x
       faces = record {
         rows = λ i l. wx i l ∙ ap (faceRow (reach .dx) (call .dt)) (face-is i l);
-        sized = rows-sized reach call bed s (p .least) inside num (p .slow-sides) d x (p .sides) wx;
+        sized = rows-sized inside num x wx;
       }
 
       cell-is : (i : ℕ) → i < n → updateAt reach call bed s x g i ≡ stage r c s i
-      unfolding stage faceAt
+      unfolding stage crossAt
       cell-is i l = let row = faces .rows in
           (λ k. rows.updateBy (reach .dx) (call .dt) (bedAt bed i) (s i) (row i (omega arith) k) (row (suc i) (omega arith) k) (wg i l k))
           ∙ update-is (reach .dx) (call .dt) (call .dry) (bedAt bed i) (s i) (faceAt r c s i) (faceRight r c s i)

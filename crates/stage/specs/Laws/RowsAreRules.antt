@@ -1,28 +1,29 @@
 -- The rows that a stage keeps are the rule's: its sides, its faces, its check over them, and its updates.
 -- Assumes nothing.
-use mathlib.Core.Path.{_≡_, refl, sym, _∙_, ap, ap₂}
-use mathlib.Core.Bool.{Bool, true, false, not, _&&_, _||_}
+use mathlib.Core.Path.{_≡_, refl, sym, _∙_, ap, subst}
+use mathlib.Core.Bool.{Bool, true, false, _||_}
 use mathlib.Core.List.{List, []}
-use Prim.Native.Nat.{ℕ, zero, suc, _<_}
+use Prim.Native.Nat.{ℕ, zero, suc, _-_, _<_}
 use native.Mathlib.Omega.{arith}
+use borrow.Author.Tests.{eqb-true, eq-eqb, ne-eqb}
 use lib.Dec.{eqb}
 use lib.ListN.{getD}
 use lib.IntN.{ℤ, pos}
-use Rattle.whole.specs.Flags.{by, clash, or-l, or-r}
+use Rattle.whole.specs.Flags.{by, clash, or-l, or-r, or-true}
 use Rattle.tables.specs.Some.{some, some-none, none-some, some-yes, yes-some}
 use Rattle.tables.specs.Rows.{Written}
 use Rattle.tables.specs.Cells.{Cell}
-use Rattle.rules.specs.Face.{Side, Flux, face}
+use Rattle.rules.specs.Face.{Flux}
 use Rattle.rules.specs.Reach as rules
 use Rattle.rules.specs.Reach.{State, Bed, z1, hl, hr, depthL, depthR, groundL, groundR, sideL, sideR}
-use Rattle.rules.specs.Stage.{outer, leftEnd, rightEnd, atLeft, atRight, faceRight, faceAt, gauss, push, tilt, update}
-use Rattle.rules.specs.Refusals.{fastSide, fastFace}
-use Rattle.rules.specs.Laws.Agree.{inside}
-use Rattle.rules.specs.Laws.Positive.{inner}
+use Rattle.rules.specs.Stage.{atLeft, atRight, faceAt, gauss, push, tilt, update}
+use Rattle.rules.specs.Refusals.{fastSide, fastInflow, fastFace}
+use Rattle.rules.specs.Laws.Shown.{inside, at-same}
 use Rattle.reach.specs.declared.Reach.{Reach}
 use Rattle.reach.specs.declared.Call.{Call}
 use Rattle.reach.specs.Told.{reachIn, callOn, bedAt}
-use Rattle.stage.specs.Rows.{leftIn, rightIn, sidesAt, fastSides, faceRow, crossAt, slopeOf, thrust, pushOf, tiltOf, updateBy}
+use Rattle.stage.specs.Rows.{leftIn, rightIn, sidesAt, fastSides, fastEnds, faceRow, shownIn, crossIn}
+use Rattle.stage.specs.Rows.{slopeOf, thrust, pushOf, tiltOf, updateBy}
 
 -- ---- the sides of a table of them are those of the state
 module _ (dry : ℤ) (n : ℕ) (bed : List ℤ) (s : State) (d : List (List ℤ)) (w : Written [] d n (sidesAt dry bed s)) where
@@ -56,57 +57,79 @@ module _ (reach : Reach) (call : Call) (bed : List ℤ) (ρ : ℕ → ℤ) (s : 
   abbrev n : ℕ
   n = reach .n
 
-  -- ---- a side that is too fast is so at its face: by cells and by faces it is one check
-  module _ (o : 0 < n) where
-    fastL : ℕ → Bool
-    fastL i = fastSide (atLeft r c s i)
+  -- ---- the check of the face speeds, which tries the sides cell by cell and then the two ends
+  abbrev fastL : ℕ → Bool
+  fastL i = fastSide (atLeft r c s i)
 
-    fastR : ℕ → Bool
-    fastR i = fastSide (atRight r c s i)
+  abbrev fastR : ℕ → Bool
+  fastR i = fastSide (atRight r c s i)
 
-    at-left : (i : ℕ) → i < n → fastL i ≡ true → some (fastFace r c s) (suc n) ≡ true
-    unfolding fastFace fastL
-    at-left zero l e = yes-some (fastFace r c s) (suc n) zero (omega arith) e
-    at-left (suc i) l e =
-        yes-some (fastFace r c s) (suc n) (suc i) (omega arith) (here (eqb (suc i) n) refl (fastSide (atRight r c s i)))
+  abbrev faces : Bool
+  faces = some (fastFace r c s) (suc n)
+
+  -- a side that is too fast is so at its face
+  at-left : (i : ℕ) → i < n → fastL i ≡ true → faces ≡ true
+  unfolding fastFace
+  at-left zero l e = yes-some (fastFace r c s) (suc n) zero (omega arith) (rw e (or-true (fastInflow dry (c .left) (atLeft r c s zero))))
+  at-left (suc i) l e = let m : suc i ≡ n → ⊥ = λ k. omega arith in
+      yes-some (fastFace r c s) (suc n) (suc i) (omega arith) (rw (ne-eqb (suc i) n m, e) (or-true (fastR i)))
+
+  at-right : (i : ℕ) → i < n → fastR i ≡ true → faces ≡ true
+  unfolding fastFace
+  at-right i l e = yes-some (fastFace r c s) (suc n) (suc i) (omega arith) (rw e)
+
+  one-fast : (i : ℕ) → i < n → (a b : Bool) → fastL i ≡ a → fastR i ≡ b → (a || b) ≡ true → faces ≡ true
+  one-fast i l true b p q e = at-left i l p
+  one-fast i l false true p q e = at-right i l q
+  one-fast i l false false p q e = clash e
+
+  pub sides-fast : some (fastSides dry bed s) n ≡ true → faces ≡ true
+  unfolding fastSides
+  sides-fast e = let f = some-yes (fastSides dry bed s) n e in one-fast (f .0) (f .1) (fastL (f .0)) (fastR (f .0)) refl refl (f .2)
+
+  module _ (o : 0 < n) (d : List (List ℤ)) (w : Written [] d n (sidesAt dry bed s)) where
+    abbrev last : ℕ
+    last = n - 1
+
+    -- so is the inflow of an end,
+    abbrev inLeft : Bool
+    inLeft = fastInflow dry (c .left) (leftIn d 0)
+
+    abbrev inRight : Bool
+    inRight = fastInflow dry (c .right) (rightIn d last)
+
+    left-fast : inLeft ≡ fastInflow dry (c .left) (atLeft r c s 0)
+    left-fast = ap (fastInflow dry (c .left)) (left-in dry n bed s d w 0 o)
+
+    right-fast : inRight ≡ fastInflow dry (c .right) (atRight r c s last)
+    right-fast = ap (fastInflow dry (c .right)) (right-in dry n bed s d w last (omega arith))
+
+    pub ends-fast : fastEnds reach call d ≡ true → faces ≡ true
+    unfolding fastEnds fastFace
+    ends-fast e = one inLeft inRight refl refl e
       where
-        here : (b : Bool) → eqb (suc i) n ≡ b → (a : Bool) → (a || (not b && fastSide (atLeft r c s (suc i)))) ≡ true
-        here true d a = absurd (inner (suc i) n l d)
-        here false d true = refl
-        here false d false = e
+        one : (a b : Bool) → inLeft ≡ a → inRight ≡ b → (a || b) ≡ true → faces ≡ true
+        one true b p q e = yes-some (fastFace r c s) (suc n) zero (omega arith) (rw (sym left-fast ∙ p))
+        one false true p q e = yes-some (fastFace r c s) (suc n) (suc last) (omega arith)
+            (rw (eq-eqb (suc last) n (omega arith), sym right-fast ∙ q) (or-true (fastR last)))
+        one false false p q e = clash e
 
-    at-right : (i : ℕ) → i < n → fastR i ≡ true → some (fastFace r c s) (suc n) ≡ true
-    unfolding fastFace fastR
-    at-right i l e = yes-some (fastFace r c s) (suc n) (suc i) (omega arith) (rw e)
+    -- and no other face is too fast
+    pub none-fast : some (fastSides dry bed s) n ≡ false → fastEnds reach call d ≡ false → faces ≡ false
+    unfolding fastEnds fastFace
+    none-fast e f = none-some (fastFace r c s) (suc n) at
+      where
+        at : (i : ℕ) → i < suc n → fastFace r c s i ≡ false
+        at zero l = rw (sym left-fast ∙ or-l inLeft inRight f, slow-sides dry n bed s e zero o .0)
+        at (suc i) l = rw (slow-sides dry n bed s e i (omega arith) .1)
+            (by (eqb (suc i) n)
+            (λ k. let m : last ≡ i = let j = eqb-true (suc i) n k in omega arith in
+            rw k (subst (λ (j : ℕ). fastInflow dry (c .right) (atRight r c s j) ≡ false) m (sym right-fast ∙ or-r inLeft inRight f)))
+            (λ k. rw k (slow-sides dry n bed s e (suc i) (inside i n (omega arith) k) .0)))
 
-    one-fast : (i : ℕ) → i < n → (a b : Bool) → fastL i ≡ a → fastR i ≡ b → (a || b) ≡ true → some (fastFace r c s) (suc n) ≡ true
-    one-fast i l true b p q e = at-left i l p
-    one-fast i l false true p q e = at-right i l q
-    one-fast i l false false p q e = clash e
-
-    none-fast : some (fastSides dry bed s) n ≡ false → (i : ℕ) → i < suc n → fastFace r c s i ≡ false
-    unfolding fastFace
-    none-fast e zero l = slow-sides dry n bed s e zero o .0
-    none-fast e (suc i) l =
-        let p = slow-sides dry n bed s e i (omega arith) .1 in
-        by (eqb (suc i) n) (λ d. rw (p, d)) (λ d. rw (p, d) (slow-sides dry n bed s e (suc i) (inside i n (omega arith) d) .0))
-
-    pub fast-faces : some (fastSides dry bed s) n ≡ some (fastFace r c s) (suc n)
-    unfolding fastSides fastL fastR
-    fast-faces = by (some (fastSides dry bed s) n)
-        (λ e. let f = some-yes (fastSides dry bed s) n e in let i = f .0 in
-        e ∙ sym (one-fast i (f .1) (fastL i) (fastR i) refl refl (f .2)))
-        (λ e. e ∙ sym (none-some (fastFace r c s) (suc n) (none-fast e)))
-
-  -- ---- what crosses the faces of a table of sides is what crosses the faces of the state
-  pub cross-at : (d : List (List ℤ)) → Written [] d n (sidesAt dry bed s) → 0 < n → (i : ℕ) → i < suc n
-      → crossAt reach call d i ≡ faceAt r c s i
-  unfolding crossAt faceAt faceRight leftEnd rightEnd
-  cross-at d w o zero l = ap (λ (x : Side). face (outer (call .left) x) x) (left-in dry n bed s d w zero o)
-  cross-at d w o (suc i) l = let right = right-in dry n bed s d w i (omega arith) in
-      by (eqb (suc i) n)
-      (λ e. rw e (ap (λ (x : Side). face x (outer (call .right) x)) right))
-      (λ e. rw e (ap₂ face right (left-in dry n bed s d w (suc i) (inside i n (omega arith) e))))
+    -- ---- what crosses the faces of a table of sides is what crosses the faces of the state
+    pub cross-at : (i : ℕ) → i < suc n → crossIn reach call d i ≡ faceAt r c s i
+    cross-at = at-same (shownIn reach call d) (atLeft r c s) (atRight r c s) (left-in dry n bed s d w) (right-in dry n bed s d w) o
 
 -- ---- an update from rows is the rule's
 pub update-is : (dx dt dry : ℤ) (b : Bed) (x : Cell) (l f : Flux)

@@ -2,8 +2,6 @@
 use mathlib.Core.Path.{_≡_, sym, _∙_}
 use mathlib.Core.Bool.{false}
 use borrow.Author.Needs.{needs}
-use borrow.Author.Tests.{lt-ltb, le-ltb}
-use lib.Dec.{ltb}
 use lib.IntN.{pos}
 use Rattle.whole.specs.Flags.{or-last}
 use Rattle.whole.specs.Machine.{back}
@@ -79,15 +77,15 @@ returns-4 c bed ρ =
 returns-5 : tie.Need-returns-5
 unfolding badCall any
 returns-5 c bed ρ =
-    let g = c .before .before in let f = third g in let e = second f in
-    rw (length-in (first e), step-in e, jump-in f, dry-in g, lt-ltb _ _ (c .if5 .taken))
+    let o = c .before in let g = o .before in let f = third g in let e = second f in
+    rw (length-in (first e), step-in e, jump-in f, dry-in g, sym (o .bad-end .ensures) ∙ c .if5 .taken)
 
 returns-6 : tie.Need-returns-6
 unfolding badCall any
 returns-6 c bed ρ =
-    let h = c .before in let g = h .before .before in let f = third g in let e = second f in
-    rw (length-in (first e), step-in e, jump-in f, dry-in g, le-ltb _ _ (h .if5 .left))
-    (or-last (ltb 1 (start (first e) .args .call .right)))
+    let h = c .before in let o = h .before in let g = o .before in let f = third g in let e = second f in
+    rw (length-in (first e), step-in e, jump-in f, dry-in g, sym (o .bad-end .ensures) ∙ h .if5 .left, sym (c .bad-end2 .ensures))
+    (or-last (c .bad-end2 .result))
 
 pub bad-numbers-spec : {M : Type 1} → statement M
 bad-numbers-spec =
@@ -101,5 +99,7 @@ bad-numbers-spec =
     returns-3
     (λ c κs. search needs)
     returns-4
+    (λ c κs. search needs)
     returns-5
+    (λ c κs. search needs)
     returns-6)

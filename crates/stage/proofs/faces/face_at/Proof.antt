@@ -4,11 +4,13 @@ use Prim.Native.Nat.{_<_, _-_}
 use native.Mathlib.Omega.{arith}
 use borrow.Author.Needs.{needs}
 use denote.Ref.{now}
-use Rattle.rules.specs.Face.{Side, face}
-use Rattle.rules.specs.Stage.{outer}
+use Rattle.whole.specs.Machine.{back}
+use Rattle.rules.specs.Face.{face}
+use Rattle.rules.specs.Ends.{leftEnd, rightEnd}
 use Rattle.rules.specs.Laws.Sizes.{Sound}
+use Rattle.reach.specs.Told.{endIn}
 use Rattle.stage.specs.Rows.{sideIn}
-use Rattle.stage.specs.Laws.Faces.{outer-sound, at-left, at-right, at-inner}
+use Rattle.stage.specs.Laws.Faces.{at-left, at-right, at-inner}
 use Rattle.stage.proofs.faces.face_at.Statement.{statement}
 use Rattle.stage.proofs.faces.face_at.Tie as tie
 
@@ -18,19 +20,18 @@ module _ (f : tie.After-left-side) where
   left-start = f .before .before .before
 
   first-sound : Sound (sideIn (f .left-side .result))
-  first-sound = let s = left-start in subst Sound (sym (f .left-side .ensures)) (s .pre .1 0 (s .pre .0 .0) .0)
+  first-sound = let s = left-start in subst Sound (sym (f .left-side .ensures)) (s .pre .1 .1 0 (s .pre .0 .0) .0)
 
-crossing-requires : tie.Need-crossing-requires
-crossing-requires c κs =
-    let f = c .before in let a = left-start f .args in
-    (subst Sound (sym (c .outer .ensures)) (outer-sound (a .call .left) _ (first-sound f)), first-sound f)
+left-end-requires : tie.Need-left-end-requires
+left-end-requires c κs =
+    let f = c .before in let s = left-start f in let given = s .pre .1 .0 in
+    (given .left-q, (first-sound f, rw (back {z = s .args .call .dry} (c .struct-told .given .1 .1 .0 .1)) (given .dry)))
 
 returns : tie.Need-returns
 returns c =
-    let o = c .before in let f = o .before in let t = f .before .before in let a = left-start f .args in
-    c .crossing .ensures
-    ∙ ap (λ (x : Side). face x (sideIn (f .left-side .result))) (o .outer .ensures)
-    ∙ ap (λ (x : Side). face (outer (a .call .left) x) x) (f .left-side .ensures)
+    let k = c .before in let f = k .before in let t = f .before .before in let a = left-start f .args in
+    (rw (back {z = a .call .dry} (k .struct-told .given .1 .1 .0 .1)) at (c .left-end .ensures))
+    ∙ ap (leftEnd face (a .call .dry) (endIn (a .call .left))) (f .left-side .ensures)
     ∙ sym (at-left (a .reach) (a .call) (now (a .d)) (a .i) (t .if1 .taken))
 
 -- ---- a face behind a cell
@@ -44,32 +45,31 @@ module _ (b : tie.After-right-side) where
   before-sound : Sound (sideIn (b .right-side .result))
   before-sound =
       let s = start in let i = s .args .i - 1 in let l : i < s .args .reach .n = omega (arith, else .if1 .left, s .pre .0) in
-      subst Sound (sym (b .right-side .ensures)) (s .pre .1 i l .1)
+      subst Sound (sym (b .right-side .ensures)) (s .pre .1 .1 i l .1)
 
-crossing-requires-2 : tie.Need-crossing-requires-2
-crossing-requires-2 c κs =
-    let b = c .before .before .before in
-    (before-sound b, subst Sound (sym (c .outer2 .ensures)) (outer-sound (start b .args .call .right) _ (before-sound b)))
+right-end-requires : tie.Need-right-end-requires
+right-end-requires c κs =
+    let b = c .before .before .before in let s = start b in let given = s .pre .1 .0 in
+    (given .right-q, (before-sound b, rw (back {z = s .args .call .dry} (c .struct-told2 .given .1 .1 .0 .1)) (given .dry)))
 
 returns-2 : tie.Need-returns-2
 returns-2 c =
-    let o = c .before in let t = o .before in let b = t .before .before in let a = start b .args in
-    c .crossing2 .ensures
-    ∙ ap (λ (x : Side). face (sideIn (b .right-side .result)) x) (o .outer2 .ensures)
-    ∙ ap (λ (x : Side). face x (outer (a .call .right) x)) (b .right-side .ensures)
+    let k = c .before in let t = k .before in let b = t .before .before in let a = start b .args in
+    (rw (back {z = a .call .dry} (k .struct-told2 .given .1 .1 .0 .1)) at (c .right-end .ensures))
+    ∙ ap (rightEnd face (a .call .dry) (endIn (a .call .right))) (b .right-side .ensures)
     ∙ sym (at-right (a .reach) (a .call) (now (a .d)) (a .i) (else b .if1 .left) (t .if2 .taken))
 
 -- ---- and before another
-crossing-requires-3 : tie.Need-crossing-requires-3
-crossing-requires-3 c κs =
+crossing-requires : tie.Need-crossing-requires
+crossing-requires c κs =
     let e = c .before .before in let b = e .before .before in let s = start b in
     let l : s .args .i < s .args .reach .n = omega (arith, e .if2 .left, s .pre .0) in
-    (before-sound b, subst Sound (sym (c .left-side2 .ensures)) (s .pre .1 (s .args .i) l .0))
+    (before-sound b, subst Sound (sym (c .left-side2 .ensures)) (s .pre .1 .1 (s .args .i) l .0))
 
 returns-3 : tie.Need-returns-3
 returns-3 c =
     let f = c .before in let e = f .before .before in let b = e .before .before in let a = start b .args in
-    c .crossing3 .ensures
+    c .crossing .ensures
     ∙ ap₂ face (b .right-side .ensures) (f .left-side2 .ensures)
     ∙ sym (at-inner (a .reach) (a .call) (now (a .d)) (a .i) (else b .if1 .left) (e .if2 .left))
 
@@ -79,13 +79,11 @@ face-at-spec =
     (tie.spec
     (λ c. search needs)
     (λ c κs. search needs)
-    (λ c κs. first-sound c)
-    crossing-requires
+    left-end-requires
     returns
     (λ c. search needs) (λ c. search needs) (λ c. search needs) (λ c κs. search needs)
-    (λ c κs. before-sound (c .before .before))
-    crossing-requires-2
+    right-end-requires
     returns-2
     (λ c. search needs) (λ c. search needs) (λ c κs. search needs)
-    crossing-requires-3
+    crossing-requires
     returns-3)

@@ -2,7 +2,7 @@
 use mathlib.Core.List.{List, [], _∷_}
 use Rattle.whole.specs.Parts.{b-nonneg}
 use Rattle.whole.specs.Machine.{v, _⊗_, _⊘_, Entry, need, value, divisor}
-use Rattle.rules.specs.Stage.{volume}
+use Rattle.rules.specs.Shown.{volume}
 use Rattle.stage.specs.Laws.UpdateSizes.{sized}
 use Rattle.stage.proofs.faces.face_row.Statement.{statement}
 use Rattle.stage.proofs.faces.face_row.Tie as tie

@@ -22,14 +22,16 @@ loop-holds : tie.Need-loop-holds Inv-loop μ-loop
 loop-holds c = fill-none [] _ _ _ (now (c .args .f))
 
 face-at-requires : tie.Need-face-at-requires Inv-loop μ-loop
-face-at-requires c κs = let p = c .before .before .pre in ((p .0 .0, p .0 .1, c .loop-test .taken), p .1 .1)
+face-at-requires c κs = let p = c .before .before .pre in
+    ((p .0 .0, p .0 .1, c .loop-test .taken), (p .1 .0, p .1 .1 .0))
 
 -- what crosses face i, and whether the step is too long for it
 sized-here : (c : tie.After-face-at Inv-loop μ-loop) → Sized (fluxIn (c .face-at .result))
 sized-here c =
-    let e = c .before in let l = e .before in let s = l .before in
+    let e = c .before in let l = e .before in let s = l .before in let sided = s .pre .1 .1 in
     subst Sized (sym (c .face-at .ensures))
-    (cross-sized (s .args .reach) (s .args .call) (now (s .args .d)) (s .pre .0 .0) (s .pre .1 .1) (l .loop .i) (e .loop-test .taken))
+    (cross-sized (s .args .reach) (s .args .call) (now (s .args .d)) (s .pre .0 .0) (s .pre .1 .0) (sided .0) (sided .1) (l .loop .i)
+    (e .loop-test .taken))
 
 long-here : (c : tie.After-too-long Inv-loop μ-loop) →
     let l = c .before .before .before in

@@ -64,7 +64,7 @@ module _ (c : tie.After-bad-numbers) where
   w2 = w3 .before
 
   abbrev w1 : tie.After-widened
-  w1 = w2 .before
+  w1 = w2 .before .before .before
 
   abbrev fit : tie.Else1
   fit = w1 .before

@@ -13,8 +13,8 @@ use Rattle.face.specs.declared.answer.Carried.{Carried}
 use Rattle.face.specs.declared.answer.Carried.the-variants as carried
 use Rattle.face.proofs.Fits.{face-given}
 use Rattle.stage.specs.Rows.{sideIn}
-use Rattle.stage.proofs.faces.crossing.Statement.{statement}
-use Rattle.stage.proofs.faces.crossing.Tie as tie
+use Rattle.stage.proofs.ends.crossing.Statement.{statement}
+use Rattle.stage.proofs.ends.crossing.Tie as tie
 
 -- the flux that the code makes of an answer
 abbrev made : Carried → Flux

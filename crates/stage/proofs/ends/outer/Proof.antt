@@ -6,11 +6,11 @@ use lib.IntN.{pos}
 use borrow.Author.Tests.{eq-eqb, ne-eqb}
 use Rattle.whole.specs.Difference.{at, lit, _⊟_, ⊖, eq! }
 use Rattle.whole.specs.Machine.{X, v, k, _⊝_, Entry, need, value}
-use Rattle.rules.specs.Stage.{outer}
+use Rattle.rules.specs.Ends.{outer}
 use Rattle.rules.specs.Laws.Sizes.{depth-size}
 use Rattle.stage.specs.Laws.UpdateSizes.{sized}
-use Rattle.stage.proofs.faces.outer.Statement.{statement}
-use Rattle.stage.proofs.faces.outer.Tie as tie
+use Rattle.stage.proofs.ends.outer.Statement.{statement}
+use Rattle.stage.proofs.ends.outer.Tie as tie
 
 abbrev env : tie.Start → List Entry
 env s = sized (s .pre .speed) tt ∷ sized (depth-size (s .pre)) tt ∷ []
