@@ -9,7 +9,7 @@ use native.Mathlib.Omega.{arith}
 use borrow.Author.Tests.{eq-eqb, ne-eqb, eqb-false}
 use lib.Dec.{eqb, eqb→eq}
 use lib.ListN.{length, getD}
-use lib.IntN.{ℤ, pos, _+ℤ_}
+use lib.IntN.{ℤ, pos, negℤ, _+ℤ_}
 use lib.Signed.{_≤ℤ_}
 use Rattle.whole.specs.Flags.{by, held, clash}
 use Rattle.tables.specs.Rows.{row}
@@ -17,7 +17,8 @@ use Rattle.tables.specs.Cells.{Cell, cellAt, flat, length-flat, cellAt-flat}
 use Rattle.rules.specs.Face.{face}
 use Rattle.rules.specs.Reach.{Reach, Call, State, under, z0, z1, h0, h1, hl, hr}
 use Rattle.rules.specs.Step.{carry, joined, next}
-use Rattle.rules.specs.Refusals.{Check, chk, verdict, checks, refusal}
+use Rattle.rules.specs.Ends.{End, inflowKind}
+use Rattle.rules.specs.Refusals.{badEnd, Check, chk, verdict, checks, refusal}
 use Rattle.rules.specs.Lent.{Lent, reachOf, callOf, stateOf, cellsOf, misfits, number, filled, crossed, Outcome, refused, accepted, stepOf}
 use Rattle.rules.specs.AtRest.{Dry, Flat, AtRest}
 use Rattle.rules.specs.Laws.Agree.{Same}
@@ -25,12 +26,15 @@ use Rattle.rules.specs.Laws.DryDepth.{finished-calm}
 use Rattle.rules.specs.Laws.Lengths.{fitted, first-number, later-number, fits, unrefused}
 use Rattle.rules.specs.Laws.Positive.{Nonneg, Wet}
 use Rattle.rules.specs.Laws.Balance as balance
-use Rattle.rules.specs.Laws.Runs.{Run, stop, step, Depths, depths, TooLarge, Large}
+use Rattle.rules.specs.Laws.Face.{lawful}
+use Rattle.rules.specs.Laws.EndChecks.{kind-in, inflow-in, inflow-only}
+use Rattle.rules.specs.Laws.EndVolumes.{left-shut, right-shut, left-brought, right-brought}
+use Rattle.rules.specs.Laws.Runs.{Run, stop, step, accepted-ends, Depths, depths, TooLarge, Large}
 use Rattle.step.specs.Gives.{lend, code, atLeft, atRight, Gives, answer, leaves}
 use Rattle.step.specs.declared.Answer.{Answer}
 use Rattle.step.specs.declared.Answer.the-variants.{Refused, Accepted}
 use Rattle.promises.specs.Seen.{at, meanBed, bedSlope, meanDepth, leftDepth, rightDepth}
-use Rattle.promises.specs.Seen.{NoneBelow, Excess, water, Lake, Called, Calls, none, more}
+use Rattle.promises.specs.Seen.{NoneBelow, Excess, water, Listed, brought, Lake, Called, Calls, none, more}
 
 -- ---- an outcome by its number
 -- all the checks of a call, in their order
@@ -166,6 +170,35 @@ written-calm l {new} e i m d =
     let is : cellAt new i ≡ next r c s i = ap (λ (t : List ℤ). cellAt t i) e ∙ cellAt-flat (cellsOf l) (next r c s) i m in
     let calm = finished-calm r c (joined r c s) i (subst (λ (x : Cell). h0 (under r i) x ≤ℤ c .dry) is d) in
     (ap (λ (x : Cell). x .q0) is ∙ calm .0, ap (λ (x : Cell). x .q1) is ∙ calm .1)
+
+-- ---- the ends of an accepted call
+module _ (l : Lent) (accepted : number l ≡ 0) where
+  listed : (e : End) → badEnd e ≡ false → Listed e
+  listed e b = record { kind = kind-in e b; q = inflow-in e b; other = inflow-only e b }
+
+  pub both-listed : Listed (l .left) × Listed (l .right)
+  both-listed = let p = accepted-ends (reachOf l) (callOf l) (stateOf l) (unrefused l accepted) in
+      (listed (l .left) (p .0), listed (l .right) (p .1))
+
+  some-cell : 0 < cellsOf l
+  some-cell = fitted (length (l .now)) (l .room) (length (l .bed)) (cellsOf l) (fits l accepted) .some
+
+  -- nothing crosses a wall, and an inflow brings in what is known before the step
+  pub wall-left : l .left .kind ≡ 0 → crossed l 0 ≡ pos 0
+  unfolding crossed
+  wall-left e = left-shut (reachOf l) lawful (callOf l) e (stateOf l)
+
+  pub wall-right : l .right .kind ≡ 0 → crossed l (cellsOf l) ≡ pos 0
+  unfolding crossed
+  wall-right e = right-shut (reachOf l) lawful (callOf l) some-cell e (stateOf l)
+
+  pub inflow-left : l .left .kind ≡ inflowKind → crossed l 0 ≡ brought l (l .left)
+  unfolding crossed brought
+  inflow-left e = left-brought (reachOf l) lawful (callOf l) e (stateOf l)
+
+  pub inflow-right : l .right .kind ≡ inflowKind → crossed l (cellsOf l) ≡ negℤ (brought l (l .right))
+  unfolding crossed brought
+  inflow-right e = right-brought (reachOf l) lawful (callOf l) some-cell e (stateOf l)
 
 -- ---- an accepted call as a step of the rules
 pub record One (bed : List ℤ) (n dx : ℕ) (c : Call) (s m : List ℤ) (w v : ℤ) : Type 0 where

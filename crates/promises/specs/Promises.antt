@@ -13,7 +13,7 @@ use mathlib.Core.List.{List}
 use mathlib.Core.Logic.{_⊎_, inl, inr, ⊎-elim}
 use Prim.Native.Nat.{ℕ, _+_, _*_, _<_}
 use lib.ListN.{length}
-use lib.IntN.{ℤ, pos, _+ℤ_, _-ℤ_}
+use lib.IntN.{ℤ, pos, negℤ, _+ℤ_, _-ℤ_}
 use lib.Signed.{_≤ℤ_, _<ℤ_}
 use lib.Ieee.{Float}
 use Rattle.rules.specs.Face.{Side}
@@ -25,7 +25,9 @@ use Rattle.rules.specs.Laws.Limiter.{spared-finish}
 use Rattle.before.specs.E2 as before-E2
 use Rattle.before.specs.Laws.E2.{unspared-finish, deep-finish}
 use Rattle.before.specs.E3 as before-E3
-use Rattle.before.specs.Laws.E3.{given, given-four}
+use Rattle.before.specs.Laws.E3.{given-four}
+use Rattle.before.specs.E4 as before-E4
+use Rattle.before.specs.Laws.E4.{with-no-inflow, no-inflow}
 use Rattle.rules.specs.Laws.Lengths.{unrefused}
 use Rattle.rules.specs.Step.{stageOne, next}
 use Rattle.rules.specs.Refusals.{checks, early, stageChecks}
@@ -33,7 +35,7 @@ use Rattle.rules.specs.Lent.{Lent, cellsOf, reachOf, callOf, stateOf, number, f
 use Rattle.rules.specs.Laws.Accept.{Clear}
 use Rattle.rules.specs.Laws.Verdicts.{cleared}
 use Rattle.rules.specs.Laws.Face.{lawful}
-use Rattle.rules.specs.Laws.Runs.{stop, step, Large, depths, eight, accepted-depths, run-balanced, run-wet, run-rest}
+use Rattle.rules.specs.Laws.Runs.{Large, depths, eight, accepted-depths, run-balanced, run-wet, accepted-rest}
 use Rattle.speeds.specs.Given.{speedGiven, waveGiven, cubeGiven}
 use Rattle.face.specs.Given.{faceGiven}
 use Rattle.face.specs.Answers.{flux}
@@ -58,10 +60,12 @@ use Rattle.stage.specs.declared.worked.Worked.{Worked}
 use Rattle.step.specs.Gives.{Gives, one-answer, one-table}
 use Rattle.step.specs.declared.Answer.{Answer}
 use Rattle.step.specs.declared.Answer.the-variants.{Refused, Accepted}
-use Rattle.promises.specs.Seen.{at, meanDepth, NoneBelow, Excess, stageTable, water, Lake, Called, Calls, none, more}
+use Rattle.promises.specs.Seen.{at, meanDepth, NoneBelow, Excess, stageTable, water, Listed, brought, Lake}
+use Rattle.promises.specs.Seen.{Called, Calls, none, more, NoInflow}
 use Rattle.promises.specs.First.{FirstMet, first-verdict, verdict-first, first-listed}
 use Rattle.promises.specs.Outcomes.{allChecks, number-is, refuses-with, refused-number, refused-some}
-use Rattle.promises.specs.Outcomes.{refused-table, refused-later, taken, reachAt, lent, call, one, none-below}
+use Rattle.promises.specs.Outcomes.{refused-table, refused-later, Taken, taken, reachAt, lent, call, one, none-below}
+use Rattle.promises.specs.Outcomes.{both-listed, wall-left, wall-right, inflow-left, inflow-right}
 use Rattle.promises.specs.Outcomes.{none-below-table, excess-table, wet, water-is, at-rest, written-calm, run}
 
 -- ---- demand 1: one answer, one content of the table
@@ -141,14 +145,41 @@ pub deep-as-before : (r : Reach) (c : Call) (s : State) → ((i : ℕ) → i < r
 deep-as-before r c s d i l = deep-finish r c s d i l
 
 -- ---- what E3 changed: the dry depth is each call's own
--- given 4, a call is answered as before, when it gave none: the same number, or the same table and volumes
-pub four-as-before : (l : before-E3.Lent) → stepOf (given 4 l) ≡ before-E3.stepOf l
+-- given 4, a call was answered as before, when it gave none: the same number, or the same table and volumes
+pub four-as-before : (l : before-E3.Lent) → before-E4.stepOf (before-E3.given 4 l) ≡ before-E3.stepOf l
 four-as-before l = given-four l
 
 -- whichever it is, what an accepted call writes has no discharge where it is no deeper
 pub shallow-calm : (l : Lent) (w v : ℤ) (old new : List ℤ) → Gives (stepOf l) (Accepted w v) old new → (i : ℕ) → i < cellsOf l
     → meanDepth (l .bed) new i ≤ℤ pos (l .dry) → (at new (4 * i + 2) ≡ pos 0) × (at new (4 * i + 3) ≡ pos 0)
 shallow-calm l w v old new g i m d = written-calm l (taken l w v old new g .table) i m d
+
+-- ---- what E4 changed: an end may be an inflow, which brings in a given discharge Q
+-- where neither is one, a call is answered as before, when an end had a kind alone: the same number, or the same table and volumes
+pub no-inflow-as-before : (l : before-E4.Lent) → (l .left ≡ 2 → ⊥) → (l .right ≡ 2 → ⊥)
+    → stepOf (with-no-inflow l) ≡ before-E4.stepOf l
+no-inflow-as-before l f g = no-inflow l f g
+
+module _ (l : Lent) (w v : ℤ) (old new : List ℤ) (g : Gives (stepOf l) (Accepted w v) old new) where
+  abbrev went : Taken l w v new
+  went = taken l w v old new g
+
+  -- the ends of an accepted call are in their lists, and Q is nought at an end of another kind
+  pub ends-listed : Listed (l .left) × Listed (l .right)
+  ends-listed = both-listed l (went .number)
+
+  -- what an inflow brought in is known before the step: Q·dt/dx, whatever the state; nothing crosses a wall
+  pub left-inflow : l .left .kind ≡ 2 → w ≡ brought l (l .left)
+  left-inflow e = went .left ∙ inflow-left l (went .number) e
+
+  pub right-inflow : l .right .kind ≡ 2 → v ≡ negℤ (brought l (l .right))
+  right-inflow e = went .right ∙ inflow-right l (went .number) e
+
+  pub left-wall : l .left .kind ≡ 0 → w ≡ pos 0
+  left-wall e = went .left ∙ wall-left l (went .number) e
+
+  pub right-wall : l .right .kind ≡ 0 → v ≡ pos 0
+  right-wall e = went .right ∙ wall-right l (went .number) e
 
 -- ---- demand 3, over any number of accepted calls on one bed with n cells of length dx; all else that they are given may differ
 module _ (bed : List ℤ) (n dx : ℕ) where
@@ -196,13 +227,13 @@ module _ (bed : List ℤ) (n dx : ℕ) where
       both : (t : State) → Large (reachOf (lent c)) t → let k = length (c .friction) in Over (flat (row k t)) k
       both t h = (none-below-table bed (length (c .friction)) dx t (h .wet), excess-table bed (length (c .friction)) dx t h)
 
-  -- a lake at rest keeps every number of its table, and nothing crosses its ends
-  pub lake-rests : {s t : List ℤ} {a b : ℤ} → Calls bed n dx s t a b → Lake bed s n → (t ≡ s) × (a ≡ pos 0) × (b ≡ pos 0)
-  lake-rests (none s) k = (refl, refl, refl)
-  lake-rests (more s m t old w v a b c q) k =
+  -- a lake at rest into which no water is brought keeps every number of its table, and nothing crosses its ends
+  pub lake-rests : {s t : List ℤ} {a b : ℤ} (k : Calls bed n dx s t a b) → NoInflow k → Lake bed s n
+      → (t ≡ s) × (a ≡ pos 0) × (b ≡ pos 0)
+  lake-rests (none s) d k = (refl, refl, refl)
+  lake-rests (more s m t old w v a b c q) d k =
       let o = one bed n dx s w v old m c in let r = reachAt bed n dx in
-      let z = run-rest r lawful (o .some)
-      (step (call c) (cellAt s) (cellAt m) (cellAt m) (pos 0) (pos 0) (o .unstopped) (o .same) (stop (cellAt m))) (at-rest bed s dx n k) in
-      let e : m ≡ s = flat-is n m (cellAt s) (o .size) (z .0) ∙ flat-cells n s (o .now) in
-      let d = lake-rests q (subst (λ (x : List ℤ). Lake bed x n) (sym e) k) in
-      (d .0 ∙ e, ap₂ _+ℤ_ (o .left) (d .1) ∙ z .1, ap₂ _+ℤ_ (o .right) (d .2) ∙ z .2)
+      let z = accepted-rest r lawful (o .some) (call c) (cellAt s) (o .unstopped) (record { left = d .0; right = d .1 }) (at-rest bed s dx n k) in
+      let e : m ≡ s = flat-is n m (cellAt s) (o .size) (λ i l. o .same i l ∙ z .0 i l) ∙ flat-cells n s (o .now) in
+      let rest = lake-rests q (d .2) (subst (λ (x : List ℤ). Lake bed x n) (sym e) k) in
+      (rest .0 ∙ e, ap₂ _+ℤ_ (o .left ∙ z .1) (rest .1), ap₂ _+ℤ_ (o .right ∙ z .2) (rest .2))

@@ -2,14 +2,15 @@
 use mathlib.Core.Path.{_≡_}
 use mathlib.Core.List.{List}
 use mathlib.Core.Logic.{_⊎_}
-use Prim.Native.Nat.{ℕ, zero, suc, _+_, _*_, _<_}
+use Prim.Native.Nat.{ℕ, zero, suc, _+_, _*_, _≤_, _<_}
 use lib.ListN.{length, getD}
-use lib.IntN.{ℤ, pos, _+ℤ_, _-ℤ_}
+use lib.IntN.{ℤ, pos, _+ℤ_, _-ℤ_, _*ℤ_}
 use lib.Signed.{quotZ, _≤ℤ_, _<ℤ_}
 use Rattle.whole.specs.Choice.{sizeZ}
 use Rattle.tables.specs.Rows.{row}
 use Rattle.tables.specs.Cells.{flat}
-use Rattle.rules.specs.Limits.{deepest, fullest}
+use Rattle.rules.specs.Limits.{deepest, fullest, largestInflow}
+use Rattle.rules.specs.Ends.{End, inflowKind}
 use Rattle.rules.specs.Step.{stageOne}
 use Rattle.rules.specs.Lent.{Lent, cellsOf, reachOf, callOf, stateOf, stepOf}
 use Rattle.step.specs.Gives.{lend, Gives}
@@ -60,6 +61,16 @@ unfoldable pub water : List ℤ → List ℤ → ℕ → ℤ
 water bed t zero = pos 0
 water bed t (suc n) = water bed t n +ℤ meanDepth bed t n
 
+-- ---- an end: its kind and its Q in their lists, and Q nought at an end of another kind than an inflow
+pub record Listed (e : End) : Type 0 where
+  pub kind : e .kind ≤ inflowKind
+  pub q : e .q ≤ largestInflow
+  pub other : (e .kind ≡ inflowKind → ⊥) → e .q ≡ 0
+
+-- what an inflow brings in over a step: Q·dt/dx, cut toward nought
+unfoldable pub brought : Lent → End → ℤ
+brought l e = quotZ (pos (e .q) *ℤ pos (l .dt)) (pos (l .dx))
+
 -- ---- a lake at rest: no discharge; each cell dry, or flat with its level at least both its face beds; one level at each inner face
 pub record Lake (bed t : List ℤ) (n : ℕ) : Type 0 where
   pub mean : (i : ℕ) → i < n → at t (4 * i + 2) ≡ pos 0
@@ -70,16 +81,16 @@ pub record Lake (bed t : List ℤ) (n : ℕ) : Type 0 where
   pub level : (i : ℕ) → suc i < n → (at t (4 * i) +ℤ at t (4 * i + 1)) ≡ (at t (4 * suc i) -ℤ at t (4 * suc i + 1))
 
 -- ---- calls
--- one call on a bed with n cells of length dx: what was lent and given besides, its own dry depth too, and that the answer and the table
--- are the contract's
+-- one call on a bed with n cells of length dx: what was lent and given besides, its own dry depth and ends too, and that the answer and the
+-- table are the contract's
 pub record Called (bed : List ℤ) (n dx : ℕ) (now : List ℤ) (a : Answer) (old new : List ℤ) : Type 0 where
   pub friction : List ℕ
   pub cells : length friction ≡ n
   pub dt : ℕ
   pub jump : ℕ
   pub dry : ℕ
-  pub left : ℕ
-  pub right : ℕ
+  pub left : End
+  pub right : End
   pub gave : Gives (stepOf (lend now (length old) bed friction dx dt jump dry left right)) a old new
 
 -- any number of accepted calls, each lent what the one before wrote, and with a friction, a time step, a jump, a dry depth and ends of its
@@ -88,3 +99,8 @@ pub data Calls (bed : List ℤ) (n dx : ℕ) : List ℤ → List ℤ → ℤ →
   none : (t : List ℤ) → Calls bed n dx t t (pos 0) (pos 0)
   more : (s m t old : List ℤ) (w v a b : ℤ) → Called bed n dx s (Accepted w v) old m → Calls bed n dx m t a b
       → Calls bed n dx s t (w +ℤ a) (v +ℤ b)
+
+-- none of them brings water in: Q is nought at both ends of each
+abbrev pub NoInflow : {bed : List ℤ} {n dx : ℕ} {s t : List ℤ} {a b : ℤ} → Calls bed n dx s t a b → Type 0
+NoInflow (none t) = Unit {0}
+NoInflow (more s m t old w v a b c k) = (c .left .q ≡ 0) × (c .right .q ≡ 0) × NoInflow k
