@@ -2,7 +2,9 @@
 
 `before.E2()` is a context in which the model's finishing is document 01's own, at whatever dry
 depth.  `before.E3()` is one in which the model knows no dry depth: the argument is not looked at,
-and a fixed 4 stands in every place.  Where both are wanted, E2's is the inner one.
+and a fixed 4 stands in every place.  `before.E4()` is one in which it knows no inflow: the two Qs
+are not looked at, and an end is a wall or open.  Each leaves the other requests as they stand.
+Where E2's and E3's are both wanted, E2's is the inner one.
 """
 
 import contextlib
@@ -69,13 +71,39 @@ def check_friction_speeds(cells, call):
             m.checked_speed(cell.q0, h0, call.dry, "friction speed")
 
 
-def check_numbers(dx, dt, jump, dry, left, right):
-    if not (1 <= dx <= m.LONGEST_DX and 1 <= dt <= m.LONGEST_DT and 0 <= jump <= m.GREATEST_JUMP
-            and left in (m.WALL, m.OPEN) and right in (m.WALL, m.OPEN)):
-        raise m.Refused(2, "numbers")
+def any_dry(dry):
+    return True
 
 
 def E3():
     """01 has a depth of 4 in every place, and the step is given no other."""
     return replaced(speed=speed, spared=spared, dried=dried, friction=friction,
-                    check_friction_speeds=check_friction_speeds, check_numbers=check_numbers)
+                    check_friction_speeds=check_friction_speeds, dry_in_list=any_dry)
+
+
+# ---- E4: ends that take all from the inner side
+
+def wall_or_open(kind):
+    return kind in (m.WALL, m.OPEN)
+
+
+def any_inflow(kind, Q):
+    return True
+
+
+def none_to_check(sides, call, which):
+    pass
+
+
+def left_end(kind, Q, inner, dry):
+    return m.face(inner.h, inner.u if kind == m.OPEN else -inner.u, inner.h, inner.u)
+
+
+def right_end(kind, Q, inner, dry):
+    return m.face(inner.h, inner.u, inner.h, inner.u if kind == m.OPEN else -inner.u)
+
+
+def E4():
+    """01 has two kinds of end, and the step is given no Q."""
+    return replaced(kind_in_list=wall_or_open, inflow_in_list=any_inflow, check_inflow_speeds=none_to_check,
+                    left_end=left_end, right_end=right_end)

@@ -3,7 +3,8 @@ compared with the library.
 
 Exact integers throughout, in 01's order and with 01's letters.  It shares nothing
 with the library, so an answer that both give was worked twice.  Where 01 has a depth
-of 4 the argument `dry` stands (E3).  What a rule said before a request is in before.py.
+of 4 the argument `dry` stands (E3), and an end may be given a discharge Q into the reach
+(E4).  What a rule said before a request is in before.py.
 
 Public rules answer None where 01 refuses them "with no number".  `step` answers
 ("refused", number) or ("accepted", next, W0, Wn).  Labels such as S7 are those of
@@ -25,12 +26,12 @@ LONGEST_DT = 4096
 GREATEST_JUMP = 262144
 LEAST_DRY, MOST_DRY = 1, 64     # of the dry depth, which E3 makes an argument
 MOST_CELLS = 1024
-WALL, OPEN = 0, 1
+WALL, OPEN, INFLOW = 0, 1, 2    # kinds of end; E4 adds the third
 
 Cell = namedtuple("Cell", "e0 e1 q0 q1")
 Side = namedtuple("Side", "h u")        # what a face reads of one side
 Flux = namedtuple("Flux", "F K A S")
-Call = namedtuple("Call", "n bed friction dx dt jump dry left right")
+Call = namedtuple("Call", "n bed friction dx dt jump dry left right left_q right_q")
 
 
 class Refused(Exception):
@@ -127,12 +128,31 @@ def outer_side(kind, inner):
     return Side(inner.h, -inner.u if kind == WALL else inner.u)
 
 
-def left_end(kind, inner):
+def inflow_S(uQ, inner):
+    """ "the greater of that speed and the inner speed's size plus the inner wave speed" (E4). """
+    return max(uQ, abs(inner.u) + wave_speed(inner.h))
+
+
+def inflow(Q, inner, dry, inward):
+    """An end face where Q is given (E4): it has no outer side, and at depth 0 F is still Q.
+
+    `inward` is the way into the reach there: 1 at the left end, -1 at the right.  F turns with it;
+    A does not, since of Q and its speed both turn.
+    """
+    uQ = speed(Q, inner.h, dry)
+    return Flux(inward * Q, inner.h * inner.h, quo(Q * uQ, UNIT), inflow_S(uQ, inner))
+
+
+def left_end(kind, Q, inner, dry):
+    if kind == INFLOW:
+        return inflow(Q, inner, dry, 1)
     out = outer_side(kind, inner)
     return face(out.h, out.u, inner.h, inner.u)
 
 
-def right_end(kind, inner):
+def right_end(kind, Q, inner, dry):
+    if kind == INFLOW:
+        return inflow(Q, inner, dry, -1)
     out = outer_side(kind, inner)
     return face(inner.h, inner.u, out.h, out.u)
 
@@ -205,6 +225,13 @@ def checked_speed(q, h, dry, check):
     return u
 
 
+def check_inflow_speeds(sides, call, which):
+    """E4: the speed of Q at each end's inner depth "falls under 6 with the other face speeds"."""
+    for kind, Q, inner in ((call.left, call.left_q, sides[0][0]), (call.right, call.right_q, sides[-1][1])):
+        if kind == INFLOW:
+            checked_speed(Q, inner.h, call.dry, "inflow speed, stage %d" % which)
+
+
 def face_speeds(cells, call, which):
     """Each cell's two sides; the whole reach is read before the Gauss points are."""
     sides = []
@@ -213,6 +240,7 @@ def face_speeds(cells, call, which):
         ul = checked_speed(f.ql, f.hl, call.dry, "face speed, stage %d" % which)
         ur = checked_speed(f.qr, f.hr, call.dry, "face speed, stage %d" % which)
         sides.append((Side(f.hl, ul), Side(f.hr, ur)))
+    check_inflow_speeds(sides, call, which)
     return sides
 
 
@@ -230,11 +258,11 @@ def gauss_sums(cells, call, which):
 
 def fluxes(sides, call, which):
     """F, K, A, S at faces 0 to n, with check 7."""
-    found = [left_end(call.left, sides[0][0])]
+    found = [left_end(call.left, call.left_q, sides[0][0], call.dry)]
     for i in range(call.n - 1):
         L, R = sides[i][1], sides[i + 1][0]
         found.append(face(L.h, L.u, R.h, R.u))
-    found.append(right_end(call.right, sides[-1][1]))
+    found.append(right_end(call.right, call.right_q, sides[-1][1], call.dry))
     for f in found:
         if 2 * call.dt * f.S > UNIT * call.dx:
             raise Refused(7, "faces, stage %d" % which)
@@ -387,9 +415,19 @@ def check_lengths(now, next_len, bed, friction):
         raise Refused(1, "lengths")
 
 
-def check_numbers(dx, dt, jump, dry, left, right):
+def kind_in_list(kind):
+    return kind in (WALL, OPEN, INFLOW)
+
+
+def inflow_in_list(kind, Q):
+    """E4: "Q out of range, or not 0 at an end of another kind, is a 2"."""
+    return 0 <= Q <= GREATEST_Q if kind == INFLOW else Q == 0
+
+
+def check_numbers(dx, dt, jump, dry, left, right, left_q, right_q):
     if not (1 <= dx <= LONGEST_DX and 1 <= dt <= LONGEST_DT and 0 <= jump <= GREATEST_JUMP
-            and dry_in_list(dry) and left in (WALL, OPEN) and right in (WALL, OPEN)):
+            and dry_in_list(dry) and kind_in_list(left) and kind_in_list(right)
+            and inflow_in_list(left, left_q) and inflow_in_list(right, right_q)):
         raise Refused(2, "numbers")
 
 
@@ -428,13 +466,13 @@ def halves(cells, slow, two, W):
             for i in range(len(cells))]
 
 
-def worked(now, next_len, bed, friction, dx, dt, jump, dry, left, right):
+def worked(now, next_len, bed, friction, dx, dt, jump, dry, left, right, left_q, right_q):
     """The step; a refusal is raised, so that its check can be told apart."""
     check_lengths(now, next_len, bed, friction)
-    check_numbers(dx, dt, jump, dry, left, right)
+    check_numbers(dx, dt, jump, dry, left, right, left_q, right_q)
     check_bed(bed)
     check_friction(friction)
-    call = Call(len(friction), bed, friction, dx, dt, jump, dry, left, right)
+    call = Call(len(friction), bed, friction, dx, dt, jump, dry, left, right, left_q, right_q)
     cells = cells_of(now)
     check_range(cells, call, 5, "present state")
     slow = after_friction(cells, call)
@@ -448,8 +486,8 @@ def worked(now, next_len, bed, friction, dx, dt, jump, dry, left, right):
     return table_of(end), W[0], W[-1]
 
 
-def step(now, next_len, bed, friction, dx, dt, jump, dry, left, right):
+def step(now, next_len, bed, friction, dx, dt, jump, dry, left, right, left_q, right_q):
     try:
-        return ("accepted",) + worked(now, next_len, bed, friction, dx, dt, jump, dry, left, right)
+        return ("accepted",) + worked(now, next_len, bed, friction, dx, dt, jump, dry, left, right, left_q, right_q)
     except Refused as r:
         return "refused", r.number
