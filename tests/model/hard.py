@@ -11,6 +11,7 @@ import random
 import sys
 import time
 from collections import Counter
+from math import gcd
 
 import model as m
 
@@ -204,12 +205,72 @@ def shore(rnd, n, dry):
     return bed, [number for cell in now for number in cell]
 
 
-# ---- dx, dt and J, chosen against the state
+# ---- Ends: their kinds and what is given there, left, right, left_q and right_q
 
-def greatest_S(now, bed, friction, dt, dry, left, right):
+def thin_end(rnd, now, bed, dry):
+    """The state with a cell at one end that is dry, or about as deep as the dry depth."""
+    i = rnd.choice((0, len(bed) - 2))
+    h0 = rnd.choice((0, 1, about(rnd, dry), about(rnd, dry)))
+    return now[:4 * i] + placed(bed[i], bed[i + 1], h0, 0, 0, 0) + now[4 * i + 4:]
+
+
+def inner_depths(now, bed):
+    """The depths that the first and the last cell show at the ends of the reach."""
+    return now[0] - now[1] - bed[0], now[-4] + now[-3] - bed[-1]
+
+
+def fastest_inflow(h):
+    """The greatest Q whose speed at depth h, cut toward nought, is within its limit."""
+    return ((m.FASTEST + 1) * h - 1) // m.UNIT
+
+
+def inflow_at(rnd, h):
+    """A Q: none, little, one of ordinary water of depth h or of any, about the fastest, or about the greatest."""
+    how = rnd.randrange(24)
+    if how < 3:
+        Q = 0
+    elif how < 5:
+        Q = rnd.choice((1, rnd.randint(1, 60)))
+    elif how < 16:
+        Q = h * rnd.randint(0, rnd.choice((300, 2000, 9000, 30000))) // m.UNIT + rnd.randrange(3)
+    elif how < 19:
+        Q = rnd.randint(1, rnd.choice((900, 20000)))
+    elif how < 21:
+        Q = fastest_inflow(h) + rnd.choice((-1, 0, 0, 0, 1))
+    elif how < 23:
+        Q = rnd.randint(0, rnd.choice((400000, m.GREATEST_Q)))
+    else:
+        Q = m.GREATEST_Q - rnd.choice((0, 0, 1))
+    return max(0, min(m.GREATEST_Q, Q))
+
+
+def ends_of(rnd, now, bed):
+    kinds = rnd.randrange(3), rnd.randrange(3)
+    return kinds + tuple(inflow_at(rnd, h) if kind == m.INFLOW else 0 for kind, h in zip(kinds, inner_depths(now, bed)))
+
+
+def onto_dry(rnd, now, bed, dx, dt, ends):
+    """The ends, with a Q that brings a whole volume in where the ground is dry, in half the calls.
+
+    With any other the depth that stage one leaves there is a little less than Q asks for, and stage two
+    nearly always refuses the speed of Q with a 7.
+    """
+    def even(kind, Q, h):
+        whole = dx // gcd(dx, dt)
+        return max(whole, Q // whole * whole) if kind == m.INFLOW and h == 0 and Q and whole <= m.GREATEST_Q else Q
+    if rnd.randrange(2):
+        return ends
+    left, right, left_q, right_q = ends
+    hl, hr = inner_depths(now, bed)
+    return left, right, even(left, left_q, hl), even(right, right_q, hr)
+
+
+# ---- dx, dt and J, chosen against the state and the ends
+
+def greatest_S(now, bed, friction, dt, dry, ends):
     """The greatest S of stage one, or None where it refuses earlier."""
     n = len(friction)
-    call = m.Call(n, bed, friction, m.LONGEST_DX, dt, 0, dry, left, right)
+    call = m.Call(n, bed, friction, m.LONGEST_DX, dt, 0, dry, *ends)
     try:
         cells = m.cells_of(now)
         m.check_range(cells, call, 5, "")
@@ -220,10 +281,27 @@ def greatest_S(now, bed, friction, dt, dry, left, right):
         return None
 
 
-def lengths_and_times(rnd, now, bed, friction, dry, left, right):
+def filled(rnd, now, bed, dry, ends, dx, dt):
+    """dx, or a longer one where an inflow onto thin water, whose speed no check bounds, would bring too much in; or
+    the shortest, with which the most comes in."""
+    thin_ = [Q for Q, h in zip(ends[2:], inner_depths(now, bed)) if h <= dry]
+    if max(thin_, default=0) == 0:
+        return dx
+    if rnd.randrange(5) == 0:
+        return rnd.choice((dx, 1))
+    most = rnd.choice((rnd.randint(1, 99), rnd.randint(1, 20000), rnd.randint(1, 20000), m.DEEPEST // 2 + rnd.randint(-9, 9)))
+    return max(dx, max(thin_) * dt // most)
+
+
+def lengths_and_times(rnd, now, bed, friction, dry, ends):
     """dx and dt at the limit of check 7, a little beside it, well within it, or free."""
+    dx, dt = drawn_lengths_and_times(rnd, now, bed, friction, dry, ends)
+    return max(1, min(m.LONGEST_DX, filled(rnd, now, bed, dry, ends, dx, dt))), dt
+
+
+def drawn_lengths_and_times(rnd, now, bed, friction, dry, ends):
     dt = rnd.choice((1, rnd.randint(1, 60), rnd.randint(1, 700), rnd.randint(1, m.LONGEST_DT), m.LONGEST_DT))
-    S = greatest_S(now, bed, friction, dt, dry, left, right)
+    S = greatest_S(now, bed, friction, dt, dry, ends)
     how = rnd.randrange(20)
     if how == 0 or not S:
         return rnd.choice((1, rnd.randint(1, 99), rnd.randint(1, m.LONGEST_DX), m.LONGEST_DX)), dt
@@ -236,10 +314,10 @@ def lengths_and_times(rnd, now, bed, friction, dry, left, right):
         dt = max(1, min(m.LONGEST_DT, m.UNIT * dx // (2 * S) + rnd.choice((-1, 0, 0, 1))))
     else:
         dx = (2 * dt * S // m.UNIT + 1) * rnd.choice((1, 2, 2, 3, 5, 20, 200)) + rnd.randrange(3)
-    return max(1, min(m.LONGEST_DX, dx)), dt
+    return dx, dt
 
 
-def jumps(rnd, now, bed, friction, dx, dt, dry, left, right):
+def jumps(rnd, now, bed, friction, dx, dt, dry, ends):
     """J: nought, free, or the very difference that an inner face of stage one shows."""
     how = rnd.randrange(8)
     if how < 2:
@@ -249,7 +327,7 @@ def jumps(rnd, now, bed, friction, dx, dt, dry, left, right):
     n = len(friction)
     if n == 1:
         return rnd.randrange(m.GREATEST_JUMP + 1)
-    call = m.Call(n, bed, friction, dx, dt, 0, dry, left, right)
+    call = m.Call(n, bed, friction, dx, dt, 0, dry, *ends)
     try:
         cells = m.cells_of(now)
         m.check_range(cells, call, 5, "")
@@ -288,9 +366,14 @@ def fault_lengths(rnd, c):
 def fault_numbers(rnd, c):
     beyond = {"dx": (0, m.LONGEST_DX + 1, I32 - 1), "dt": (0, m.LONGEST_DT + 1, 65535),
               "jump": (m.GREATEST_JUMP + 1, I32 - 1), "dry": (m.LEAST_DRY - 1, m.MOST_DRY + 1, 2 * I32 - 1),
-              "left": (2, 3, 255), "right": (2, 3, 255)}
+              "left": (3, 4, 255, 2 * I32 - 1), "left_q": (m.GREATEST_Q + 1, I32, 2 * I32 - 1)}
+    beyond["right"], beyond["right_q"] = beyond["left"], beyond["left_q"]
     name = rnd.choice(sorted(beyond))
     c[name] = rnd.choice(beyond[name])
+    if name.endswith("_q") and rnd.randrange(2):
+        # in its range, and where none belongs
+        c[name[:-2]] = rnd.choice((m.WALL, m.OPEN))
+        c[name] = rnd.choice((1, rnd.randint(1, 9000), m.GREATEST_Q))
 
 
 def fault_bed(rnd, c):
@@ -356,11 +439,20 @@ def fault_speed(rnd, c):
     c["now"] = [max(-I32, min(I32 - 1, v)) for v in now]
 
 
-FAULTS = (fault_lengths, fault_numbers, fault_bed, fault_friction, fault_range, fault_speed)
+def fault_inflow(rnd, c):
+    """An inflow whose speed is beyond the limit, just or by far, or would be if the water there were deeper than the dry depth."""
+    side = rnd.randrange(2)
+    kind, Q = (("left", "left_q"), ("right", "right_q"))[side]
+    h = max(0, inner_depths(c["now"], c["bed"])[side])
+    c[kind], c[Q] = m.INFLOW, min(m.GREATEST_Q, fastest_inflow(h) + rnd.choice((1, 1, 9, 5000)))
+
+
+FAULTS = (fault_lengths, fault_numbers, fault_bed, fault_friction, fault_inflow, fault_range, fault_speed)
 
 
 def spoiled(rnd, c):
-    # speeds and ranges are set by the bed and the dry depth as they are, so those are spoilt after them
+    # speeds and ranges are set by the bed and the dry depth as they are, and an inflow by the state too, so those
+    # are spoilt after them
     chosen = rnd.sample(FAULTS, rnd.choice((1, 1, 2, 3)))
     for fault in sorted(chosen, key=FAULTS.index, reverse=True):
         fault(rnd, c)
@@ -369,11 +461,11 @@ def spoiled(rnd, c):
 
 # ---- Whole calls
 
-ORDER = ("now", "next_len", "bed", "friction", "dx", "dt", "jump", "dry", "left", "right")
+ORDER = ("now", "next_len", "bed", "friction", "dx", "dt", "jump", "dry", "left", "right", "left_q", "right_q")
 
 
 def hard_call(rnd):
-    n = rnd.choice((1, 1, 2, 2, 2, 3, 3, 3, 16, 16, rnd.randint(4, 12)))
+    n = rnd.choice((1, 1, 1, 2, 2, 2, 3, 3, 3, 16, 16, rnd.randint(4, 12)))
     if rnd.randrange(400) == 0:
         n = m.MOST_CELLS
     elif rnd.randrange(100) == 0:
@@ -384,13 +476,17 @@ def hard_call(rnd):
     else:
         bed = beds(rnd, n)
         now = states(rnd, bed, dry)
+    if rnd.randrange(6) == 0:
+        now = thin_end(rnd, now, bed, dry)
     rough = rnd.choice((0, 0, 1, 30, m.ROUGHEST))
     friction = [rnd.randint(0, rough) if rnd.randrange(2) else rough for _ in range(n)]
-    left, right = rnd.randrange(2), rnd.randrange(2)
-    dx, dt = lengths_and_times(rnd, now, bed, friction, dry, left, right)
-    jump = jumps(rnd, now, bed, friction, dx, dt, dry, left, right)
+    ends = ends_of(rnd, now, bed)
+    dx, dt = lengths_and_times(rnd, now, bed, friction, dry, ends)
+    ends = onto_dry(rnd, now, bed, dx, dt, ends)
+    jump = jumps(rnd, now, bed, friction, dx, dt, dry, ends)
+    left, right, left_q, right_q = ends
     c = dict(now=now, next_len=4 * n, bed=bed, friction=friction, dx=dx, dt=dt, jump=jump, dry=dry,
-             left=left, right=right)
+             left=left, right=right, left_q=left_q, right_q=right_q)
     return spoiled(rnd, c) if rnd.randrange(9) == 0 else c
 
 
@@ -484,15 +580,17 @@ def main():
     start = time.time()
     made = list(calls(seed, count))
     middle = time.time()
-    by_answer, by_n = Counter(), Counter()
+    by_answer, by_n, by_ends = Counter(), Counter(), Counter()
     for call in made:
         answer = answered(call)
         by_answer[answer] += 1
         if answer == "accepted":
             by_n[len(call[3])] += 1
+            by_ends[call[8:10]] += 1
     for answer in sorted(by_answer):
         print("%6d  %5.1f %%  %s" % (by_answer[answer], 100 * by_answer[answer] / count, answer))
     print("accepted by number of cells: " + ", ".join("%d: %d" % (n, by_n[n]) for n in sorted(by_n)))
+    print("accepted by kinds of end: " + ", ".join("%d %d: %d" % (*kinds, by_ends[kinds]) for kinds in sorted(by_ends)))
     print("%d calls of seed %d: made in %.1f s, answered in %.1f s"
           % (count, seed, middle - start, time.time() - middle))
     by_branch = Counter(branch(*f) for f in faces(seed, count))
