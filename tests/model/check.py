@@ -4,6 +4,7 @@ Prints a line for each row or case and last 'N passed, M failed'; the exit statu
 is 1 when something failed.
 """
 
+import itertools
 import random
 import sys
 from collections import Counter
@@ -15,6 +16,8 @@ import model as m
 DRY = 4     # the dry depth of 01's own numbers, which were fixed before E3
 DRY_DEPTHS = range(m.LEAST_DRY, m.MOST_DRY + 1)
 NOT_IN_LIST = (0, 65, 4294967295)
+KINDS = (m.WALL, m.OPEN, m.INFLOW)
+PAIRS = tuple(itertools.product(KINDS, KINDS))
 
 passed = failed = 0
 
@@ -35,7 +38,7 @@ def rows():
     case("row 1: a(0), a(1), a(4096)", [m.wave_speed(h) for h in (0, 1, 4096)], [0, 200, 12829])
     case("row 2: c at h0 = 5, 4096", [m.cube_root(h) for h in (5, 4096)], [437, 4096])
     case("row 3: speed of 5000 at 4, of 160 at 5", [m.speed(5000, 4, DRY), m.speed(160, 5, DRY)], [0, 131072])
-    fast = m.step([5, 0, 161, 0], 4, [0, 0], [0], 4096, 1, 0, DRY, 0, 0)
+    fast = m.step([5, 0, 161, 0], 4, [0, 0], [0], 4096, 1, 0, DRY, 0, 0, 0, 0)
     case("row 4: speed of 161 at 5, so refusal 6", [m.speed(161, 5, DRY), fast], [131891, ("refused", 6)])
     case("row 5: (0,0 | 0,0)", tuple(m.face(0, 0, 0, 0)), (0, 0, 0, 0))
     case("row 6: (4096,0 | 4096,0)", tuple(m.face(4096, 0, 4096, 0)), (0, 16777216, 0, 12829))
@@ -49,10 +52,10 @@ def rows():
 
 # ---- "Run by a program"
 
-def still(n, level, z, dx, dt, dry=DRY):
-    """n flat cells of one level on a flat bed, between walls."""
+def still(n, level, z, dx, dt, dry=DRY, ends=(0, 0, 0, 0)):
+    """n flat cells of one level on a flat bed, between walls or ends of other kinds, with their Qs."""
     now = [level, 0, 0, 0] * n
-    return now, m.step(now, 4 * n, [z] * (n + 1), [0] * n, dx, dt, 0, dry, 0, 0)
+    return now, m.step(now, 4 * n, [z] * (n + 1), [0] * n, dx, dt, 0, dry, *ends)
 
 
 def runs():
@@ -61,9 +64,8 @@ def runs():
     case("run: one flat cell, dt 654", still(1, 4096, 0, 4096, 654)[1], ("refused", 7))
     # 01 leaves the ends of this case open: the inner face decides, whatever they are
     dam = [4096, 0, 0, 0, 0, 0, 0, 0]
-    ends = [(left, right) for left in (0, 1) for right in (0, 1)]
-    case("run: levels 4096 and 0, dt 327", [m.step(dam, 8, [0] * 3, [0] * 2, 4096, 327, 0, DRY, *e) for e in ends],
-         [("refused", 7)] * 4)
+    case("run: levels 4096 and 0, dt 327", [m.step(dam, 8, [0] * 3, [0] * 2, 4096, 327, 0, DRY, *kinds, 0, 0) for kinds in PAIRS],
+         [("refused", 7)] * 9)
     now, answer = still(1024, 4096, 0, 4096, 653)
     case("run: 1,024 cells", answer, ("accepted", now, 0, 0))
     case("run: 1,025 cells", still(1025, 4096, 0, 4096, 653)[1], ("refused", 1))
@@ -97,7 +99,7 @@ def limits():
 def spared_at(*depths, dry=DRY):
     """Which of some flat cells on a flat bed are spared: an s for one that is."""
     n = len(depths)
-    kept = m.spared([m.Cell(h, 0, 0, 0) for h in depths], m.Call(n, [0] * (n + 1), [0] * n, 1, 1, 0, dry, 0, 0))
+    kept = m.spared([m.Cell(h, 0, 0, 0) for h in depths], m.Call(n, [0] * (n + 1), [0] * n, 1, 1, 0, dry, 0, 0, 0, 0))
     return "".join("s" if k else "-" for k in kept)
 
 
@@ -110,7 +112,7 @@ def bank(depth, turned=False):
     cells, bed = [m.Cell(1000, -20, 7, 3), m.Cell(1100 + depth, 202, 5, 1)], [400, 900, 1300]
     if turned:
         cells, bed = mirrored(cells), bed[::-1]
-    done = m.finished(cells, m.Call(2, bed, [0, 0], 1, 1, 0, DRY, 0, 0))
+    done = m.finished(cells, m.Call(2, bed, [0, 0], 1, 1, 0, DRY, 0, 0, 0, 0))
     return [tuple(c) for c in (mirrored(done) if turned else done)]
 
 
@@ -182,7 +184,7 @@ def at_and_over(rule):
 
 def one_cell(h, q, dry):
     """A cell of some depth and discharge on a flat bed, as the rules of a stage are given it."""
-    return [m.Cell(h, 0, q, 0)], m.Call(1, [0, 0], [m.ROUGHEST], 4096, m.LONGEST_DT, 0, dry, 1, 1)
+    return [m.Cell(h, 0, q, 0)], m.Call(1, [0, 0], [m.ROUGHEST], 4096, m.LONGEST_DT, 0, dry, 1, 1, 0, 0)
 
 
 def passes(check, *given):
@@ -237,6 +239,153 @@ def four_holds(seed, count):
          seen["decided"] >= count // 20 and seen["refused"] >= count // 200, True)
 
 
+# ---- E4: the lists, the end face, its speed under 6, and the step as it was without
+
+def at_either_end(kind, Q, level, dx, dt, dry=DRY):
+    """A still cell with an end of some kind and Q at its left and a wall at its right, and the other way round."""
+    return [still(1, level, 0, dx, dt, dry, ends)[1] for ends in ((kind, 0, Q, 0), (0, kind, 0, Q))]
+
+
+def end_list():
+    case("E4: ends of each pair of kinds", [still(1, 900, 0, 4096, 653, ends=(*kinds, 0, 0))[1] for kinds in PAIRS],
+         [("accepted", [900, 0, 0, 0], 0, 0)] * 9)
+    case("E4: an end of kind 3 and 4294967295", [at_either_end(kind, 0, 900, 4096, 653) for kind in (3, 4294967295)],
+         [[("refused", 2)] * 2] * 2)
+    # dry ground, on which the greatest brings 8 in, and at that dry depth has no speed
+    case("E4: Q of 0, 1 and 8388608", [at_either_end(2, Q, 0, 1048576, 1, 64) for Q in (0, 1, 8388608)],
+         [[("accepted", [0, 0, 0, 0], 0, 0)] * 2] * 2 + [[("accepted", [8, -8, 0, 0], 8, 0), ("accepted", [8, 8, 0, 0], 0, -8)]])
+    case("E4: Q of 8388609 and 4294967295", [at_either_end(2, Q, 0, 1048576, 1, 64) for Q in (8388609, 4294967295)],
+         [[("refused", 2)] * 2] * 2)
+    case("E4: a Q at a wall or an open end", [at_either_end(kind, Q, 900, 4096, 100) for kind in (0, 1) for Q in (1, 8388608, 8388609)],
+         [[("refused", 2)] * 2] * 6)
+
+
+def both_ends(Q, h, u, dry=DRY):
+    """The end face at the left and at the right, with the inner side's speed turned with the end."""
+    left, right = m.left_end(m.INFLOW, Q, m.Side(h, u), dry), m.right_end(m.INFLOW, Q, m.Side(h, -u), dry)
+    return tuple(left), tuple(right)
+
+
+def both(F, K, A, S):
+    return (F, K, A, S), (-F, K, A, S)
+
+
+def end_faces():
+    case("E4: Q 4096 into still water of 4096", both_ends(4096, 4096, 0), both(4096, 16777216, 4096, 12829))
+    case("E4: the inner speed counts by its size", [both_ends(4096, 4096, u) for u in (5000, -5000)], [both(4096, 16777216, 4096, 17829)] * 2)
+    # a is 4482, and not added to the speed of Q
+    case("E4: a Q faster than the waves", both_ends(4096, 500, -600), both(4096, 250000, 33554, 33554))
+    case("E4: a Q of 0 is no wall", both_ends(0, 4096, 600), both(0, 16777216, 0, 13429))
+    case("E4: at the dry depth and one over it", [both_ends(90, h, 0, 20) for h in (20, 21)],
+         [both(90, 400, 0, 896), both(90, 441, 385, 17554)])
+    case("E4: at depth 0 and at depth 1", [both_ends(8388608, h, 0) for h in (0, 1)], [both(8388608, 0, 0, 0), both(8388608, 1, 0, 200)])
+
+
+def told_apart(call):
+    """The check that refuses a call, with its number, and what an accepted one gives."""
+    try:
+        return None, m.worked(*call)
+    except m.Refused as r:
+        return (r.number, r.check), None
+
+
+def fast_inflow(Q, h, dry, side):
+    """Which check refuses Q at one end of a still cell, or None."""
+    ends = (2, 0, Q, 0) if side == 0 else (0, 2, 0, Q)
+    return told_apart(([h, 0, 0, 0], 4, [0, 0], [0], 1048576, 1, 0, dry, *ends))[0]
+
+
+def inflow_speed():
+    """The speed is cut toward nought before it is checked: that of 160,001 at 5000 is 131,072."""
+    six = 6, "inflow speed, stage 1"
+    limit = ((160, 5), (161, 5), (160001, 5000), (160002, 5000), (8388608, 262143), (8388608, 262142))
+    case("E4: the speed of Q at the limit and beyond it", [[fast_inflow(Q, h, DRY, side) for Q, h in limit] for side in (0, 1)],
+         [[None, six, None, six, (8, "stage one"), six]] * 2)
+    case("E4: none at the dry depth", [fast_inflow(8388608, d, d, side) != six for d in DRY_DEPTHS for side in (0, 1)], [True] * 128)
+    case("E4: and one over it", [fast_inflow(32 * (d + 1) + more, d + 1, d, side) for d in DRY_DEPTHS for side in (0, 1) for more in (0, 1)],
+         [None, six] * 128)
+
+
+def turned_call(call):
+    """The call as surveyed from the other end."""
+    now, next_len, bed, friction, dx, dt, jump, dry, left, right, left_q, right_q = call
+    return (m.table_of(mirrored(m.cells_of(now))), next_len, bed[::-1], friction[::-1], dx, dt, jump, dry,
+            right, left, right_q, left_q)
+
+
+def turned_answer(answer):
+    if answer[0] == "refused":
+        return answer
+    _, new, W0, Wn = answer
+    return "accepted", m.table_of(mirrored(m.cells_of(new))), -Wn, -W0
+
+
+def turning_holds(seed, count):
+    """Left and right end are each other's mirror image: a sign that is wrong at one of them shows here."""
+    wrong, inflows = 0, Counter()
+    for call in hard.calls(seed, count):
+        # a table of another length has no other end, and the least i32 no other sign
+        if len(call[0]) % 4 == 0 and -hard.I32 not in call[0]:
+            answer = m.step(*call)
+            wrong += m.step(*turned_call(call)) != turned_answer(answer)
+            inflows[call[8] == m.INFLOW, call[9] == m.INFLOW] += answer[0] == "accepted" and call[10] + call[11] > 0
+    seen = inflows[True, False], inflows[False, True], inflows[True, True]
+    case("E4: from the other end the same, in %d calls; accepted with an inflow at the left, the right, both: %d, %d, %d"
+         % (count, *seen), (wrong, min(seen) >= count // 40), (0, True))
+
+
+def without_inflow_holds(seed, count):
+    """Between walls and open ends the step is what it was; the third kind was outside the list."""
+    seen = Counter()
+    for call in hard.calls(seed, count):
+        found = m.step(*call)
+        with before.E4():
+            old = m.step(*call)
+        if m.INFLOW in call[8:10]:
+            seen["new"] += found != old
+            seen["not a 2"] += old not in (("refused", 1), ("refused", 2))
+        elif call[10:] == (0, 0):
+            seen["otherwise"] += found != old
+            seen["accepted"] += old[0] == "accepted"
+        else:
+            # one that has no Q to give would have been stepped
+            seen["refused"] += found == ("refused", 2) and old != found
+    case("E4: without inflow the step answers as before it, %d calls accepted" % seen["accepted"], seen["otherwise"], 0)
+    case("E4: an end of the third kind was a 2 before it, unless a 1", seen["not a 2"], 0)
+    case("E4: that kind decides %d of %d calls, and a Q where none belongs %d" % (seen["new"], count, seen["refused"]),
+         seen["accepted"] >= count // 8 and seen["new"] >= count // 3 and seen["refused"] >= count // 400, True)
+
+
+CHECKS = {(1, "lengths"), (2, "numbers"), (3, "bed"), (4, "friction"), (5, "present state"), (6, "friction speed"),
+          (8, "stage one"), (8, "end state"),
+          *((number, "%s, stage %d" % (check, which)) for which in (1, 2)
+            for number, check in ((6, "face speed"), (6, "inflow speed"), (6, "inner-point speed"), (7, "faces")))}
+
+
+def inflow_holds(seed, count):
+    """What comes in at such an end is known before the step: W is Q*dt/dx, V being that in both stages."""
+    seen, refusing, wrong = Counter(), set(), 0
+    for call in hard.calls(seed, count):
+        n, (dx, dt), (left, right, left_q, right_q) = len(call[3]), call[4:6], call[8:]
+        check, given = told_apart(call)
+        if given is None:
+            if m.INFLOW in (left, right):
+                refusing.add(check)
+            continue
+        _, W0, Wn = given
+        seen[left, right] += 1
+        seen["one cell", left, right] += n == 1
+        for kind, Q, W in ((left, left_q, W0), (right, right_q, -Wn)):
+            if kind == m.INFLOW:
+                wrong += W != Q * dt // dx
+                seen["came in"] += W > 0
+    case("E4: W at such an end is Q*dt/dx, in %d accepted steps more than nought" % seen["came in"],
+         (wrong, seen["came in"] >= count // 10), (0, True))
+    case("E4: each pair of kinds is accepted in one of 50 calls, and in one of 200 on one cell",
+         [kinds for kinds in PAIRS if seen[kinds] < count // 50 or seen[("one cell", *kinds)] < count // 200], [])
+    case("E4: every check refuses some call with such an end", sorted(CHECKS ^ refusing), [])
+
+
 # ---- Demand 3 on random calls
 
 def depths(now, bed):
@@ -264,19 +413,21 @@ def watched(check_range, seen):
 
 
 def calls_hold(seed, count):
-    accepted = unbalanced = leaking = 0
+    accepted = unbalanced = leaking = taking = 0
     seen = Counter()
     with before.replaced(check_range=watched(m.check_range, seen)):
         for call in hard.calls(seed, count):
-            now, _, bed, _, _, _, _, _, left, right = call
+            now, bed, (left, right) = call[0], call[2], call[8:10]
             answer = m.step(*call)
             if answer[0] == "accepted":
                 accepted += 1
                 _, new, W0, Wn = answer
                 unbalanced += water(new, bed) != water(now, bed) + W0 - Wn
                 leaking += (left == 0 and W0 != 0) or (right == 0 and Wn != 0)
+                taking += (left == m.INFLOW and W0 < 0) or (right == m.INFLOW and Wn > 0)
     case("demand 3: water sum over %d accepted of %d random calls" % (accepted, count), unbalanced, 0)
     case("demand 3: nothing passes a wall, same calls", leaking, 0)
+    case("demand 3: nothing leaves where an inflow is given, same calls", taking, 0)
     case("demand 3: no depth below nought in %d finished cells, refused ones too" % seen["depths"], seen["below"], 0)
     case("shortfall: nought in the same cells", seen["corrected"], 0)
     case("random calls: at least three in ten accepted", 10 * accepted >= 3 * count, True)
@@ -312,7 +463,7 @@ def at_rest(rnd, n):
 
 def rest_holds(seed, count):
     rnd = random.Random(seed)
-    accepted = moved = otherwise = shallow = 0
+    accepted = moved = otherwise = shallow = given = 0
     for _ in range(count):
         n = rnd.choice((1, 2, 3, 5, 16))
         now, bed = at_rest(rnd, n)
@@ -321,17 +472,20 @@ def rest_holds(seed, count):
             dt = rnd.choice((1, rnd.randint(1, m.LONGEST_DT)))
             friction = [rnd.randint(0, m.ROUGHEST) for _ in range(n)]
             jump, dry = rnd.choice((0, 0, rnd.randint(0, m.GREATEST_JUMP))), hard.dry_depths(rnd)
-            answer = m.step(now, 4 * n, bed, friction, dx, dt, jump, dry, rnd.randrange(2), rnd.randrange(2))
+            kinds = rnd.choice(PAIRS)
+            answer = m.step(now, 4 * n, bed, friction, dx, dt, jump, dry, *kinds, 0, 0)
             if answer[0] == "accepted":
                 accepted += 1
+                given += m.INFLOW in kinds
                 shallow += any(0 < h <= dry for h in depths(now, bed))
                 moved += answer != ("accepted", now, 0, 0)
             else:
                 otherwise += answer != ("refused", 7)
-    case("demand 3: lake at rest stays, %d accepted of %d steps, %d with water no deeper than the dry depth"
-         % (accepted, 3 * count, shallow), moved, 0)
+    case("demand 3: lake at rest stays, %d accepted of %d steps, %d with water no deeper than the dry depth, %d with a Q of 0"
+         % (accepted, 3 * count, shallow, given), moved, 0)
     case("demand 3: a lake at rest is refused by 7 alone", otherwise, 0)
-    case("lakes at rest: at least half accepted, one in ten so shallow", 2 * accepted >= 3 * count and 10 * shallow >= accepted, True)
+    case("lakes at rest: at least half accepted, of those one in ten so shallow, two in five with a Q of 0",
+         2 * accepted >= 3 * count and 10 * shallow >= accepted and 5 * given >= 2 * accepted, True)
 
 
 def drawn_run(rnd, n):
@@ -350,30 +504,35 @@ def stepped(rnd, now, bed, dx, seen):
     n, brought = len(bed) - 1, 0
     for _ in range(12):
         friction = [rnd.randint(0, 60) for _ in range(n)]
+        kinds = rnd.choice(PAIRS)
+        inflows = [rnd.choice((0, rnd.randint(1, 40), rnd.randint(1, 900))) if kind == m.INFLOW else 0 for kind in kinds]
         call = (now, 4 * n, bed, friction, dx, rnd.randint(1, 1 + dx // 20 % 4096), rnd.choice((0, 10, 999)),
-                hard.dry_depths(rnd), rnd.randrange(2), rnd.randrange(2))
+                hard.dry_depths(rnd), *kinds, *inflows)
         answer = m.step(*call)
         if answer[0] == "refused":
             break
         seen["steps"] += 1
         seen["decided"] += m.step(*with_dry(call, DRY)) != answer
         _, now, W0, Wn = answer
+        seen["inflows"] += (kinds[0] == m.INFLOW and W0 > 0) + (kinds[1] == m.INFLOW and Wn < 0)
         brought += W0 - Wn
     return now, brought
 
 
 def runs_hold(seed, count):
-    """Several steps of one bed, n and dx; dt, J, dry depth, friction and ends differ from step to step."""
+    """Several steps of one bed, n and dx; dt, J, dry depth, friction, ends and Q differ from step to step."""
     rnd, seen, wrong = random.Random(seed), Counter(), 0
     with before.replaced(check_range=watched(m.check_range, seen)):
         for _ in range(count):
             bed, now = drawn_run(rnd, rnd.choice((1, 2, 3, 16)))
             end, brought = stepped(rnd, now, bed, rnd.randint(1, 60000), seen)
             wrong += water(end, bed) != water(now, bed) + brought
-    case("demand 3: water sum over runs, %d accepted steps in %d runs, the dry depth another in each" % (seen["steps"], count), wrong, 0)
+    case("demand 3: water sum over runs, %d accepted steps in %d runs, the dry depth, the ends and Q others in each"
+         % (seen["steps"], count), wrong, 0)
     case("demand 3: no depth below nought in their %d finished cells, refused ones too" % seen["depths"], seen["below"], 0)
-    case("runs: of the steps, six and more a run, the dry depth decides %d, at least one in ten" % seen["decided"],
-         seen["steps"] >= 6 * count and 10 * seen["decided"] >= seen["steps"], True)
+    case("runs: of the steps, six and more a run, the dry depth decides %d and an inflow comes in %d times, each at least one in ten"
+         % (seen["decided"], seen["inflows"]),
+         seen["steps"] >= 6 * count and 10 * min(seen["decided"], seen["inflows"]) >= seen["steps"], True)
 
 
 def main():
@@ -386,6 +545,12 @@ def main():
     dry_places()
     greatest_x()
     four_holds(7, 2000)
+    end_list()
+    end_faces()
+    inflow_speed()
+    turning_holds(8, 2000)
+    without_inflow_holds(9, 2000)
+    inflow_holds(10, 6000)
     calls_hold(3, 3000)
     rest_holds(4, 800)
     runs_hold(5, 250)

@@ -368,7 +368,7 @@ def fault_numbers(rnd, c):
               "jump": (m.GREATEST_JUMP + 1, I32 - 1), "dry": (m.LEAST_DRY - 1, m.MOST_DRY + 1, 2 * I32 - 1),
               "left": (3, 4, 255, 2 * I32 - 1), "left_q": (m.GREATEST_Q + 1, I32, 2 * I32 - 1)}
     beyond["right"], beyond["right_q"] = beyond["left"], beyond["left_q"]
-    name = rnd.choice(sorted(beyond))
+    name = rnd.choice((*sorted(beyond), "dry"))     # twice, so that each value is seen in a few thousand calls
     c[name] = rnd.choice(beyond[name])
     if name.endswith("_q") and rnd.randrange(2):
         # in its range, and where none belongs
@@ -453,7 +453,7 @@ FAULTS = (fault_lengths, fault_numbers, fault_bed, fault_friction, fault_inflow,
 def spoiled(rnd, c):
     # speeds and ranges are set by the bed and the dry depth as they are, and an inflow by the state too, so those
     # are spoilt after them
-    chosen = rnd.sample(FAULTS, rnd.choice((1, 1, 2, 3)))
+    chosen = rnd.sample(FAULTS + (fault_numbers,), rnd.choice((1, 1, 2, 3)))    # there are many numbers
     for fault in sorted(chosen, key=FAULTS.index, reverse=True):
         fault(rnd, c)
     return c
@@ -487,7 +487,7 @@ def hard_call(rnd):
     left, right, left_q, right_q = ends
     c = dict(now=now, next_len=4 * n, bed=bed, friction=friction, dx=dx, dt=dt, jump=jump, dry=dry,
              left=left, right=right, left_q=left_q, right_q=right_q)
-    return spoiled(rnd, c) if rnd.randrange(9) == 0 else c
+    return spoiled(rnd, c) if rnd.randrange(8) == 0 else c
 
 
 def calls(seed, count):

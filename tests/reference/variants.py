@@ -1,4 +1,4 @@
-"""Readings of E2 and E3 that are not their own, each a context in which the model follows it.
+"""Readings of E2, E3 and E4 that are not their own, each a context in which the model follows it.
 
 A case that answers otherwise under one of them tells that reading from the rule.
 """
@@ -114,6 +114,131 @@ def dry_list(least, most):
     return replaced(dry_in_list=lambda dry: least <= dry <= most)
 
 
+# ---- What an end face is where Q is given
+
+def ends(flux):
+    """Such an end with another flux: of Q, the inner side, the dry depth, the way inward and the rule's own flux."""
+    rule = m.inflow
+    return replaced(inflow=lambda Q, inner, dry, inward: flux(Q, inner, dry, inward, rule(Q, inner, dry, inward)))
+
+
+def at_the_right(flux):
+    """Another flux at the right end alone."""
+    return ends(lambda Q, inner, dry, inward, own: own if inward == 1 else flux(own))
+
+
+def at_the_left(flux):
+    return ends(lambda Q, inner, dry, inward, own: own if inward == -1 else flux(own))
+
+
+def carrying(speed):
+    """A is Q times another speed: of Q, the inner side and the dry depth."""
+    return ends(lambda Q, inner, dry, inward, own: own._replace(A=m.quo(Q * speed(Q, inner, dry), m.UNIT)))
+
+
+def topped(S):
+    """S is another: of the speed of Q, the inner speed's size and the wave speed."""
+    return replaced(inflow_S=lambda uQ, inner: S(uQ, abs(inner.u), m.wave_speed(inner.h)))
+
+
+def inflow_speed(speed):
+    """The speed of Q is another, in A, S and 6: of Q, the depth and the dry depth."""
+    def flux(Q, inner, dry, inward):
+        uQ = speed(Q, inner.h, dry)
+        return m.Flux(inward * Q, inner.h * inner.h, m.quo(Q * uQ, m.UNIT), m.inflow_S(uQ, inner))
+
+    def checked(sides, call, which):
+        for kind, Q, inner in ((call.left, call.left_q, sides[0][0]), (call.right, call.right_q, sides[-1][1])):
+            if kind == m.INFLOW and speed(Q, inner.h, call.dry) > m.FASTEST:
+                raise m.Refused(6, "inflow speed, stage %d" % which)
+    return replaced(inflow=flux, check_inflow_speeds=checked)
+
+
+def speed_over(Q, h, over):
+    return m.quo(Q * m.UNIT, h) if h > over else 0
+
+
+def speed_of_stage_one():
+    """The speed of Q is that of stage one in both, in A, S and 6."""
+    first = {}
+
+    def flux(Q, inner, dry, inward):
+        uQ = first.setdefault(inward, m.speed(Q, inner.h, dry))
+        return m.Flux(inward * Q, inner.h * inner.h, m.quo(Q * uQ, m.UNIT), m.inflow_S(uQ, inner))
+    rule = m.check_inflow_speeds
+    return replaced(inflow=flux, check_inflow_speeds=lambda sides, call, which: which == 1 and rule(sides, call, which))
+
+
+def by_mean_depth():
+    """K, A and S are of the end cell's mean depth."""
+    rule = m.fluxes
+
+    def mean(cell):
+        return [side._replace(h=(cell[0].h + cell[1].h) // 2) for side in cell]
+
+    def fluxes(sides, call, which):
+        sides = list(sides)
+        if call.left == m.INFLOW:
+            sides[0] = mean(sides[0])[0], sides[0][1]
+        if call.right == m.INFLOW:
+            sides[-1] = sides[-1][0], mean(sides[-1])[1]
+        return rule(sides, call, which)
+    return replaced(fluxes=fluxes)
+
+
+def outer_water(Q, inner, dry, inward, own):
+    """The face rule, with water outside that is as deep as the inner side and has the speed of Q."""
+    out = inward * m.speed(Q, inner.h, dry)
+    return m.face(inner.h, out, *inner) if inward == 1 else m.face(*inner, inner.h, out)
+
+
+def wall_without(Q, inner, dry, inward, own):
+    """With a Q of 0 the end is a wall."""
+    return own if Q else m.left_end(m.WALL, 0, inner, dry) if inward == 1 else m.right_end(m.WALL, 0, inner, dry)
+
+
+def exactly_fast(sides, call, which):
+    """The exact quotient is checked, not the speed that is cut toward nought."""
+    for kind, Q, inner in ((call.left, call.left_q, sides[0][0]), (call.right, call.right_q, sides[-1][1])):
+        if kind == m.INFLOW and inner.h > call.dry and Q * m.UNIT > m.FASTEST * inner.h:
+            raise m.Refused(6, "inflow speed, stage %d" % which)
+
+
+# ---- Where and when Q stands
+
+def in_stage(which):
+    """Q is given in one stage alone, and is 0 in the other."""
+    rule = m.stage
+
+    def stage(cells, call, number):
+        return rule(cells, call if number == which else call._replace(left_q=0, right_q=0), number)
+    return replaced(stage=stage)
+
+
+def let_through(free):
+    """Any Q of the range is let through at an end of a kind that has none, and not used."""
+    rule = m.inflow_in_list
+    return replaced(inflow_in_list=lambda kind, Q: rule(m.INFLOW if kind == free else kind, Q))
+
+
+def inflow_list(most):
+    """The list of Q has another end; the speed rule then has no limits, as Q may be beyond them."""
+    return replaced(speed=speed_over, inflow_in_list=lambda kind, Q: Q <= most if kind == m.INFLOW else Q == 0)
+
+
+def exchanged():
+    """Each end is given the other's Q."""
+    rule = m.stage
+
+    def stage(cells, call, which):
+        return rule(cells, call._replace(left_q=call.right_q, right_q=call.left_q), which)
+    return replaced(stage=stage)
+
+
+def kinds_to(most):
+    return replaced(kind_in_list=lambda kind: kind <= most)
+
+
 READINGS = {
     "none spared": before.E2,
     "itself alone": lambda: sparing(places=(0,)),
@@ -143,6 +268,41 @@ READINGS = {
     "dry depth to 65": lambda: dry_list(1, 65),
     "dry depth without end": lambda: dry_list(1, 2 ** 32),
     "no dry depth": before.E3,
+    "F outward at the left": lambda: at_the_left(lambda own: own._replace(F=-own.F)),
+    "F outward at the right": lambda: at_the_right(lambda own: own._replace(F=-own.F)),
+    "A turned at the left": lambda: at_the_left(lambda own: own._replace(A=-own.A)),
+    "A turned at the right": lambda: at_the_right(lambda own: own._replace(A=-own.A)),
+    "no K": lambda: ends(lambda Q, inner, dry, inward, own: own._replace(K=0)),
+    "K of the wet alone": lambda: ends(lambda Q, inner, dry, inward, own: own if inner.h > dry else own._replace(K=0)),
+    "A by the inner speed": lambda: carrying(lambda Q, inner, dry: abs(inner.u)),
+    "A by both speeds": lambda: carrying(lambda Q, inner, dry: m.quo(m.speed(Q, inner.h, dry) + abs(inner.u), 2)),
+    "no A": lambda: carrying(lambda Q, inner, dry: 0),
+    "S without the speed of Q": lambda: topped(lambda uQ, u, a: u + a),
+    "S without the inner speed": lambda: topped(lambda uQ, u, a: max(uQ, a)),
+    "S of the greater speed": lambda: topped(lambda uQ, u, a: max(uQ, u) + a),
+    "S of the speed of Q": lambda: topped(lambda uQ, u, a: uQ),
+    "no 6 of an inflow": lambda: replaced(check_inflow_speeds=before.none_to_check),
+    "6 of the exact speed": lambda: replaced(check_inflow_speeds=exactly_fast),
+    "speed at every depth": lambda: inflow_speed(lambda Q, h, dry: speed_over(Q, h, 0)),
+    "speed at the dry depth": lambda: inflow_speed(lambda Q, h, dry: speed_over(Q, h, dry - 1)),
+    "4 in the speed of Q": lambda: inflow_speed(lambda Q, h, dry: speed_over(Q, h, 4)),
+    "speed of stage one": speed_of_stage_one,
+    "by the mean depth": by_mean_depth,
+    "nothing at depth 0": lambda: ends(lambda Q, inner, dry, inward, own: own if inner.h else own._replace(F=0)),
+    "nothing at the dry depth": lambda: ends(lambda Q, inner, dry, inward, own: own if inner.h > dry else own._replace(F=0)),
+    "water outside": lambda: ends(outer_water),
+    "a wall without Q": lambda: ends(wall_without),
+    "Q in stage one": lambda: in_stage(1),
+    "Q in stage two": lambda: in_stage(2),
+    "Qs exchanged": exchanged,
+    "Q at a wall": lambda: let_through(m.WALL),
+    "Q at an open end": lambda: let_through(m.OPEN),
+    "Q to 8388607": lambda: inflow_list(m.GREATEST_Q - 1),
+    "Q to 8388609": lambda: inflow_list(m.GREATEST_Q + 1),
+    "Q without end": lambda: inflow_list(2 ** 32),
+    "kinds to 3": lambda: kinds_to(3),
+    "kinds without end": lambda: kinds_to(2 ** 32),
+    "no inflow": before.E4,
 }
 
 
