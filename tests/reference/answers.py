@@ -5,7 +5,7 @@
 
 The check that gave each refusal goes to standard error. Where a name says that one refusal comes
 before another, both are looked for here, and it is an error if either does not apply. So it is where
-a case is answered alike under a reading of E2 or E3 that it is to tell from the rule.
+a case is answered alike under a reading of E2, E3 or E4 that it is to tell from the rule.
 """
 import contextlib
 import itertools
@@ -39,9 +39,17 @@ BOTH = {
     "point 6 before 7, two": ("inner-point speed, stage 2", "faces, stage 2"),
     "point 6 before 8, end": ("inner-point speed, stage 2", "end state"),
     "7 before 8, end": ("faces, stage 2", "end state"),
+    "inflow 6 before 7, left": ("inflow speed, stage 1", "faces, stage 1"),
+    "inflow 6 before 7, right": ("inflow speed, stage 1", "faces, stage 1"),
+    "inflow 6 before 8, left": ("inflow speed, stage 1", "stage one"),
+    "inflow 6 before 8, right": ("inflow speed, stage 1", "stage one"),
+    "inflow 6 before 7, two, left": ("inflow speed, stage 2", "faces, stage 2"),
+    "inflow 6 before 7, two, right": ("inflow speed, stage 2", "faces, stage 2"),
+    "7 before inflow 6": ("faces, stage 1", "inflow speed, stage 2"),
+    "8 before inflow 6": ("stage one", "inflow speed, stage 2"),
 }
 
-# the readings of E2 and E3 that a case tells from the rule
+# the readings of E2, E3 and E4 that a case tells from the rule
 TOLD = {
     "bank on the right": ("none spared", "itself alone", "left and itself"),
     "bank on the left": ("none spared", "itself alone", "right and itself"),
@@ -77,6 +85,66 @@ TOLD = {
     "bank 12, dry 20": ("4 in sparing", "neighbours alone"),
     "bank 3, dry 1": ("4 in sparing", "no dry depth"),
     "1024 cells, half 12 deep": ("4 in sparing", "4 in drying the end", "none spared"),
+    "ends 2 0": ("F outward at the left", "A turned at the left", "no K", "no inflow"),
+    "ends 2 1": ("F outward at the left", "A turned at the left", "no A", "no inflow"),
+    "ends 2 2": ("F outward at the right", "A turned at the right", "Qs exchanged", "Q in stage one", "Q in stage two"),
+    "ends 0 2": ("F outward at the right", "A turned at the right", "no K", "no inflow"),
+    "ends 1 2": ("F outward at the right", "A turned at the right", "no A", "A by the inner speed"),
+    "ends 3 0": ("kinds to 3", "kinds without end"),
+    "ends 0 3": ("kinds to 3", "kinds without end"),
+    "ends 4294967295 0": ("kinds without end",),
+    "ends 0 4294967295": ("kinds without end",),
+    "Q 1 left": ("F outward at the left", "nothing at depth 0", "water outside"),
+    "Q 1 right": ("F outward at the right", "nothing at depth 0", "water outside"),
+    "Q 8388608 left": ("Q to 8388607", "speed at every depth", "no inflow"),
+    "Q 8388608 right": ("Q to 8388607", "speed at every depth", "no inflow"),
+    "Q 8388609 left": ("Q to 8388609", "Q without end"),
+    "Q 8388609 right": ("Q to 8388609", "Q without end"),
+    "Q 4294967295 left": ("Q without end",),
+    "Q 4294967295 right": ("Q without end",),
+    "Q 1 at a left wall": ("Q at a wall",),
+    "Q 1 at a right wall": ("Q at a wall",),
+    "Q 1 at a left open": ("Q at an open end",),
+    "Q 1 at a right open": ("Q at an open end",),
+    "Q 8388608 at a wall": ("Q at a wall", "no inflow"),
+    "Q 8388608 at an open": ("Q at an open end", "no inflow"),
+    "Q 8388609 before 3": ("Q to 8388609", "Q without end"),
+    "filled, left": ("A turned at the left", "nothing at depth 0", "S of the greater speed", "speed of stage one"),
+    "filled, right": ("A turned at the right", "nothing at depth 0", "S of the greater speed", "speed of stage one"),
+    "overfilled, left": ("nothing at depth 0", "Q in stage two"),
+    "overfilled, right": ("nothing at depth 0", "Q in stage two"),
+    "flooded, both": ("F outward at the left", "F outward at the right", "nothing at depth 0"),
+    "dry, Q 4097, left": ("S without the speed of Q", "speed of stage one", "Q in stage one"),
+    "dry, Q 4097, right": ("S without the speed of Q", "speed of stage one", "Q in stage one"),
+    "film, Q 4097, left": ("speed at every depth", "nothing at the dry depth", "A by both speeds"),
+    "film, Q 4097, right": ("speed at every depth", "nothing at the dry depth", "A by both speeds"),
+    "dry end": ("nothing at depth 0", "by the mean depth"),
+    "Q at 20, dry 20, left": ("speed at the dry depth", "4 in the speed of Q", "nothing at the dry depth"),
+    "Q at 20, dry 20, right": ("speed at the dry depth", "4 in the speed of Q", "nothing at the dry depth"),
+    "Q at 12, dry 20": ("speed at every depth", "4 in the speed of Q"),
+    "Q at 3, dry 1": ("4 in the speed of Q",),
+    "Q at 60 of 100, dry 64": ("K of the wet alone", "by the mean depth"),
+    "fast Q, dt 250, left": ("S of the greater speed",),
+    "fast Q, dt 250, right": ("S of the greater speed",),
+    "fast Q, dt 251, left": ("S without the speed of Q",),
+    "fast Q, dt 251, right": ("S without the speed of Q",),
+    "slow Q, dt 607, left": ("S without the inner speed", "S of the speed of Q"),
+    "slow Q, dt 607, right": ("S without the inner speed", "S of the speed of Q"),
+    "Q 161 at 5, left": ("no 6 of an inflow",),
+    "Q 161 at 5, right": ("no 6 of an inflow",),
+    "Q 161 at 5, dry 5": ("speed at the dry depth", "4 in the speed of Q"),
+    "Q 160001 at 5000, left": ("6 of the exact speed",),
+    "Q 160001 at 5000, right": ("6 of the exact speed",),
+    "Q 160002 at 5000, left": ("no 6 of an inflow",),
+    "Q 160002 at 5000, right": ("no 6 of an inflow",),
+    "inflow, stage two, left": ("no 6 of an inflow", "speed of stage one"),
+    "inflow, stage two, right": ("no 6 of an inflow", "speed of stage one"),
+    "3 cells, Q 900 700": ("A turned at the left", "A turned at the right", "by the mean depth", "Qs exchanged"),
+    "64 cells, Q 900 700": ("F outward at the left", "F outward at the right", "A turned at the left", "A turned at the right"),
+    "65 cells, Q 900 700": ("F outward at the left", "F outward at the right", "A turned at the left", "A turned at the right"),
+    "1024 cells, Q 900 700": ("F outward at the left", "F outward at the right", "A turned at the left", "A turned at the right"),
+    "lake, Q 0": ("no K", "no inflow"),
+    "moving, Q 0": ("a wall without Q", "water outside"),
 }
 
 
@@ -131,9 +199,9 @@ def answered(name, now, next_table, bed, friction, lent, *given):
     try:
         table, w, v = model.worked(now, lent, bed, friction, *given)
     except model.Refused as r:
-        print("%-24s %d %s" % (name, r.number, r.check), file=sys.stderr)
+        print("%-30s %d %s" % (name, r.number, r.check), file=sys.stderr)
         return "%s: refused %d" % (name, r.number)
-    print("%-24s accepted" % name, file=sys.stderr)
+    print("%-30s accepted" % name, file=sys.stderr)
     next_table[:lent] = table
     return "%s: accepted %d %d" % (name, w, v)
 

@@ -1,9 +1,9 @@
 // Answers of the step at the edges of its checks: the scope document's own cases, each refusal in each
 // of its places, calls to which two refusals apply, where the first in order is the answer, water
-// beside a bank, where slopes are spared, and thin water, with a dry depth other than 4 in each of its
-// places. A line gives the answer, the volumes, and what `next` holds after the call: -77 where it is
-// as it was. The cases are in the file stdin, which says how to read them. What it must write comes
-// from tests/reference/answers.py.
+// beside a bank, where slopes are spared, thin water, with a dry depth other than 4 in each of its
+// places, and an inflow at either end. A line gives the answer, the volumes, and what `next` holds
+// after the call: -77 where it is as it was. The cases are in the file stdin, which says how to read
+// them. What it must write comes from tests/reference/answers.py.
 mod read;
 mod show;
 
@@ -14,16 +14,25 @@ use read::lent;
 use read::take_line;
 use show::line_of;
 use step::Answer;
+use step::End;
 use step::Given;
 
 fn called(line: &[u8], state: &[i32], next: &mut [i32], bed: &[i32], friction: &[u16]) -> Answer {
+    let left = End {
+        kind: given(line, 4),
+        q: given(line, 6),
+    };
+    let right = End {
+        kind: given(line, 5),
+        q: given(line, 7),
+    };
     let call = Given {
         dx: given(line, 0),
         dt: given(line, 1),
         jump: given(line, 2),
         dry: given(line, 3),
-        left: given(line, 4),
-        right: given(line, 5),
+        left: left,
+        right: right,
     };
     step::step(state, next, bed, friction, call)
 }

@@ -149,7 +149,7 @@ pub fn fill_friction(t: &mut [u16], line: &[u8]) {
     }
 }
 
-// Number j beside the tables: dx, dt, J, the dry depth and the kinds of the two ends.
+// Number j beside the tables: dx, dt, J, the dry depth, the kinds of the two ends and the Q of each.
 pub fn given(line: &[u8], j: usize) -> u32 {
     let l = list(line, 4);
     (l[j % 24] % 0x1_0000_0000) as u32
