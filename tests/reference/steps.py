@@ -4,9 +4,11 @@
     python3 tests/reference/steps.py > crates/steps/stdout
 
 It draws the same calls as the program, and the model answers each. A number with a sign is one here,
-where the program keeps its 64 bits. How the answers are spread goes to standard error.
+where the program keeps its 64 bits. How the answers are spread goes to standard error. It is an error
+if some check refuses no call that has an inflow, or if some pair of ends is not accepted on one cell.
 """
 import collections
+import itertools
 import os
 import sys
 
@@ -200,10 +202,57 @@ def fill_state(state, halves, r):
         state[4 * i:4 * i + 4] = drawn_cell(r, halves[i], halves[i + 1], x)
 
 
+# ---- Ends
+
+def at(table, i):
+    return table[i] if i < len(table) else 0
+
+
+def shown_depth(h):
+    return h if 0 <= h <= 262144 else 262144
+
+
+def depth_at_left(state, bed):
+    return shown_depth(at(state, 0) - at(state, 1) - at(bed, 0))
+
+
+def depth_at_right(state, bed, n):
+    k = 4 * n - 4
+    return shown_depth(at(state, k) + at(state, k + 1) - at(bed, n))
+
+
+def inflow(h, x):
+    k = x % 32
+    if k < 4:
+        q = 0
+    elif k < 7:
+        q = above(x, 1, 60)
+    elif k < 26:
+        q = pick(x, (h << (x >> 8) % 7) >> 4)
+    elif k < 28:
+        q = pick(x, 9000)
+    elif k < 30:
+        q = above(x, 32 * h, 3 + h // 4096)
+    elif k == 30:
+        q = pick(x, 8388608)
+    else:
+        q = below(x, 8388608, 1)
+    return min(q, 8388608)
+
+
+def ends(state, bed, n, x):
+    """The kinds of the two ends and the Q of each."""
+    a = following(x)
+    b = following(a)
+    left, right = (x >> 8) % 3, (x >> 16) % 3
+    return (left, right, inflow(depth_at_left(state, bed), a) if left == 2 else 0,
+            inflow(depth_at_right(state, bed, n), b) if right == 2 else 0)
+
+
 # ---- Faults
 
 Lent = collections.namedtuple("Lent", "state next bed friction")
-Given = collections.namedtuple("Given", "dx dt jump dry left right")
+Given = collections.namedtuple("Given", "dx dt jump dry left right left_q right_q")
 LENGTHS, NUMBERS, BED, FRICTION, STATE = 1, 2, 4, 8, 16
 
 
@@ -231,7 +280,7 @@ def wrong_lengths(l, x):
 
 def wrong_number(g, x):
     much = x & 8
-    k = x % 9
+    k = x % 13
     if k == 0:
         return g._replace(dx=0)
     if k == 1:
@@ -247,8 +296,17 @@ def wrong_number(g, x):
     if k == 6:
         return g._replace(dry=2**32 - 1 if much else 65)
     if k == 7:
-        return g._replace(left=2**31 + 1 if much else 2)
-    return g._replace(right=2**32 - 1 if much else 2)
+        return g._replace(left=2**31 + 2 if much else 3)
+    if k == 8:
+        return g._replace(right=2**32 - 1 if much else 3)
+    if k == 9:
+        return g._replace(left_q=2**32 - 1 if much else 8388609)
+    if k == 10:
+        return g._replace(right_q=2**31 if much else 8388609)
+    # in its range, and wrong where none belongs
+    if k == 11:
+        return g._replace(left_q=4096 if much else 1)
+    return g._replace(right_q=8388608 if much else 1)
 
 
 def place(n, x):
@@ -343,10 +401,10 @@ def after(s, number):
     return s._replace(tries=0 if dt == low else tries, low=low, high=high, dt=dt)
 
 
-def given(s, f, x):
+def given(s, f, state, bed, x):
     k = x % 8
     jump = (0, 0, 1, pick(x, 10), pick(x, 50), pick(x, 3000), pick(x, 262144), 262144)[k]
-    g = Given(s.dx, s.dt, jump, s.dry, (x >> 8) % 2, (x >> 9) % 2)
+    g = Given(s.dx, s.dt, jump, s.dry, *ends(state, bed, s.n, following(x)))
     return wrong_number(g, x >> 10) if f & NUMBERS else g
 
 
@@ -355,8 +413,11 @@ def lent(n, f, x):
     return wrong_lengths(l, x) if f & LENGTHS else l
 
 
+PAIRS = list(itertools.product((model.WALL, model.OPEN, model.INFLOW), repeat=2))
+INFLOW = "with an inflow, "
 checks = collections.Counter()
 sizes = collections.Counter()
+pairs = collections.Counter()
 
 
 def answered(t, l, g):
@@ -368,6 +429,9 @@ def answered(t, l, g):
     except model.Refused as r:
         table, w, v, number, check = None, 0, 0, r.number, "%d %s" % (r.number, r.check)
     checks[check] += 1
+    pairs[g.left, g.right, l.friction == 1] += number == 0
+    if model.INFLOW in (g.left, g.right):
+        checks[INFLOW + check] += 1
     sizes[l.friction, "accepted" if number == 0 else "refused"] += 1
     return number, table, w, v
 
@@ -381,7 +445,7 @@ def one(t, s, total, x):
     t.spoil(f, s.n, s.dry, b)
     l = lent(s.n, f, c)
     after_call = [(b >> 34) + i for i in range(min(l.next + 8, 4104))]
-    number, table, w, v = answered(t, l, given(s, f, c))
+    number, table, w, v = answered(t, l, given(s, f, t.state[:l.state], t.bed[:l.bed], c))
     total = mixed(total, number)
     if number == 0:
         total = mixed(mixed(total, w), v)
@@ -406,10 +470,16 @@ def main():
             counts[number] += 1
             s = after(s, number)
         print("steps", block, *counts, "%016x" % total)
+    seen = {check for check in checks if not check.startswith(INFLOW)}
+    assert all(INFLOW + check in checks for check in seen), seen
+    assert all(pairs[left, right, True] for left, right in PAIRS), pairs
     for check in sorted(checks):
         print("%6d  %5.1f %%  %s" % (checks[check], 100 * checks[check] / (BLOCKS * CALLS), check), file=sys.stderr)
     for n in sorted({n for n, _ in sizes}):
         print("n = %4d: %5d accepted, %5d refused" % (n, sizes[n, "accepted"], sizes[n, "refused"]), file=sys.stderr)
+    for left, right in PAIRS:
+        print("ends %d %d: %5d accepted, %5d of them on one cell"
+              % (left, right, pairs[left, right, False] + pairs[left, right, True], pairs[left, right, True]), file=sys.stderr)
 
 
 if __name__ == "__main__":

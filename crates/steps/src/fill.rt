@@ -35,13 +35,13 @@ pub fn put_friction(t: &mut [u16], i: usize, x: u64) {
     }
 }
 
+pub fn at(t: &[i32], i: usize) -> u64 {
+    if i < t.len() { bits(wide(t[i])) } else { 0 }
+}
+
 // Half of a bed value.
 pub fn found(bed: &[i32], i: usize) -> u64 {
-    if i < bed.len() {
-        bits(wide(bed[i])) >> 1
-    } else {
-        0
-    }
+    at(bed, i) >> 1
 }
 
 pub fn put_cell(t: &mut [i32], i: usize, c: Cell) {

@@ -1,9 +1,11 @@
 // The step over 100 blocks of 200 calls that are hard: dry depths of the whole list, cells about as
-// deep and dry ones, steep beds, jumps, speeds, depths and discharges at their limits, a dt that closes
-// in on the longest accepted, and faults. A line gives how many calls of a block were accepted, how
+// deep and dry ones, steep beds, jumps, speeds, depths and discharges at their limits, ends of every
+// kind with inflows of the whole list, a dt that closes in on the longest accepted, and faults. A line
+// gives how many calls of a block were accepted, how
 // many were refused with each number from 1 to 8, and the running sum of the answers, the volumes and
 // all that `next` held after each call. What it must write comes from tests/reference/steps.py.
 mod draw;
+mod ends;
 mod fill;
 mod kinds;
 mod spoil;
@@ -13,6 +15,8 @@ use draw::bits;
 use draw::following;
 use draw::mixed;
 use draw::pick;
+use ends::left_end;
+use ends::right_end;
 use fill::fill_pattern;
 use fill::summed;
 use kinds::cells;
@@ -141,14 +145,15 @@ fn made(
     bed: &[i32],
     friction: &[u16],
 ) -> Answer {
-    let c = third(x);
+    let left = left_end(x, state, bed);
+    let right = right_end(x, cells(r), state, bed);
     let call = Given {
         dx: given(0, dx(r), x),
         dt: given(1, dt, x),
-        jump: given(2, jump(c), x),
+        jump: given(2, jump(third(x)), x),
         dry: given(3, dry(r), x),
-        left: given(4, (c >> 8) % 2, x),
-        right: given(5, (c >> 9) % 2, x),
+        left: left,
+        right: right,
     };
     step::step(state, next, bed, friction, call)
 }

@@ -93,10 +93,25 @@ pub fn lent(k: u64, r: u64, m: usize, x: u64) -> usize
     upto(spoilt_length(k, n, third(x)), m)
 }
 
-// A number outside its list, just or by much: dx, dx, dt, dt, J, dry depth, dry depth and the two ends.
+// A number outside its list, just or by much: dx, dx, dt, dt, J, dry depth, dry depth, the kinds of the
+// two ends and the Q of each; then a Q of each that is wrong where none belongs.
 fn wrong_number(x: u64) -> u64 {
-    let k = (x % 9) as usize;
-    let just = [0u64, 1048577, 0, 4097, 262145, 0, 65, 2, 2];
+    let k = (x % 13) as usize;
+    let just = [
+        0u64,
+        1048577,
+        0,
+        4097,
+        262145,
+        0,
+        65,
+        3,
+        3,
+        8388609,
+        8388609,
+        1,
+        1,
+    ];
     let much = [
         0u64,
         0x8000_0000,
@@ -105,17 +120,21 @@ fn wrong_number(x: u64) -> u64 {
         0xffff_ffff,
         260,
         0xffff_ffff,
-        0x8000_0001,
+        0x8000_0002,
         0xffff_ffff,
+        0xffff_ffff,
+        0x8000_0000,
+        4096,
+        8388608,
     ];
     if x & 8 == 0 { just[k] } else { much[k] }
 }
 
-// Number k beside the tables: dx, dt, J, the dry depth and the kinds of the two ends. It is `right` where it
-// has no fault.
+// Number k beside the tables: dx, dt, J, the dry depth, the kinds of the two ends and the Q of each. It is
+// `right` where it has no fault.
 pub fn given(k: u64, right: u64, x: u64) -> u32 {
     let y = third(x) >> 10;
-    let wrong = [0u64, 0, 1, 1, 2, 3, 3, 4, 5][(y % 9) as usize];
+    let wrong = [0u64, 0, 1, 1, 2, 3, 3, 4, 5, 6, 7, 6, 7][(y % 13) as usize];
     let g = if faults(x) & NUMBERS != 0 && wrong == k {
         wrong_number(y)
     } else {
