@@ -2,7 +2,9 @@
  * with pages behind and before them that may not be touched: a read or a write one element off
  * would end this program. The tables that are only read lie in pages that cannot be written.
  * Checks the answer, that a refused call leaves next and volumes as they were, and that an
- * accepted one keeps the water. The last line is 'N passed, M failed'. */
+ * accepted one keeps the water and takes in what is given at an end of kind 2. Every step is made
+ * with its numbers in a row and again with them filled by name. The last line is
+ * 'N passed, M failed'. */
 #define _DEFAULT_SOURCE
 #include "fence.h"
 #include <bassoonsun.h>
@@ -25,7 +27,7 @@ typedef struct {
     const char *what;
     uint32_t due;
     int now_more, next_more, bed_more;      /* elements over what fits n */
-    uint32_t dx, dt, jump, dry, left, right;
+    uint32_t dx, dt, jump, dry, left, right, left_q, right_q;
     int32_t last_bed;                       /* the last face's bed, */
     uint16_t last_friction;                 /* the last cell's friction */
     int32_t last_level, last_discharge;     /* and means */
@@ -93,15 +95,35 @@ static int keeps_water(const Lent *t)
     return sum == 0 && volumes[0] != MARK && volumes[1] != MARK;
 }
 
+/* What comes in at an end of kind 2 is known before the step, and turned rightward. */
+static int takes_in(const Lent *t, const Call *c)
+{
+    const int64_t *volumes = t->volumes.first;
+    return (c->left != 2 || volumes[0] == (int64_t)c->left_q * c->dt / c->dx) &&
+           (c->right != 2 || volumes[1] == -((int64_t)c->right_q * c->dt / c->dx));
+}
+
+static uint32_t make_step(const Lent *t, const Call *c, int by_name)
+{
+    struct bassoonsun_call call = {.dx = c->dx, .dt = c->dt, .jump = c->jump, .dry = c->dry, .left = c->left,
+                                   .right = c->right, .left_q = c->left_q, .right_q = c->right_q};
+    if (by_name)
+        return bassoonsun_step_call(t->now.first, t->now_len, t->next.first, t->next_len, t->bed.first, t->bed_len,
+                                    t->friction.first, t->n, call, t->volumes.first);
+    return bassoonsun_step(t->now.first, t->now_len, t->next.first, t->next_len, t->bed.first, t->bed_len,
+                           t->friction.first, t->n, c->dx, c->dt, c->jump, c->dry, c->left, c->right,
+                           c->left_q, c->right_q, t->volumes.first);
+}
+
 static void try_call(const Call *c, size_t n, int at_end)
 {
-    Lent t = lend(c, n, at_end);
-    uint32_t given = bassoonsun_step(t.now.first, t.now_len, t.next.first, t.next_len,
-                                     t.bed.first, t.bed_len, t.friction.first, n,
-                                     c->dx, c->dt, c->jump, c->dry, c->left, c->right, t.volumes.first);
-    check(given == c->due, c->what, n, at_end);
-    check(given == 0 ? keeps_water(&t) : untouched(&t), c->what, n, at_end);
-    unfence(t.now), unfence(t.next), unfence(t.bed), unfence(t.friction), unfence(t.volumes);
+    for (int by_name = 0; by_name <= 1; by_name++) {
+        Lent t = lend(c, n, at_end);
+        uint32_t given = make_step(&t, c, by_name);
+        check(given == c->due, c->what, n, at_end);
+        check(given == 0 ? keeps_water(&t) && takes_in(&t, c) : untouched(&t), c->what, n, at_end);
+        unfence(t.now), unfence(t.next), unfence(t.bed), unfence(t.friction), unfence(t.volumes);
+    }
 }
 
 #define GOOD .dx = DX, .dt = DT, .jump = 64, .dry = DRY, .left = 0, .right = 1, \
@@ -114,6 +136,10 @@ static const Call calls[] = {
     {GOOD, .what = "accepted, ends the other way", .due = 0, .left = 1, .right = 0},
     {GOOD, .what = "accepted, dry depth 1", .due = 0, .dry = 1},
     {GOOD, .what = "accepted, dry depth 64", .due = 0, .dry = 64},
+    {GOOD, .what = "accepted, inflow at the left", .due = 0, .left = 2, .left_q = 4000},
+    {GOOD, .what = "accepted, inflow at the right", .due = 0, .right = 2, .right_q = 3000},
+    {GOOD, .what = "accepted, inflow at both ends", .due = 0, .left = 2, .left_q = 4000, .right = 2, .right_q = 3000},
+    {GOOD, .what = "accepted, inflow of 0", .due = 0, .left = 2, .right = 2},
     {GOOD, .what = "now too long", .due = 1, .now_more = 1},
     {GOOD, .what = "now too short", .due = 1, .now_more = -1},
     {GOOD, .what = "next too long", .due = 1, .next_more = 1},
@@ -128,8 +154,14 @@ static const Call calls[] = {
     {GOOD, .what = "dry depth 0", .due = 2, .dry = 0},
     {GOOD, .what = "dry depth 65", .due = 2, .dry = 65},
     {GOOD, .what = "dry depth 4294967295", .due = 2, .dry = UINT32_MAX},
-    {GOOD, .what = "left end 2", .due = 2, .left = 2},
-    {GOOD, .what = "right end 2", .due = 2, .right = 2},
+    {GOOD, .what = "left end 3", .due = 2, .left = 3},
+    {GOOD, .what = "right end 3", .due = 2, .right = 3},
+    {GOOD, .what = "right end 4294967295", .due = 2, .right = UINT32_MAX},
+    {GOOD, .what = "left Q 8388609", .due = 2, .left = 2, .left_q = 8388609},
+    {GOOD, .what = "right Q 8388609", .due = 2, .right = 2, .right_q = 8388609},
+    {GOOD, .what = "right Q 4294967295", .due = 2, .right = 2, .right_q = UINT32_MAX},
+    {GOOD, .what = "a Q at a wall", .due = 2, .left_q = 1},
+    {GOOD, .what = "a Q at an open end", .due = 2, .right_q = 1},
     {GOOD, .what = "odd bed", .due = 3, .last_bed = 127},
     {GOOD, .what = "bed below nought", .due = 3, .last_bed = -2},
     {GOOD, .what = "bed too high", .due = 3, .last_bed = 1048578},
@@ -138,7 +170,10 @@ static const Call calls[] = {
     {GOOD, .what = "level too high", .due = 5, .last_level = 300000},
     {GOOD, .what = "discharge too large", .due = 5, .last_discharge = 8388609},
     {GOOD, .what = "water too fast", .due = 6, .last_discharge = 8388608},
+    {GOOD, .what = "left inflow too fast", .due = 6, .left = 2, .left_q = 8388608},
+    {GOOD, .what = "right inflow too fast", .due = 6, .right = 2, .right_q = 8388608},
     {GOOD, .what = "time step too long", .due = 7, .dt = 4096},
+    {GOOD, .what = "time step too long for the inflow", .due = 7, .left = 2, .left_q = 100000},
 };
 
 /* The faces and the root. Their tables are fenced too, and change only where 0 is given. */

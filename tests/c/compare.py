@@ -54,7 +54,7 @@ def wide_step(rnd, call):
     if rnd.randrange(10) == 0:
         more = 1 << 16
         return (now + [0] * (4 * more), next_len + 4 * more, bed + [0] * more, friction + [0] * more, *numbers)
-    k = rnd.randrange(6)
+    k = rnd.randrange(len(numbers))
     numbers[k] = (numbers[k] + rnd.choice((1 << 8, 1 << 16, 1 << 31))) % (1 << 32)
     return (now, next_len, bed, friction, *numbers)
 
@@ -112,6 +112,14 @@ def decided_by_e3(call, found):
         return worked(call) != found
 
 
+def decided_by_e4(call, found):
+    """Whether the answer was another when an end was a wall or open, and no Q was given."""
+    if m.INFLOW not in call[8:10] and call[10:] == (0, 0):
+        return False
+    with before.E4():
+        return worked(call) != found
+
+
 def dry_way(dry, number, decided):
     """How a dry depth at an edge of its list was answered, or None."""
     if number == 0 and dry in (m.LEAST_DRY, m.MOST_DRY):
@@ -121,30 +129,91 @@ def dry_way(dry, number, decided):
     return None
 
 
+def ends(call):
+    """Of each end its kind, its Q and the depth that the present state shows there."""
+    now, _, bed, *_, left, right, left_q, right_q = call
+    return zip((left, right), (left_q, right_q), hard.inner_depths(now, bed))
+
+
+def wrong_inflow_ways(call):
+    """Which Q alone is why check 2 refuses a call: one beyond its list, or one where none belongs."""
+    try:
+        m.check_numbers(*call[4:10], 0, 0)
+    except m.Refused:
+        return
+    for kind, Q, _ in ends(call):
+        if Q > m.GREATEST_Q:
+            yield "2 numbers, Q beyond its list"
+        elif not m.inflow_in_list(kind, Q):
+            yield "2 numbers, Q at %s" % ("a wall" if kind == m.WALL else "an open end")
+
+
+def inflow_ways(call):
+    """What is particular in the inflows of an accepted call that bring water in."""
+    dx, dt, _, dry = call[4:8]
+    for kind, Q, h in ends(call):
+        if kind == m.INFLOW and Q * dt >= dx:
+            if h <= dry:
+                yield "accepted, inflow onto dry ground" if h == 0 else "accepted, inflow without a speed"
+            elif m.speed(Q, h, dry) > m.wave_speed(h):
+                yield "accepted, inflow faster than its waves"
+            else:
+                yield "accepted, slow inflow"
+
+
+def end_ways(call, number, given):
+    """How a call was answered with its kinds of end and Qs."""
+    left, right = call[8:10]
+    one = ", one cell" if len(call[3]) == 1 else ""
+    if m.INFLOW in (left, right):
+        yield "with an inflow, %s" % ("%d %s" % (number, given) if number else "accepted")
+    if number == 0:
+        yield "accepted, ends %d %d" % (left, right)
+        yield "accepted, ends %d %d%s" % (left, right, one)
+        yield from inflow_ways(call)
+    elif number == 2:
+        yield from wrong_inflow_ways(call)
+    elif number == 8 and m.INFLOW in (left, right) and max(call[10:]) * call[5] // call[4] >= 1 << 32:
+        yield "8 stage one, more comes in than 32 bits hold"
+
+
 def step_due(call):
-    _, next_len, _, friction, _, _, _, dry, _, _ = call
+    next_len, friction, dry = call[1], call[3], call[7]
     (number, given), by_e2 = worked_and_decided(call)
-    by_e3 = decided_by_e3(call, (number, given))
+    by_e3, by_e4 = decided_by_e3(call, (number, given)), decided_by_e4(call, (number, given))
     size = ", long tables" if len(friction) > SHORT else ""
-    also = [way for way in (by_e2 and "decided by E2" + size, by_e3 and "decided by E3" + size,
-                            dry_way(dry, number, by_e3)) if way]
+    also = [way for way in (by_e2 and "decided by E2" + size, by_e3 and "decided by E3" + size, by_e4 and "decided by E4" + size,
+                            dry_way(dry, number, by_e3), *set(end_ways(call, number, given))) if way]
     if number:
         return Due(number, "%d %s" % (number, given), MARK * (4 * next_len + 16), also)
     state, left, right = given
     return Due(0, "accepted" + LONG.get(len(friction), ""), table("i", state) + table("q", (left, right)), also)
 
 
+# Each check, and once in how many calls it must refuse one.
+CHECKS = {
+    "1 lengths": 100, "2 numbers": 100, "3 bed": 200, "4 friction": 200, "5 present state": 500,
+    "6 friction speed": 100, "6 face speed, stage 1": 100, "6 inflow speed, stage 1": 50, "6 inner-point speed, stage 1": 500,
+    "7 faces, stage 1": 50, "8 stage one": 50,
+    "6 face speed, stage 2": 100, "6 inflow speed, stage 2": 150, "6 inner-point speed, stage 2": 200,
+    "7 faces, stage 2": 50, "8 end state": 1000,
+}
+PAIRS = ["accepted, ends %d %d" % pair for pair in itertools.product((m.WALL, m.OPEN, m.INFLOW), repeat=2)]
+
 STEP_WAYS = {
     "accepted": 4, "accepted, longest reach": 5000, "accepted, 64 cells": 1000, "accepted, 65 cells": 1000,
-    "1 lengths": 100, "2 numbers": 100, "3 bed": 200, "4 friction": 200, "5 present state": 500,
-    "6 friction speed": 100, "6 face speed, stage 1": 100, "6 inner-point speed, stage 1": 500,
-    "7 faces, stage 1": 50, "8 stage one": 50,
-    "6 face speed, stage 2": 100, "6 inner-point speed, stage 2": 200,
-    "7 faces, stage 2": 50, "8 end state": 1000,
+    **CHECKS,
     "decided by E2": 50, "decided by E2, long tables": 2500,
     "decided by E3": 25, "decided by E3, long tables": 2500,
+    "decided by E4": 4, "decided by E4, long tables": 500,
     "accepted, dry depth 1": 100, "accepted, dry depth 64": 100,
     **dict.fromkeys(["2 numbers, dry depth %d" % dry for dry in DRY_BEYOND], 2500),
+    **dict.fromkeys(PAIRS, 50), **dict.fromkeys([pair + ", one cell" for pair in PAIRS], 200),
+    "with an inflow, accepted": 10, **{"with an inflow, " + check: 4 * share for check, share in CHECKS.items()},
+    "accepted, inflow onto dry ground": 200, "accepted, inflow without a speed": 250,
+    "accepted, slow inflow": 50, "accepted, inflow faster than its waves": 100,
+    "2 numbers, Q beyond its list": 500, "2 numbers, Q at a wall": 1500, "2 numbers, Q at an open end": 1500,
+    "8 stage one, more comes in than 32 bits hold": 500,
 }
 
 

@@ -4,8 +4,8 @@
  *
  * All numbers are little-endian, as the library's x86-64 has them. A call of
  *
- *   step    is ten u32: the lengths of now, next, bed and friction, then dx, dt, jump, dry, left
- *           and right; then the numbers of now, bed and friction
+ *   step    is twelve u32: the lengths of now, next, bed and friction, then dx, dt, jump, dry,
+ *           left, right, left_q and right_q; then the numbers of now, bed and friction
  *   face    is four i64: the depth and the speed on the left, then those on the right
  *   double  is four doubles, likewise
  *   root    is one double
@@ -62,7 +62,7 @@ static Fenced marked(size_t bytes, int at_end)
 }
 
 typedef struct {
-    uint32_t now_len, next_len, bed_len, friction_len, dx, dt, jump, dry, left, right;
+    uint32_t now_len, next_len, bed_len, friction_len, dx, dt, jump, dry, left, right, left_q, right_q;
 } StepCall;
 
 static void serve_steps(int at_end)
@@ -76,7 +76,8 @@ static void serve_steps(int at_end)
         Fenced volumes = marked(2 * sizeof(int64_t), at_end);
         uint32_t answer = bassoonsun_step(now.first, c.now_len, next.first, c.next_len,
                                           bed.first, c.bed_len, friction.first, c.friction_len,
-                                          c.dx, c.dt, c.jump, c.dry, c.left, c.right, volumes.first);
+                                          c.dx, c.dt, c.jump, c.dry, c.left, c.right, c.left_q, c.right_q,
+                                          volumes.first);
         give(&answer, sizeof answer);
         give(next.first, c.next_len * sizeof(int32_t));
         give(volumes.first, 2 * sizeof(int64_t));

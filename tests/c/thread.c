@@ -28,7 +28,8 @@ static void *make_step(void *given)
 {
     Trial *trial = given;
     size_t n = trial->cells;
-    trial->refusal = bassoonsun_step(now, 4 * n, next, 4 * n, bed, n + 1, friction, n, 4096, 204, 64, 4, 0, 1, volumes);
+    trial->refusal = bassoonsun_step(now, 4 * n, next, 4 * n, bed, n + 1, friction, n, 4096, 204, 64, 4, 2, 1, 4096, 0,
+                                     volumes);
     const uint64_t *lowest = trial->stack;
     while (*lowest == PATTERN)
         lowest++;
@@ -68,7 +69,7 @@ static int try_reach(size_t cells, size_t most)
 int main(void)
 {
     for (int i = 0; i < MOST_CELLS; i++) {
-        now[4 * i] = 8192 - i; /* a sloping pool that flows toward its open end */
+        now[4 * i] = 8192 - i; /* a sloping pool that flows from its inflow toward its open end */
         friction[i] = 30;
     }
     /* The short reach comes first, so that what the linker does in a program's first call is counted with it. */

@@ -95,6 +95,12 @@ def deep(rnd, fast, dry):
     return flowing(rnd, top - abs(h1), h1, fast)
 
 
+def brimming(rnd, fast, dry):
+    """Nearly still, and at the depth limit at one face, so that a little more is an 8: after stage one, or at the end alone."""
+    h1 = rnd.choice((0, rnd.randint(-m.DEEPEST // 2, m.DEEPEST // 2)))
+    return m.DEEPEST - abs(h1) - rnd.choice((0, 0, 1, 3)), h1, rnd.choice((0, rnd.randint(-3000, 3000))), 0
+
+
 def full(rnd, fast, dry):
     """Near the discharge limit: deep enough that the speed still fits."""
     h0 = rnd.randint(m.DEEPEST // 4, m.DEEPEST)
@@ -113,7 +119,7 @@ def racing(rnd, fast, dry):
     return h0, h1, sign * q0, sign * q1
 
 
-KINDS = (still_bed, thin, shallow, ordinary, deep, full, racing)
+KINDS = (still_bed, thin, shallow, ordinary, deep, brimming, full, racing)
 MIXES = (
     (shallow, shallow, thin, still_bed),
     (ordinary,),
@@ -124,6 +130,7 @@ MIXES = (
     (ordinary, ordinary, thin),
     (deep,),
     (deep, ordinary),
+    (brimming,),
     (full,),
     (full, deep, racing),
     (racing, shallow),
@@ -232,7 +239,8 @@ def inflow_at(rnd, h):
     elif how < 5:
         Q = rnd.choice((1, rnd.randint(1, 60)))
     elif how < 16:
-        Q = h * rnd.randint(0, rnd.choice((300, 2000, 9000, 30000))) // m.UNIT + rnd.randrange(3)
+        deep_ = h if h > m.MOST_DRY else rnd.choice((h, 400, 4000))
+        Q = deep_ * rnd.randint(0, rnd.choice((300, 2000, 9000, 30000))) // m.UNIT + rnd.randrange(3)
     elif how < 19:
         Q = rnd.randint(1, rnd.choice((900, 20000)))
     elif how < 21:
@@ -282,13 +290,10 @@ def greatest_S(now, bed, friction, dt, dry, ends):
 
 
 def filled(rnd, now, bed, dry, ends, dx, dt):
-    """dx, or a longer one where an inflow onto thin water, whose speed no check bounds, would bring too much in; or
-    the shortest, with which the most comes in."""
+    """dx, or a longer one where an inflow onto thin water, whose speed no check bounds, would bring too much in."""
     thin_ = [Q for Q, h in zip(ends[2:], inner_depths(now, bed)) if h <= dry]
-    if max(thin_, default=0) == 0:
+    if max(thin_, default=0) == 0 or rnd.randrange(5) == 0:
         return dx
-    if rnd.randrange(5) == 0:
-        return rnd.choice((dx, 1))
     most = rnd.choice((rnd.randint(1, 99), rnd.randint(1, 20000), rnd.randint(1, 20000), m.DEEPEST // 2 + rnd.randint(-9, 9)))
     return max(dx, max(thin_) * dt // most)
 
@@ -459,6 +464,18 @@ def spoiled(rnd, c):
     return c
 
 
+# ---- The most that can come in
+
+def flooded(rnd, c):
+    """Dry ground, where S is 0 and nothing but check 8 bounds what comes in: 2^35 at most from each end."""
+    bed = c["bed"]
+    c["now"] = [number for zl, zr in zip(bed, bed[1:]) for number in ((zl + zr) // 2, (zr - zl) // 2, 0, 0)]
+    c["dx"], c["dt"] = rnd.choice((1, 1, 2, 1000)), m.LONGEST_DT - rnd.choice((0, 0, 1))
+    c["left"], c["right"] = rnd.choice(((m.INFLOW, m.WALL), (m.OPEN, m.INFLOW), (m.INFLOW, m.INFLOW)))
+    for kind, Q in (("left", "left_q"), ("right", "right_q")):
+        c[Q] = m.GREATEST_Q - rnd.choice((0, 0, 1, 4000000)) if c[kind] == m.INFLOW else 0
+
+
 # ---- Whole calls
 
 ORDER = ("now", "next_len", "bed", "friction", "dx", "dt", "jump", "dry", "left", "right", "left_q", "right_q")
@@ -487,6 +504,8 @@ def hard_call(rnd):
     left, right, left_q, right_q = ends
     c = dict(now=now, next_len=4 * n, bed=bed, friction=friction, dx=dx, dt=dt, jump=jump, dry=dry,
              left=left, right=right, left_q=left_q, right_q=right_q)
+    if rnd.randrange(150) == 0:
+        flooded(rnd, c)
     return spoiled(rnd, c) if rnd.randrange(8) == 0 else c
 
 
