@@ -272,7 +272,8 @@ def both(F, K, A, S):
 
 def end_faces():
     case("E4: Q 4096 into still water of 4096", both_ends(4096, 4096, 0), both(4096, 16777216, 4096, 12829))
-    case("E4: the inner speed counts by its size", [both_ends(4096, 4096, u) for u in (5000, -5000)], [both(4096, 16777216, 4096, 17829)] * 2)
+    case("E4: the inner speed counts by its size", [both_ends(4096, 4096, u) for u in (5000, -5000)],
+         [both(4096, 16777216, 4096, 17829)] * 2)
     # a is 4482, and not added to the speed of Q
     case("E4: a Q faster than the waves", both_ends(4096, 500, -600), both(4096, 250000, 33554, 33554))
     case("E4: a Q of 0 is no wall", both_ends(0, 4096, 600), both(0, 16777216, 0, 13429))
@@ -301,9 +302,10 @@ def inflow_speed():
     limit = ((160, 5), (161, 5), (160001, 5000), (160002, 5000), (8388608, 262143), (8388608, 262142))
     case("E4: the speed of Q at the limit and beyond it", [[fast_inflow(Q, h, DRY, side) for Q, h in limit] for side in (0, 1)],
          [[None, six, None, six, (8, "stage one"), six]] * 2)
-    case("E4: none at the dry depth", [fast_inflow(8388608, d, d, side) != six for d in DRY_DEPTHS for side in (0, 1)], [True] * 128)
-    case("E4: and one over it", [fast_inflow(32 * (d + 1) + more, d + 1, d, side) for d in DRY_DEPTHS for side in (0, 1) for more in (0, 1)],
-         [None, six] * 128)
+    ends = [(d, side) for d in DRY_DEPTHS for side in (0, 1)]
+    case("E4: Q has no speed at the dry depth", [fast_inflow(8388608, d, d, side) != six for d, side in ends], [True] * 128)
+    case("E4: and one over it the limit", [[fast_inflow(32 * (d + 1) + more, d + 1, d, side) for more in (0, 1)] for d, side in ends],
+         [[None, six]] * 128)
 
 
 def turned_call(call):

@@ -446,10 +446,10 @@ def fault_speed(rnd, c):
 
 def fault_inflow(rnd, c):
     """An inflow whose speed is beyond the limit, just or by far, or would be if the water there were deeper than the dry depth."""
-    side = rnd.randrange(2)
-    kind, Q = (("left", "left_q"), ("right", "right_q"))[side]
-    h = max(0, inner_depths(c["now"], c["bed"])[side])
-    c[kind], c[Q] = m.INFLOW, min(m.GREATEST_Q, fastest_inflow(h) + rnd.choice((1, 1, 9, 5000)))
+    end = rnd.randrange(2)
+    name = ("left", "right")[end]
+    h = max(0, inner_depths(c["now"], c["bed"])[end])
+    c[name], c[name + "_q"] = m.INFLOW, min(m.GREATEST_Q, fastest_inflow(h) + rnd.choice((1, 1, 9, 5000)))
 
 
 FAULTS = (fault_lengths, fault_numbers, fault_bed, fault_friction, fault_inflow, fault_range, fault_speed)
@@ -472,8 +472,8 @@ def flooded(rnd, c):
     c["now"] = [number for zl, zr in zip(bed, bed[1:]) for number in ((zl + zr) // 2, (zr - zl) // 2, 0, 0)]
     c["dx"], c["dt"] = rnd.choice((1, 1, 2, 1000)), m.LONGEST_DT - rnd.choice((0, 0, 1))
     c["left"], c["right"] = rnd.choice(((m.INFLOW, m.WALL), (m.OPEN, m.INFLOW), (m.INFLOW, m.INFLOW)))
-    for kind, Q in (("left", "left_q"), ("right", "right_q")):
-        c[Q] = m.GREATEST_Q - rnd.choice((0, 0, 1, 4000000)) if c[kind] == m.INFLOW else 0
+    for name in ("left", "right"):
+        c[name + "_q"] = m.GREATEST_Q - rnd.choice((0, 0, 1, 4000000)) if c[name] == m.INFLOW else 0
 
 
 # ---- Whole calls

@@ -173,16 +173,16 @@ def by_mean_depth():
     """K, A and S are of the end cell's mean depth."""
     rule = m.fluxes
 
-    def mean(cell):
-        return [side._replace(h=(cell[0].h + cell[1].h) // 2) for side in cell]
+    def mean(cell, side):
+        return side._replace(h=(cell[0].h + cell[1].h) // 2)
 
     def fluxes(sides, call, which):
-        sides = list(sides)
+        means = list(sides)
         if call.left == m.INFLOW:
-            sides[0] = mean(sides[0])[0], sides[0][1]
+            means[0] = mean(sides[0], sides[0][0]), means[0][1]
         if call.right == m.INFLOW:
-            sides[-1] = sides[-1][0], mean(sides[-1])[1]
-        return rule(sides, call, which)
+            means[-1] = means[-1][0], mean(sides[-1], sides[-1][1])
+        return rule(means, call, which)
     return replaced(fluxes=fluxes)
 
 
