@@ -129,7 +129,7 @@ def outer_side(kind, inner):
 
 
 def inflow_S(uQ, inner):
-    """ "the greater of that speed and the inner speed's size plus the inner wave speed" (E4). """
+    """The speed of Q, or the inner speed's size with the wave speed added, if that is more (E4)."""
     return max(uQ, abs(inner.u) + wave_speed(inner.h))
 
 
@@ -226,7 +226,7 @@ def checked_speed(q, h, dry, check):
 
 
 def check_inflow_speeds(sides, call, which):
-    """E4: the speed of Q at each end's inner depth "falls under 6 with the other face speeds"."""
+    """E4: the speed of Q at each end's inner depth is one of the face speeds."""
     for kind, Q, inner in ((call.left, call.left_q, sides[0][0]), (call.right, call.right_q, sides[-1][1])):
         if kind == INFLOW:
             checked_speed(Q, inner.h, call.dry, "inflow speed, stage %d" % which)
@@ -420,7 +420,7 @@ def kind_in_list(kind):
 
 
 def inflow_in_list(kind, Q):
-    """E4: "Q out of range, or not 0 at an end of another kind, is a 2"."""
+    """E4: in its range where an inflow is given, and 0 at an end of another kind."""
     return 0 <= Q <= GREATEST_Q if kind == INFLOW else Q == 0
 
 
