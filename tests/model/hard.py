@@ -261,7 +261,7 @@ def onto_dry(rnd, now, bed, dx, dt, ends):
     """The ends, with a Q that brings a whole volume in where the ground is dry, in half the calls.
 
     With any other the depth that stage one leaves there is a little less than Q asks for, and stage two
-    nearly always refuses the speed of Q with a 7.
+    nearly always refuses the speed of Q with a 7; or with a 6, where dx is more than 64*dt.
     """
     def even(kind, Q, h):
         whole = dx // gcd(dx, dt)
