@@ -19,6 +19,8 @@ enum {
     MOST_CELLS = 1024,
     DRY = 4, /* the dry depth of what is timed */
     MOST_DRY = 64,
+    INFLOW = 2, /* the kind of an end that is given a discharge */
+    MOST_DISCHARGE = 8388608,
     STEPS = 200, /* of one run, always from the same start */
     ROUNDS = 21, /* in each, all are timed one after the other */
     RANDOM_CALLS = 20000,
@@ -27,14 +29,14 @@ enum {
 
 typedef uint32_t Step(const int32_t *, size_t, int32_t *, size_t, const int32_t *, size_t,
                       const uint16_t *, size_t, uint32_t, uint32_t, uint32_t, uint32_t, uint32_t,
-                      uint32_t, int64_t *);
+                      uint32_t, uint32_t, uint32_t, int64_t *);
 
 enum { LIBRARY, PLAIN, PLAIN_ROOT, WRITINGS };
 static Step *const writings[WRITINGS] = {bassoonsun_step, plain_step, plain_root_step};
 
 typedef struct {
     size_t n;
-    uint32_t dx, dt, jump, dry, left, right;
+    uint32_t dx, dt, jump, dry, left, right, left_q, right_q;
     int32_t bed[MOST_CELLS + 1];
     uint16_t friction[MOST_CELLS];
     int32_t start[4 * MOST_CELLS];
@@ -89,7 +91,7 @@ static const size_t lengths[LENGTHS] = {16, 64, 128, 1024}; /* in cells */
 static uint32_t call(Step *step, const Case *c, const int32_t *now, int32_t *next, int64_t *volumes)
 {
     return step(now, 4 * c->n, next, 4 * c->n, c->bed, c->n + 1, c->friction, c->n, c->dx, c->dt, c->jump,
-                c->dry, c->left, c->right, volumes);
+                c->dry, c->left, c->right, c->left_q, c->right_q, volumes);
 }
 
 /* All of next and both volumes count, written or not: a refusal must leave them alone. */
@@ -127,20 +129,32 @@ static void draw_cell(Case *c, size_t i, int64_t kind)
     memcpy(&c->start[4 * i], cell, sizeof cell);
 }
 
+/* What an end is given: most inflows are those of ditches, some are none or the greatest there are. */
+static uint32_t drawn_inflow(uint32_t kind)
+{
+    int64_t size = drawn(0, 7);
+    if (kind != INFLOW)
+        return 0;
+    return (uint32_t)(size == 0 ? 0 : size == 1 ? drawn(0, MOST_DISCHARGE) : size == 2 ? drawn(0, 40) : drawn(0, 3 * METRE));
+}
+
 /* One number in some calls is spoiled, so that each refusal comes up. */
 static void spoil(Case *c)
 {
     size_t i = (size_t)drawn(0, (int64_t)c->n - 1);
-    switch (drawn(0, 12)) {
+    switch (drawn(0, 15)) {
     case 0: c->dt = (uint32_t)drawn(0, 5000); break;
     case 1: c->bed[i] = (int32_t)drawn(-3, 1048579); break;
     case 2: c->friction[i] = (uint16_t)drawn(190, 65535); break;
     case 3: c->start[4 * i + 2] = (int32_t)drawn(INT32_MIN, INT32_MAX); break;
     case 4: c->start[4 * i] += (int32_t)drawn(-300, 262144); break;
     case 5: c->start[4 * i + 2] = (int32_t)drawn(-8388608, 8388608); break;
-    case 6: c->right = 2; break;
+    case 6: c->right = 3; break;
     case 7: c->n = (size_t)drawn(0, 1) * 1025; break;
     case 8: c->dry = (uint32_t)drawn(0, 1) * (MOST_DRY + 1); break;
+    case 9: c->left_q = (uint32_t)drawn(MOST_DISCHARGE, MOST_DISCHARGE + 1); break;
+    case 10: c->right_q = (uint32_t)drawn(1, 3); break;
+    case 11: c->left = (uint32_t)drawn(0, 1); break; /* its inflow stays */
     default: break;
     }
 }
@@ -150,7 +164,9 @@ static void draw(Case *c)
     size_t n = (size_t)(drawn(0, 199) == 0 ? drawn(900, 1024) : drawn(1, 24));
     *c = (Case){.n = n, .dx = (uint32_t)drawn(500, 80000), .dt = (uint32_t)drawn(1, 300),
                 .jump = (uint32_t)drawn(0, 1) * (uint32_t)drawn(0, 500), .dry = (uint32_t)drawn(1, MOST_DRY),
-                .left = (uint32_t)drawn(0, 1), .right = (uint32_t)drawn(0, 1)};
+                .left = (uint32_t)drawn(0, INFLOW), .right = (uint32_t)drawn(0, INFLOW)};
+    c->left_q = drawn_inflow(c->left);
+    c->right_q = drawn_inflow(c->right);
     int64_t steep = drawn(0, 1) * 2000;
     for (size_t i = 0; i <= n; i++)
         c->bed[i] = (int32_t)(10000 + drawn(-steep, steep)) & ~1;

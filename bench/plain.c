@@ -27,7 +27,8 @@ enum {
     ROUGHEST = 200,
     MOST_JUMP = 262144,
     MOST_DRY = 64,
-    OPEN = 1
+    OPEN = 1, /* the kinds of an end; 0 is a wall */
+    INFLOW = 2
 };
 
 typedef struct {
@@ -50,6 +51,7 @@ typedef struct {
     const uint16_t *friction;
     int64_t dx, dt, jump, dry;
     uint32_t left, right;
+    int64_t left_q, right_q; /* into the reach; 0 unless the end is an inflow */
 } Reach;
 
 static int64_t least(int64_t a, int64_t b) { return a < b ? a : b; }
@@ -112,6 +114,9 @@ static Flux face(int64_t hl, int64_t ul, int64_t hr, int64_t ur)
 }
 
 /* ---- Checks 1 to 5 */
+
+/* A discharge belongs to an end with an inflow, and to no other. */
+static bool end_in_order(uint32_t kind, uint32_t q) { return kind == INFLOW ? q <= MOST_DISCHARGE : kind <= OPEN && q == 0; }
 
 static bool bed_in_order(const Reach *r)
 {
@@ -200,15 +205,45 @@ static bool show(const Reach *r, const Cell *cells, Shown *shown)
     return true;
 }
 
+/* Gives false where an inflow is too fast for the depth at its end. */
+static bool inflows_slow_enough(const Reach *r, const Shown *shown)
+{
+    return speed(r, r->left_q, shown[0].hl) <= FASTEST && speed(r, r->right_q, shown[r->n - 1].hr) <= FASTEST;
+}
+
+/* An end with a given inflow has no outer side. h and u are the inner depth and speed; F points into the reach. */
+static Flux inflow(const Reach *r, int64_t q, int64_t h, int64_t u)
+{
+    int64_t own = speed(r, q, h);
+    return (Flux){q, h * h, q * own / UNIT, greatest(own, llabs(u) + wave_speed(h))};
+}
+
+static Flux left_end(const Reach *r, int64_t h, int64_t u)
+{
+    if (r->left == INFLOW)
+        return inflow(r, r->left_q, h, u);
+    return face(h, r->left == OPEN ? u : -u, h, u);
+}
+
+/* Only F knows left from right: what comes in here runs leftward. */
+static Flux right_end(const Reach *r, int64_t h, int64_t u)
+{
+    if (r->right == INFLOW) {
+        Flux flux = inflow(r, r->right_q, h, u);
+        flux.F = -flux.F;
+        return flux;
+    }
+    return face(h, u, h, r->right == OPEN ? u : -u);
+}
+
 /* Gives false where the time step is too long for some face. */
 static bool cross(const Reach *r, const Shown *shown, Flux *flux)
 {
     size_t n = r->n;
-    const Shown *first = &shown[0], *last = &shown[n - 1];
-    flux[0] = face(first->hl, r->left == OPEN ? first->ul : -first->ul, first->hl, first->ul);
+    flux[0] = left_end(r, shown[0].hl, shown[0].ul);
     for (size_t i = 1; i < n; i++)
         flux[i] = face(shown[i - 1].hr, shown[i - 1].ur, shown[i].hl, shown[i].ul);
-    flux[n] = face(last->hr, last->ur, last->hr, r->right == OPEN ? last->ur : -last->ur);
+    flux[n] = right_end(r, shown[n - 1].hr, shown[n - 1].ur);
     for (size_t i = 0; i <= n; i++)
         if (2 * r->dt * flux[i].S > UNIT * r->dx)
             return false;
@@ -234,7 +269,7 @@ static Cell updated(const Reach *r, size_t i, const Cell *c, const Shown *s, con
 static uint32_t stage(const Reach *r, const Cell *cells, Flux *flux, Cell *unfinished)
 {
     Shown shown[MOST_CELLS];
-    if (!show(r, cells, shown))
+    if (!show(r, cells, shown) || !inflows_slow_enough(r, shown))
         return 6;
     if (!cross(r, shown, flux))
         return 7;
@@ -374,14 +409,15 @@ static void store(const Cell *cells, size_t n, int32_t *next)
 
 uint32_t STEP(const int32_t *now, size_t now_len, int32_t *next, size_t next_len, const int32_t *bed,
               size_t bed_len, const uint16_t *friction, size_t n, uint32_t dx, uint32_t dt,
-              uint32_t jump, uint32_t dry, uint32_t left, uint32_t right, int64_t volumes[2])
+              uint32_t jump, uint32_t dry, uint32_t left, uint32_t right, uint32_t left_q,
+              uint32_t right_q, int64_t volumes[2])
 {
     if (n < 1 || n > MOST_CELLS || now_len != 4 * n || next_len != 4 * n || bed_len != n + 1)
         return 1;
     if (dx < 1 || dx > LONGEST_DX || dt < 1 || dt > LONGEST_DT || jump > MOST_JUMP || dry < 1 ||
-        dry > MOST_DRY || left > OPEN || right > OPEN)
+        dry > MOST_DRY || !end_in_order(left, left_q) || !end_in_order(right, right_q))
         return 2;
-    Reach r = {n, bed, friction, dx, dt, jump, dry, left, right};
+    Reach r = {n, bed, friction, dx, dt, jump, dry, left, right, left_q, right_q};
     Cell cells[MOST_CELLS];
     if (!bed_in_order(&r))
         return 3;

@@ -54,10 +54,18 @@ extern "C" {
  *             differ. 4, about 1 mm, suits an ordinary ditch; a lined flume takes less, a reed bed
  *             more. It may be another in each step
  *   left      kind of the left end: 0 a wall, 1 open (the water outside is as deep and as fast as
- *             that at the end face)
+ *             that at the end face), 2 a given inflow
  *   right     kind of the right end, likewise
+ *   left_q    Q, the discharge that comes into the reach at the left end: 0 to 8388608 (2048 m2/s)
+ *             at an end of kind 2, and 0 at a wall or an open end. At either end it is counted into
+ *             the reach, never below 0. Both may be others in each step, and so may the kinds: a
+ *             hydrograph is a Q for each step
+ *   right_q   the same at the right end
  *   volumes   what crossed face 0 and what crossed face n, rightward positive, as depth over one
- *             cell: volumes[0] came in at the left, volumes[1] went out at the right
+ *             cell: volumes[0] came in at the left, volumes[1] went out at the right. At an end of
+ *             kind 2 it is known before the step: volumes[0] is left_q*dt/dx, volumes[1] is
+ *             -(right_q*dt/dx), both without their fractions. What is cut off does not come in: to
+ *             lose little, choose dt so that Q*dt is a multiple of dx or just above one
  *
  * When 0 is given, all of next and both volumes are written, and the sum of the n mean depths of
  * next is that of now + volumes[0] - volumes[1], exactly. (The mean depth of a cell is the mean
@@ -68,11 +76,13 @@ extern "C" {
  *
  *   1  the tables do not fit each other: friction_len is 0 or over 1024, or now_len or next_len is
  *      not 4n, or bed_len is not n + 1
- *   2  dx, dt, jump, dry, left or right is outside its range
+ *   2  dx, dt, jump, dry, left, right, left_q or right_q is outside its range, or a Q is not 0 at
+ *      an end of another kind than 2
  *   3  a bed value is out of range or odd
  *   4  a friction value is over 200
  *   5  the present state has a face depth or a face discharge out of range
- *   6  the water is faster than 32 m/s: in a cell before friction, at a face, or at a Gauss point
+ *   6  the water is faster than 32 m/s: in a cell before friction, at a face, or at a Gauss point;
+ *      or Q would be at the depth of its end face, if that is over the dry depth
  *   7  the time step is too long for the top speed S at some face: 2*dt*S is over 4096*dx. Halve
  *      dt, say, and make the same call again
  *   8  after stage one, or at the end, a depth or a discharge is too large. It is never a depth
@@ -94,15 +104,38 @@ extern "C" {
  * S being the greatest over the reach of |u| + a, where u = 4096*q/h is the speed of water of depth
  * h and discharge q, 0 where h is at most the dry depth, and a, the speed of its waves, is the
  * square root of 40181.76*h; these are 1/4096 m/s. bassoonsun_face(h, u, h, u, flux) gives |u| + a
- * as flux[3]. Where water stands beside dry ground, count a twice. In 1 m of still water (h 4096,
- * u 0) S is 12829, and cells of 1 m (dx 4096) take a dt of 435.
+ * as flux[3]. Where water stands beside dry ground, count a twice; at an end of kind 2 count the
+ * speed of Q at the depth there too. In 1 m of still water (h 4096, u 0) S is 12829, and cells of
+ * 1 m (dx 4096) take a dt of 435.
  *
  * The call works on the stack: in about 16 KiB for a reach of at most 64 cells, and in about 214 KiB
  * for a longer one. Lend a worker thread that calls it with long reaches 512 KiB. */
 uint32_t bassoonsun_step(const int32_t *now, size_t now_len, int32_t *next, size_t next_len,
                          const int32_t *bed, size_t bed_len, const uint16_t *friction,
                          size_t friction_len, uint32_t dx, uint32_t dt, uint32_t jump, uint32_t dry,
-                         uint32_t left, uint32_t right, int64_t volumes[2]);
+                         uint32_t left, uint32_t right, uint32_t left_q, uint32_t right_q,
+                         int64_t volumes[2]);
+
+/* The numbers of one step, to be filled by name, since in a row they are easily exchanged:
+ *
+ *     struct bassoonsun_call call = {.dx = 4096, .dt = 317, .jump = 64, .dry = 4, .left = 2, .left_q = 2048};
+ *
+ * A field that is not named is 0: an end is then a wall, and a dx, a dt or a dry depth that was
+ * forgotten is refused with 2. (C++ before C++20: `bassoonsun_call call = {};`, then `call.dx = 4096;`
+ * and so on.) */
+struct bassoonsun_call {
+    uint32_t dx, dt, jump, dry, left, right, left_q, right_q;
+};
+
+/* bassoonsun_step with its numbers from a struct; all that is said there holds. */
+static inline uint32_t bassoonsun_step_call(const int32_t *now, size_t now_len, int32_t *next, size_t next_len,
+                                            const int32_t *bed, size_t bed_len, const uint16_t *friction,
+                                            size_t friction_len, struct bassoonsun_call call,
+                                            int64_t volumes[2])
+{
+    return bassoonsun_step(now, now_len, next, next_len, bed, bed_len, friction, friction_len, call.dx, call.dt,
+                           call.jump, call.dry, call.left, call.right, call.left_q, call.right_q, volumes);
+}
 
 /* What crosses one face between water of depth hl and speed ul on its left and of depth hr and
  * speed ur on its right, in whole numbers. Depths 0 to 262144 (64 m), speeds within 131072 of
