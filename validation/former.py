@@ -16,13 +16,15 @@ import model
 
 
 def stepped_before_e2(reach, steps, every):
-    """The states as reach.stepped gives them, and None, or the first refused step and its number."""
+    """The states as reach.stepped gives them, and None, or the first refused step and its number.
+
+    No end has an inflow, which came later."""
     now = [number for cell in reach.cells for number in cell]
     crossed, states = [0, 0], [State((0, 0), list(reach.cells))]
     with before.E2():
         for k in range(1, steps + 1):
             answer = model.step(now, len(now), reach.bed, reach.friction, reach.dx, reach.dt, reach.jump,
-                                reach.dry, reach.left, reach.right)
+                                reach.dry, reach.left, reach.right, 0, 0)
             if answer[0] == "refused":
                 return states, (k, answer[1])
             _, now, first, last = answer

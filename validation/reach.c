@@ -3,7 +3,8 @@
  *     reach STEPS EVERY
  *
  * Read, as whole numbers parted by blanks: n dx dt J dry left right, then n + 1 beds, n Manning values
- * and 4n numbers of the state, all in the library's units. Written, at the start and after every
+ * and 4n numbers of the state, all in the library's units; then for each step left_q and right_q, of
+ * which the last given are those of all later steps too. Written, at the start and after every
  * EVERY steps: one line with what crossed face 0 and face n since the start, and the 4n numbers.
  *
  * The exit status is 0 when every step was accepted. */
@@ -17,7 +18,7 @@ enum { MOST_CELLS = 1024 };
 
 typedef struct {
     size_t cells;
-    uint32_t dx, dt, jump, dry, left, right;
+    struct bassoonsun_call call;
     int32_t bed[MOST_CELLS + 1];
     uint16_t friction[MOST_CELLS];
     int32_t now[4 * MOST_CELLS], next[4 * MOST_CELLS];
@@ -43,12 +44,23 @@ static int read_friction(uint16_t *table, size_t count)
 /* Gives 1 when a whole reach was read. Only its size is judged here; the library judges the rest. */
 static int read_reach(Reach *reach)
 {
+    struct bassoonsun_call *call = &reach->call;
     if (scanf("%zu %" SCNu32 " %" SCNu32 " %" SCNu32 " %" SCNu32 " %" SCNu32 " %" SCNu32, &reach->cells,
-              &reach->dx, &reach->dt, &reach->jump, &reach->dry, &reach->left, &reach->right) != 7 ||
+              &call->dx, &call->dt, &call->jump, &call->dry, &call->left, &call->right) != 7 ||
         reach->cells > MOST_CELLS)
         return 0;
     return read_numbers(reach->bed, reach->cells + 1) && read_friction(reach->friction, reach->cells) &&
            read_numbers(reach->now, 4 * reach->cells);
+}
+
+/* The inflows of the next step; where no more are given, those of the last one stay. */
+static void read_inflows(struct bassoonsun_call *call)
+{
+    uint32_t left, right;
+    if (scanf("%" SCNu32 " %" SCNu32, &left, &right) == 2) {
+        call->left_q = left;
+        call->right_q = right;
+    }
 }
 
 static void write_state(const Reach *reach)
@@ -64,9 +76,8 @@ static uint32_t step(Reach *reach)
 {
     size_t n = reach->cells;
     int64_t volumes[2];
-    uint32_t refusal = bassoonsun_step(reach->now, 4 * n, reach->next, 4 * n, reach->bed, n + 1,
-                                       reach->friction, n, reach->dx, reach->dt, reach->jump,
-                                       reach->dry, reach->left, reach->right, volumes);
+    uint32_t refusal = bassoonsun_step_call(reach->now, 4 * n, reach->next, 4 * n, reach->bed, n + 1,
+                                            reach->friction, n, reach->call, volumes);
     if (refusal != 0)
         return refusal;
     memcpy(reach->now, reach->next, 4 * n * sizeof reach->now[0]);
@@ -85,6 +96,7 @@ int main(int argc, char **argv)
         return fputs("reach: the case is not as it should be\n", stderr), 2;
     write_state(&reach);
     for (long k = 1; k <= steps; k++) {
+        read_inflows(&reach.call);
         uint32_t refusal = step(&reach);
         if (refusal != 0)
             return fprintf(stderr, "reach: step %ld is refused with %" PRIu32 "\n", k, refusal), 1;

@@ -9,11 +9,12 @@ from collections import namedtuple
 
 UNIT = 4096             # one metre, second or m2/s
 GRAVITY = 9.81
-WALL, OPEN = 0, 1
+WALL, OPEN, INFLOW = 0, 1, 2
 DITCH_DRY = 4           # the dry depth of an ordinary ditch, about 1 mm
 
-# bed: n + 1 numbers; friction: n; cells: n times (level, its slope, discharge, its slope)
-Reach = namedtuple("Reach", "dx dt jump dry left right bed friction cells")
+# bed: n + 1 numbers; friction: n; cells: n times (level, its slope, discharge, its slope);
+# inflows: for each step the Q of the left end and that of the right, the last pair for all later steps too
+Reach = namedtuple("Reach", "dx dt jump dry left right bed friction cells inflows", defaults=([(0, 0)],))
 
 # What crossed the two ends since the start, and the cells, after some number of steps.
 State = namedtuple("State", "crossed cells")
@@ -29,6 +30,8 @@ def text_of(reach):
     numbers += reach.bed + reach.friction
     for cell in reach.cells:
         numbers += cell
+    for pair in reach.inflows:
+        numbers += pair
     return " ".join(map(str, numbers)) + "\n"
 
 
