@@ -1,12 +1,13 @@
-/* A wave runs down a mill leat with a sill and a pool. It is stepped through bassoonsun.h, the
- * water is counted as it goes, and the long section is drawn at the end.
+/* A flood comes down a mill leat, through a pool, over a weir and out by a chute. It is stepped through
+ * bassoonsun.h, the water is counted as it goes, and the long section is drawn at the end.
  *
  *     leat [--dt N] [FILE.svg]
  *
- * N is the time step in 1/4096 s; with 500 the first step is refused, and the run says why and
- * what to change. With a file, the section is also written there as a picture. The exit status is 0
- * when every step was accepted, every unit of water was found again and the picture, where one is
- * asked for, was written; 1 when not; 2 when the words above are not understood. */
+ * Each time step is a third of a cell, as bassoonsun.h advises, unless N is given, in 1/4096 s; with 500
+ * a step is refused when the flood comes, and the run says why and what to change. With a file, the
+ * section is also written there as a picture. The exit status is 0 when every step was accepted, every
+ * unit of water was found again and the picture, where one is asked for, was written; 1 when not; 2 when
+ * the words above are not understood. */
 #include <bassoonsun.h>
 #include <ctype.h>
 #include <errno.h>
@@ -16,14 +17,25 @@
 
 enum {
     METRE = 4096, /* levels, lengths, times and discharges all count 1/4096 */
+    SECOND = 4096,
     CELLS = 64,
     CELL_LENGTH = METRE,
-    TIME_STEP = METRE / 20, /* unless another is given */
-    STEPS = 200,
+    LONGEST_STEP = SECOND,
     JUMP = 64, /* slopes are limited where two cells differ by more than 1/64 m */
     DRY_DEPTH = 4, /* about 1 mm, as for an earth ditch: water no deeper has no speed */
     MANNING = 30, /* 0.030, an earth channel with some weed */
-    WALL = 0, /* an end of the leat; 1 would be an open one */
+    OPEN = 1, /* kinds of an end; 0 would be a wall */
+    INFLOW = 2,
+    CREST = 48, /* the face on top of the weir */
+    GAUGE = 40, /* the cell whose level is told */
+    BASE_FLOW = METRE / 5, /* 0.2 m2/s, */
+    TOP_FLOW = METRE, /* and 1 m2/s at the top of the flood */
+    FLOOD_COMES = 30 * SECOND,
+    FLOOD_TOPS = 45 * SECOND,
+    FLOOD_ENDS = 90 * SECOND,
+    DRAWN = 60 * SECOND, /* when the flood is drawn */
+    END = 120 * SECOND,
+    EVERY = 15 * SECOND, /* a line of the balance; what is drawn falls on one */
     LINES = 16, /* of the drawing, */
     LINE_HEIGHT = METRE / 8 /* so that it shows 0 to 2 m */
 };
@@ -38,9 +50,11 @@ _Static_assert(sizeof(Cell) == 4 * sizeof(int32_t), "a cell is four numbers with
 typedef struct {
     int32_t bed[CELLS + 1];
     uint16_t friction[CELLS];
-    Cell before[CELLS], now[CELLS], next[CELLS];
-    int64_t brought; /* by the two ends, all steps together */
-    uint32_t dt;
+    Cell now[CELLS], next[CELLS];
+    Cell before[CELLS], flood[CELLS]; /* for the drawing: when the flood comes, and in the midst of it */
+    int64_t at_first, came_in, went_out; /* water, as depth over one cell */
+    int32_t time;
+    const uint32_t *dt; /* the time step that is asked for, or null where each is chosen by itself */
 } Leat;
 
 /* How far x is up a hill of the given half width: METRE on top, 0 at its foot and beyond. */
@@ -52,31 +66,47 @@ static int32_t hill(int32_t x, int32_t top, int32_t half_width)
     return away >= half_width ? 0 : (int32_t)(METRE * (left * left / flat) / flat);
 }
 
-/* The bed falls gently, with a sill 0.6 m high at 26 m and a pool at 46 m. The water stands at
- * 1.25 m, so the bed is wet everywhere, with a wave 0.5 m high at 8 m. Places along the leat are
- * told to hill in half metres. */
-static void fill(Leat *leat)
+/* The bed falls gently, with a pool at 20 m and a weir 0.5 m high at 48 m; behind the weir a chute falls 1 in
+ * 20, so that the water leaves faster than its waves run, as an open end needs it. Places are told to hill in half
+ * metres. */
+static int32_t bed_height(int face)
 {
-    for (int i = 0; i <= CELLS; i++) {
-        int32_t height = METRE / 2 - i * 10 + hill(2 * i, 52, 16) * 6 / 10 - hill(2 * i, 92, 24) * 3 / 10;
-        leat->bed[i] = height & ~1; /* the library takes even beds only: cell means are then whole */
-    }
-    for (int i = 0; i < CELLS; i++) {
-        int32_t left = hill(2 * i, 16, 14) / 2, right = hill(2 * i + 2, 16, 14) / 2;
-        int32_t wave = (left + right) / 2, slope = (right - left) / 2;
-        /* 3 m2/s for a metre of wave, near what such a wave carries: so it runs down the leat only */
-        leat->before[i] = (Cell){METRE * 5 / 4 + wave, slope, 3 * wave, 3 * slope};
-        leat->friction[i] = MANNING;
-    }
-    memcpy(leat->now, leat->before, sizeof leat->now);
-    leat->brought = 0;
+    if (face > CREST)
+        return bed_height(CREST) - 200 * (face - CREST);
+    int32_t height = METRE / 2 - 10 * face + hill(2 * face, 2 * CREST, 24) / 2 - hill(2 * face, 40, 24) * 3 / 10;
+    return height & ~1; /* the library takes even beds only: cell means are then whole */
 }
 
-static int64_t sum_of_depths(const Leat *leat, const Cell *cells)
+/* A guess at the base flow, which rights itself before the flood: water at 1.12 m before the weir, and 0.1 m
+ * of it on the chute. */
+static void fill(Leat *leat)
+{
+    for (int i = 0; i <= CELLS; i++)
+        leat->bed[i] = bed_height(i);
+    for (int i = 0; i < CELLS; i++) {
+        int32_t low = leat->bed[i + 1], high = leat->bed[i];
+        leat->now[i] = i < CREST ? (Cell){METRE * 112 / 100, 0, BASE_FLOW, 0}
+                                 : (Cell){(low + high) / 2 + METRE / 10, (low - high) / 2, BASE_FLOW, 0};
+        leat->friction[i] = MANNING;
+    }
+}
+
+/* What comes in at the top of the leat, in straight lines from the base flow up and down again. */
+static uint32_t hydrograph(int32_t time)
+{
+    int64_t more = TOP_FLOW - BASE_FLOW;
+    if (time <= FLOOD_COMES || time >= FLOOD_ENDS)
+        return BASE_FLOW;
+    if (time <= FLOOD_TOPS)
+        return (uint32_t)(BASE_FLOW + more * (time - FLOOD_COMES) / (FLOOD_TOPS - FLOOD_COMES));
+    return (uint32_t)(BASE_FLOW + more * (FLOOD_ENDS - time) / (FLOOD_ENDS - FLOOD_TOPS));
+}
+
+static int64_t sum_of_depths(const Leat *leat)
 {
     int64_t sum = 0;
     for (int i = 0; i < CELLS; i++)
-        sum += cells[i].level - (leat->bed[i] + leat->bed[i + 1]) / 2;
+        sum += leat->now[i].level - (leat->bed[i] + leat->bed[i + 1]) / 2;
     return sum;
 }
 
@@ -85,78 +115,98 @@ static const char *advice(uint32_t refusal)
 {
     static const char *const words[] = {
         "1: the tables do not fit each other. Give 4n, 4n, n + 1 and n numbers, n from 1 to 1024",
-        "2: dx, dt, J, the dry depth or an end kind is out of range. See the ranges in bassoonsun.h",
+        "2: dx, dt, J, the dry depth, an end's kind or its Q is out of range. See the ranges in bassoonsun.h",
         "3: a bed value is out of range or odd. Round the bed to even numbers from 0 to 1048576",
         "4: a friction value is over 200. Give Manning's n in thousandths, 30 for 0.030",
         "5: a depth or a discharge of the present state is out of range. Look for a level below the bed",
-        "6: the water is faster than 32 m/s. Start with deeper water, or a lower or smoother wave",
+        "6: the water is faster than 32 m/s. Start with deeper water, or let the inflow rise more slowly",
         "7: the time step is too long for these cells. Shorten dt to 4096*dx/(3*S), or lengthen dx",
-        "8: a depth or a discharge has grown too large. Start with less water or less discharge",
+        "8: a depth or a discharge has grown too large. Start with less water, or bring in less",
     };
     return refusal >= 1 && refusal <= 8 ? words[refusal - 1] : "a number that the library never gives";
 }
 
+static int64_t speed(int64_t discharge, int64_t depth) { return depth > DRY_DEPTH ? METRE * discharge / depth : 0; }
+
 /* S, from which bassoonsun.h takes the length of a time step: the greatest over the cells of |u| + a, the speeds of
- * the water and of its waves. It is the top speed of a face with the same water on both sides. */
+ * the water and of its waves, and the speed of what comes in. |u| + a is the top speed of a face with the same water
+ * on both sides. */
 static int64_t top_speed(const Leat *leat)
 {
-    int64_t top = 1, flux[4];
+    const Cell *first = &leat->now[0];
+    int64_t flux[4], top = speed(hydrograph(leat->time), first->level - first->level_slope - leat->bed[0]);
     for (int i = 0; i < CELLS; i++) {
-        int64_t h = leat->now[i].level - (leat->bed[i] + leat->bed[i + 1]) / 2;
-        int64_t u = h > DRY_DEPTH ? (int64_t)METRE * leat->now[i].discharge / h : 0;
+        int64_t h = leat->now[i].level - (leat->bed[i] + leat->bed[i + 1]) / 2, u = speed(leat->now[i].discharge, h);
         if (bassoonsun_face(h, u, h, u, flux) == 0 && flux[3] > top)
             top = flux[3];
     }
-    return top;
+    return top > 0 ? top : 1;
+}
+
+/* A third of a cell a step. */
+static uint32_t stable_step(const Leat *leat)
+{
+    int64_t dt = (int64_t)METRE * CELL_LENGTH / (3 * top_speed(leat));
+    return dt < LONGEST_STEP ? (uint32_t)dt : LONGEST_STEP;
 }
 
 /* Says what was refused and what to change; of a time step that is too long, also how long it should be. */
-static void say_refused(const Leat *leat, int step, uint32_t refusal)
+static void say_refused(const Leat *leat, uint32_t refusal)
 {
-    fprintf(stderr, "leat: step %d is refused with %s\n", step, advice(refusal));
-    if (refusal == 7) {
-        long long top = top_speed(leat), dt = (long long)METRE * CELL_LENGTH / (3 * top);
-        fprintf(stderr, "      S, the greatest of |u| + a, is %lld here: take --dt %lld or less\n", top, dt);
-    }
+    fprintf(stderr, "leat: at %.2f s a step is refused with %s\n", (double)leat->time / SECOND, advice(refusal));
+    if (refusal == 7)
+        fprintf(stderr, "      S, the greatest of |u| + a, is %lld here: take --dt %u or less\n",
+                (long long)top_speed(leat), (unsigned)stable_step(leat));
 }
 
 /* One step; 0, or the refusal's number, and then the leat is as it was. */
 static uint32_t step(Leat *leat)
 {
     int64_t volumes[2];
-    uint32_t refusal = bassoonsun_step(&leat->now[0].level, 4 * CELLS, &leat->next[0].level, 4 * CELLS,
-                                       leat->bed, CELLS + 1, leat->friction, CELLS,
-                                       CELL_LENGTH, leat->dt, JUMP, DRY_DEPTH, WALL, WALL, volumes);
+    struct bassoonsun_call call = {
+        .dx = CELL_LENGTH,
+        .dt = leat->dt != NULL ? *leat->dt : stable_step(leat),
+        .jump = JUMP,
+        .dry = DRY_DEPTH,
+        .left = INFLOW,
+        .left_q = hydrograph(leat->time), /* another in each step */
+        .right = OPEN,
+    };
+    uint32_t refusal = bassoonsun_step_call(&leat->now[0].level, 4 * CELLS, &leat->next[0].level, 4 * CELLS, leat->bed,
+                                            CELLS + 1, leat->friction, CELLS, call, volumes);
     if (refusal == 0) { /* only now do next and volumes hold anything */
         memcpy(leat->now, leat->next, sizeof leat->now);
-        leat->brought += volumes[0] - volumes[1];
+        leat->came_in += volumes[0];
+        leat->went_out += volumes[1];
+        leat->time += (int32_t)call.dt;
     }
     return refusal;
 }
 
-/* Prints the water balance since the start; gives what is missing, which is always 0. */
-static int64_t balance(const Leat *leat, int steps)
+/* Prints the flow and the water; gives what is missing of it, which is always 0. */
+static int64_t balance(const Leat *leat)
 {
-    int64_t before = sum_of_depths(leat, leat->before), after = sum_of_depths(leat, leat->now);
-    int64_t missing = before + leat->brought - after;
-    printf("step %3d, %5.2f s: %7lld before %+6lld by the ends, %7lld after, difference %lld\n", steps,
-           (double)steps * leat->dt / METRE, (long long)before, (long long)leat->brought,
-           (long long)after, (long long)missing);
+    int64_t water = sum_of_depths(leat);
+    int64_t missing = leat->at_first + leat->came_in - leat->went_out - water;
+    printf("%6.2f %8.3f %8.3f %9.3f %10lld %9lld %9lld %8lld\n", (double)leat->time / SECOND,
+           (double)hydrograph(leat->time) / METRE, (double)leat->now[CELLS - 1].discharge / METRE,
+           (double)leat->now[GAUGE].level / METRE, (long long)water, (long long)leat->came_in,
+           (long long)leat->went_out, (long long)missing);
     return missing;
 }
 
 /* The sign at one place of the drawing: the bed hides what is in it. */
 static char sign(const Leat *leat, int line, int i)
 {
-    int before = leat->before[i].level / LINE_HEIGHT == line, after = leat->now[i].level / LINE_HEIGHT == line;
+    int before = leat->before[i].level / LINE_HEIGHT == line, flood = leat->flood[i].level / LINE_HEIGHT == line;
     if ((leat->bed[i] + leat->bed[i + 1]) / 2 > line * LINE_HEIGHT + LINE_HEIGHT / 2)
         return '#';
-    return before && after ? '=' : after ? '~' : before ? '-' : ' ';
+    return before && flood ? '=' : flood ? '~' : before ? '-' : ' ';
 }
 
 static void draw(const Leat *leat)
 {
-    puts("\n  m  # bed   - level before   ~ level after   = both");
+    puts("\n  m  # bed   - level before   ~ level in the flood   = both");
     for (int line = LINES - 1; line >= 0; line--) {
         char signs[CELLS];
         int drawn = 0; /* so many signs go as far as the last that is not blank */
@@ -186,13 +236,13 @@ static void levels(FILE *out, const Cell *cells)
 /* What the picture shows the bed and the two levels with; the legend shows the same. */
 #define BED "fill=\"#7a6248\""
 #define BEFORE "fill=\"none\" stroke=\"black\" stroke-dasharray=\"4 3\""
-#define AFTER "fill=\"none\" stroke=\"#14609c\" stroke-width=\"1.6\""
+#define FLOOD "fill=\"none\" stroke=\"#14609c\" stroke-width=\"1.6\""
 
 static void legend(FILE *out)
 {
     fputs("<rect " BED " x=\"330\" y=\"-21\" width=\"24\" height=\"10\"/><text x=\"360\" y=\"-12\">bed</text>\n"
           "<path " BEFORE " d=\"M410,-16 h24\"/><text x=\"440\" y=\"-12\">level before</text>\n"
-          "<path " AFTER " d=\"M540,-16 h24\"/><text x=\"570\" y=\"-12\">level after</text>\n", out);
+          "<path " FLOOD " d=\"M540,-16 h24\"/><text x=\"570\" y=\"-12\">in the flood</text>\n", out);
 }
 
 /* The scale of heights, with a line at each half metre. */
@@ -214,14 +264,14 @@ static void places(FILE *out)
 static void section(FILE *out, const Leat *leat)
 {
     fputs("<polygon fill=\"#9cc9e8\" points=\"", out);
-    levels(out, leat->now);
+    levels(out, leat->flood);
     fprintf(out, "%d,200 0,200\"/>\n", 10 * CELLS);
     heights(out);
     fputs("<polygon " BED " points=\"", out);
     for (int i = 0; i <= CELLS; i++)
         point(out, i, leat->bed[i]);
-    fprintf(out, "%d,200 0,200\"/>\n<polyline " AFTER " points=\"", 10 * CELLS);
-    levels(out, leat->now);
+    fprintf(out, "%d,200 0,200\"/>\n<polyline " FLOOD " points=\"", 10 * CELLS);
+    levels(out, leat->flood);
     fputs("\"/>\n<polyline " BEFORE " points=\"", out);
     levels(out, leat->before);
     fputs("\"/>\n", out);
@@ -233,10 +283,11 @@ static int write_svg(const Leat *leat, const char *path)
     FILE *out = fopen(path, "w");
     if (out == NULL)
         return 1;
-    fprintf(out, "<svg xmlns=\"http://www.w3.org/2000/svg\" viewBox=\"-50 -30 %d 255\" font-family=\"sans-serif\" font-size=\"11\">\n", 10 * CELLS + 70);
+    fprintf(out, "<svg xmlns=\"http://www.w3.org/2000/svg\" viewBox=\"-50 -30 %d 255\" ", 10 * CELLS + 70);
+    fputs("font-family=\"sans-serif\" font-size=\"11\">\n", out);
     fprintf(out, "<rect x=\"-50\" y=\"-30\" width=\"%d\" height=\"255\" fill=\"white\"/>\n", 10 * CELLS + 70);
-    fprintf(out, "<text x=\"0\" y=\"-12\">A leat with a sill and a pool, before and after %.2f s</text>\n",
-            (double)STEPS * leat->dt / METRE);
+    fprintf(out, "<text x=\"0\" y=\"-12\">A flood comes down a leat: before it and %d s later</text>\n",
+            (DRAWN - FLOOD_COMES) / SECOND);
     legend(out);
     section(out, leat);
     places(out);
@@ -245,16 +296,33 @@ static int write_svg(const Leat *leat, const char *path)
     return fclose(out) != 0 || failed;
 }
 
-/* All the steps, with the balance at each hundredth; gives 0 when none was refused. */
+/* Steps on to a time, or just past it; gives 0 when no step was refused. */
+static int run_until(Leat *leat, int32_t time)
+{
+    while (leat->time < time) {
+        uint32_t refusal = step(leat);
+        if (refusal != 0)
+            return say_refused(leat, refusal), 1;
+    }
+    return 0;
+}
+
+/* All the steps; gives 0 when none was refused and no water was missing. */
 static int run(Leat *leat)
 {
-    puts("A wave runs down a leat of 64 m between walls. Sums of mean depths, in 1/4096 m:");
-    for (int steps = 0; steps <= STEPS; steps++) {
-        if (steps % 100 == 0 && balance(leat, steps) != 0)
+    leat->at_first = sum_of_depths(leat);
+    puts("A flood comes down a leat of 64 m. Water is counted in 1/4096 m over a cell of 1 m.\n"
+         "  time   inflow  outflow  level at   water in   came in  went out  missing\n"
+         "   (s)   (m2/s)   (m2/s)  40 m (m)   the leat");
+    for (int32_t time = 0; time <= END; time += EVERY) {
+        if (run_until(leat, time) != 0)
+            return 1;
+        if (balance(leat) != 0)
             return fputs("leat: water is missing\n", stderr), 1;
-        uint32_t refusal = steps < STEPS ? step(leat) : 0;
-        if (refusal != 0)
-            return say_refused(leat, steps + 1, refusal), 1;
+        if (time == FLOOD_COMES)
+            memcpy(leat->before, leat->now, sizeof leat->before);
+        if (time == DRAWN)
+            memcpy(leat->flood, leat->now, sizeof leat->flood);
     }
     return 0;
 }
@@ -282,11 +350,12 @@ int main(int argc, char **argv)
 {
     static Leat leat;
     const char *picture = NULL;
-    leat.dt = TIME_STEP;
+    uint32_t asked;
     for (int i = 1; i < argc; i++)
         if (strcmp(argv[i], "--dt") == 0) {
-            if (++i == argc || !read_number(argv[i], &leat.dt))
+            if (++i == argc || !read_number(argv[i], &asked))
                 return usage();
+            leat.dt = &asked;
         } else if (argv[i][0] == '-' || picture != NULL)
             return usage();
         else
