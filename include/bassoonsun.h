@@ -94,7 +94,10 @@ extern "C" {
  * with 16 and not with 4, 1 m with 64 and not with 16, 3 m with none. A wave over a wet bed runs
  * between walls. An open end is for water that leaves faster than its waves run: when slower water
  * reaches it, water was seen to come in from outside, and after a wave of 0.5 m on 1 m of water the
- * level at the end rose until a 7. These are trials of the rules and no theorems.
+ * level at the end rose until a 7. An inflow is for water at its end that runs slower than its waves:
+ * it gives a discharge and no depth, and in faster water the depth there drifted, mostly to a 7. Onto
+ * dry ground a sudden inflow comes to a 7 at once, and one that rises for a minute ran like the dam
+ * breaks above: 0.1 m2/s with 4, 0.5 with 16, 1 with 64. These are trials of the rules and no theorems.
  *
  * HOW LONG A TIME STEP. The longest dt that is accepted is not stable: in trials a ripple grew until
  * a later step was refused. Take a third of a cell a step, which in these whole numbers is
