@@ -1,4 +1,4 @@
-"""What the dry depth does to a wave that runs onto dry ground, and to a slope that drains.
+"""What the dry depth does to a wave and to an inflow that run onto dry ground, and to a slope that drains.
 
 Rounding holds thin water as the dry depth does.  To tell the two apart some rows are the same flow
 deeper: heights times d, times through the root of d and Manning values times d^(2/3) leave it the same
@@ -7,7 +7,7 @@ picture, as in bank.py.  A unit counts d times less then, so the dry depth is ta
 
 from math import sqrt
 
-from reach import UNIT, WALL, Reach, ended, units
+from reach import INFLOW, UNIT, WALL, Reach, ended, units
 from tables import table
 
 DRY_DEPTHS, LARGEST = (1, 4, 16, 64), 64
@@ -19,6 +19,11 @@ WAVE_CELLS, WAVE_WIDTH, WAVE_SECONDS = 40, 10, 300
 WAVES = [(depth, dt, 1) for dt in (0.3, 0.03) for depth in (0.1, 0.3, 1, 3)]
 WAVES += [(0.1, 0.3, 16), (0.3, 0.3, 4)]
 
+# The inflow, onto the wave's ground without its water: seconds; of each row the discharge (m2/s), the time in which it
+# rises to that (s), and the time step (s).
+INFLOW_SECONDS = 120
+INFLOWS = [(q, rise, 0.3) for rise in (0, 60) for q in (0.02, 0.1, 0.5, 1, 3)]
+
 # The slope: the same, its fall and the water at first (m); of each row the time step (s) and d.
 SLOPE_CELLS, SLOPE_WIDTH, SLOPE_SECONDS = 32, 5, 1800
 FALL, SLOPE_DEPTH = 1 / 200, 0.05
@@ -26,10 +31,12 @@ SLOPES = ((1, 1), (0.25, 1), (1, 4), (1, 16))
 
 
 class Flow:
-    """Still water between walls, run `deep` times as deep; it is given and answers as the shallow flow."""
+    """Still water between walls, run `deep` times as deep; it is given and answers as the shallow flow.
 
-    def __init__(self, width, bed, depths, dt, deep):
-        self.width, self.depths, self.deep = width, depths, deep
+    Where inflows are given, a discharge for each step, they come in at the left end."""
+
+    def __init__(self, width, bed, depths, dt, deep, inflows=None):
+        self.width, self.depths, self.deep, self.inflows = width, depths, deep, inflows
         self.dt = round(dt * UNIT / sqrt(deep))
         self.bed = [2 * round(deep * height * UNIT / 2) for height in bed]
         self.grounds = [(low + high) // 2 for low, high in zip(self.bed, self.bed[1:])]
@@ -38,8 +45,9 @@ class Flow:
         cells = [(self.grounds[i] + units(self.deep * depth), (self.bed[i + 1] - self.bed[i]) // 2, 0, 0)
                  for i, depth in enumerate(self.depths)]
         friction = round(1000 * MANNING * self.deep ** (2 / 3))
-        return Reach(self.width * UNIT, self.dt, 0, self.deep * dry, WALL, WALL, self.bed,
-                     [friction] * len(cells), cells)
+        left, inflows = (INFLOW, self.inflows) if self.inflows else (WALL, [0])
+        return Reach(self.width * UNIT, self.dt, 0, self.deep * dry, left, WALL, self.bed,
+                     [friction] * len(cells), cells, [(units(q), 0) for q in inflows])
 
     def mean_depths(self, state):
         return [(cell[0] - ground) / UNIT / self.deep for cell, ground in zip(state.cells, self.grounds)]
@@ -61,15 +69,29 @@ def wave(depth, dt, deep):
     return Flow(WAVE_WIDTH, [0] * (WAVE_CELLS + 1), [depth] * half + [0] * half, dt, deep)
 
 
+def inflow(q, rise, dt):
+    steps = round(INFLOW_SECONDS / dt)
+    inflows = [q * min(1, (k + 1) * dt / rise) if rise else q for k in range(steps)]
+    return Flow(WAVE_WIDTH, [0] * (WAVE_CELLS + 1), [0] * WAVE_CELLS, dt, 1, inflows)
+
+
 def slope(dt, deep):
     bed = [FALL * SLOPE_WIDTH * (SLOPE_CELLS - i) for i in range(SLOPE_CELLS + 1)]
     return Flow(SLOPE_WIDTH, bed, [SLOPE_DEPTH] * SLOPE_CELLS, dt, deep)
 
 
+def wet_cells(depths):
+    return 1 + max(i for i, depth in enumerate(depths) if depth > FILM)
+
+
 def come(depths):
     """How far from the dam the last cell with water ends."""
-    last = max(i for i, depth in enumerate(depths) if depth > FILM)
-    return "ran, %d m" % ((last + 1 - WAVE_CELLS // 2) * WAVE_WIDTH)
+    return "ran, %d m" % ((wet_cells(depths) - WAVE_CELLS // 2) * WAVE_WIDTH)
+
+
+def come_in(depths):
+    """The same from the left end."""
+    return "ran, %d m" % (wet_cells(depths) * WAVE_WIDTH)
 
 
 def millimetres(metres):
@@ -104,6 +126,14 @@ def wave_table(command):
     return table(("water (m)", "time step (s)") + dry_heads(""), rows)
 
 
+def inflow_table(command):
+    rows = []
+    for q, rise, dt in INFLOWS:
+        answers = inflow(q, rise, dt).answers(command, INFLOW_SECONDS, come_in)
+        rows.append(["%g" % q, "from the first step on" if rise == 0 else "rising for %d s" % rise] + answers)
+    return table(("inflow (m2/s)", "given") + dry_heads(""), rows)
+
+
 def slope_table(command):
     rows = []
     for dt, deep in SLOPES:
@@ -113,4 +143,5 @@ def slope_table(command):
 
 
 def report(command):
-    return {"dry-wave": wave_table(command), "dry-slope": slope_table(command)}, {}
+    return {"dry-wave": wave_table(command), "dry-inflow": inflow_table(command),
+            "dry-slope": slope_table(command)}, {}

@@ -11,9 +11,12 @@ import sys
 from pathlib import Path
 
 import bank
+import basin
+import bump
 import dam_break
 import dry_depth
 import lake
+import slope
 import standing_wave
 
 DOCS = Path(__file__).resolve().parent.parent / "docs"
@@ -22,7 +25,7 @@ PAGE = DOCS / "VALIDATION.md"
 
 def made(command):
     tables, pictures = {}, {}
-    for case in (dam_break, lake, bank, standing_wave, dry_depth):
+    for case in (dam_break, lake, bank, standing_wave, basin, bump, slope, dry_depth):
         some_tables, some_pictures = case.report(command)
         tables.update(some_tables)
         pictures.update(some_pictures)
