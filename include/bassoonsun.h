@@ -65,7 +65,8 @@ extern "C" {
  *             cell: volumes[0] came in at the left, volumes[1] went out at the right. At an end of
  *             kind 2 it is known before the step: volumes[0] is left_q*dt/dx, volumes[1] is
  *             -(right_q*dt/dx), both without their fractions. What is cut off does not come in: to
- *             lose little, choose dt so that Q*dt is a multiple of dx or just above one
+ *             lose little, choose dt so that Q*dt is a multiple of dx or just above one. For a steady
+ *             level half way between two multiples does better: docs/VALIDATION.md has both
  *
  * When 0 is given, all of next and both volumes are written, and the sum of the n mean depths of
  * next is that of now + volumes[0] - volumes[1], exactly. (The mean depth of a cell is the mean
@@ -82,7 +83,7 @@ extern "C" {
  *   4  a friction value is over 200
  *   5  the present state has a face depth or a face discharge out of range
  *   6  the water is faster than 32 m/s: in a cell before friction, at a face, or at a Gauss point;
- *      or Q would be at the depth of its end face, if that is over the dry depth
+ *      or Q is, at the depth of its end face, where that is over the dry depth
  *   7  the time step is too long for the top speed S at some face: 2*dt*S is over 4096*dx. Halve
  *      dt, say, and make the same call again
  *   8  after stage one, or at the end, a depth or a discharge is too large. It is never a depth
@@ -96,8 +97,9 @@ extern "C" {
  * reaches it, water was seen to come in from outside, and after a wave of 0.5 m on 1 m of water the
  * level at the end rose until a 7. An inflow is for water at its end that runs slower than its waves:
  * it gives a discharge and no depth, and in faster water the depth there drifted, mostly to a 7. Onto
- * dry ground a sudden inflow comes to a 7 at once, and one that rises for a minute ran like the dam
- * breaks above: 0.1 m2/s with 4, 0.5 with 16, 1 with 64. These are trials of the rules and no theorems.
+ * dry ground a sudden inflow mostly comes to a 7 at once; over the cells above, one that rose for a
+ * minute to 0.1 m2/s ran with a dry depth of 4, to 0.5 with 16 and to 1 with 64. These are trials of
+ * the rules and no theorems.
  *
  * HOW LONG A TIME STEP. The longest dt that is accepted is not stable: in trials a ripple grew until
  * a later step was refused. Take a third of a cell a step, which in these whole numbers is
