@@ -65,8 +65,7 @@ extern "C" {
  *             cell: volumes[0] came in at the left, volumes[1] went out at the right. At an end of
  *             kind 2 it is known before the step: volumes[0] is left_q*dt/dx, volumes[1] is
  *             -(right_q*dt/dx), both without their fractions. What is cut off does not come in: to
- *             lose little, choose dt so that Q*dt is a multiple of dx or just above one. For a steady
- *             level half way between two multiples does better: docs/VALIDATION.md has both
+ *             lose little, choose dt so that Q*dt is a multiple of dx or just above one
  *
  * When 0 is given, all of next and both volumes are written, and the sum of the n mean depths of
  * next is that of now + volumes[0] - volumes[1], exactly. (The mean depth of a cell is the mean

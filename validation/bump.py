@@ -11,12 +11,13 @@ from reach import DITCH_DRY, GRAVITY, INFLOW, OPEN, UNIT, Reach, State, ended, r
 from tables import count_text, order_text, orders, table
 
 LENGTH, CREST, HALF, HEIGHT = 25, 10, 2, 0.2        # m: the reach, and the bump's place, half length and height
-Q = 6272                                            # 1.53125 m2/s, so that Q dt/dx can be whole in each number of cells
+Q = 6272                                            # 1.53125 m2/s, of which some time steps cut nothing off
 SECONDS, HOUR = 40, 3600
 UNLIMITED = 262144                                  # J at its greatest: no slope is limited
 JUMPS = (0, 64, UNLIMITED)
 COUNTS = (50, 100, 200, 400)
-BETWEEN, WHOLE = 4400, 4800                         # dt is this over the cells: Q dt/dx is 269.5, or 294
+PIECES = 4400                                       # dt is this over the cells: Q dt/dx is 269.5
+TRIED = range(36, 61, 2)                            # time steps in 100 cells, 0.2 to 0.34 of a cell
 DEEPER = 0.05                                       # m
 GUESS = 1.1, 0.4                                    # m: level before the crest and depth behind it
 POOLS = (0.5, 1.0, 1.5)                             # m: levels of a pool at rest
@@ -60,7 +61,7 @@ EXACT = Bernoulli(Q / UNIT)
 class Bump:
     """The reach in n cells, `size` times as large and its times `pace` times as long; it answers in its own size."""
 
-    def __init__(self, n, pieces, size=1, pace=1, jump=UNLIMITED):
+    def __init__(self, n, pieces=PIECES, size=1, pace=1, jump=UNLIMITED):
         self.n, self.size, self.jump = n, size, min(size * jump, UNLIMITED)
         self.width = LENGTH / n
         self.dx, self.dt = LENGTH * size * UNIT // n, pieces * pace // n
@@ -148,23 +149,23 @@ def by_cells(command, bumps, guessed, larges, large_states):
     return table(heads, rows)
 
 
-def inflow_row(command, bump, carry):
-    """What of Q is cut off, and where the exact profile and the guess come to."""
+def step_row(command, bump, carry=False):
+    """What of Q is cut off, and where each start comes to."""
     inflows = bump.carried() if carry else None
     brought = "%g" % (bump.q * bump.dt / bump.dx)
     cut = 0 if carry else bump.q * bump.dt % bump.dx / bump.dx
     hourly = cut * bump.width * HOUR / bump.dt
-    states = [bump.run(command, cells, inflows) for cells in (bump.exact_cells(), bump.guessed_cells())]
-    return [count_text(bump.n), "%.4f" % (bump.dt / UNIT), brought + ", carried on" if carry else brought,
-            "%g" % cut, "%.1f" % hourly] + [error_text(bump.errors(state)) for state in states]
+    starts = bump.exact_cells(), bump.exact_cells(DEEPER), bump.guessed_cells()
+    states = [bump.run(command, cells, inflows) for cells in starts]
+    return [str(bump.dt), brought + ", carried on" if carry else brought, "%g" % cut, "%.1f" % hourly] + [
+        error_text(bump.errors(state)) for state in states]
 
 
-def by_inflow(command):
-    """Q dt/dx between two whole numbers, whole, and between them with the rest carried on."""
-    rows = [inflow_row(command, Bump(n, pieces), carry)
-            for n in COUNTS[1:3] for pieces, carry in ((BETWEEN, False), (WHOLE, False), (BETWEEN, True))]
-    heads = ("cells", "time step (s)", "Q·dt/dx", "cut off in a step (units)", "in an hour (m2)",
-             "from the exact profile (mm)", "from a guess (mm)")
+def by_time_step(command):
+    rows = [step_row(command, Bump(100, 100 * dt)) for dt in TRIED]
+    rows.append(step_row(command, Bump(100), carry=True))
+    heads = ("time step (1/4096 s)", "Q·dt/dx", "cut off in a step (units)", "in an hour (m2)",
+             "from the exact profile (mm)", "from 5 cm deeper (mm)", "from a guess (mm)")
     return table(heads, rows)
 
 
@@ -177,7 +178,7 @@ def by_jump(command):
     for jump in JUMPS:
         row = ["none limited" if jump == UNLIMITED else str(jump)]
         for n in COUNTS[:3]:
-            large = Bump(n, BETWEEN, 16, 4, jump)
+            large = Bump(n, size=16, pace=4, jump=jump)
             state, refused = ended(command, large.reach(large.guessed_cells()), large.steps)
             row.append(refusal_text(refused) if refused else error_text(large.errors(state)))
         rows.append(row)
@@ -187,7 +188,7 @@ def by_jump(command):
 def by_pool(command):
     rows = []
     for level in POOLS:
-        bump = Bump(100, BETWEEN)
+        bump = Bump(100)
         refused = refusal_of(command, bump.reach(bump.pool_cells(level)), bump.steps)
         rows.append(("%.1f" % level, refusal_text(refused) if refused else
                      "%s steps accepted" % count_text(bump.steps)))
@@ -222,10 +223,10 @@ def discharge_drawing(bumps, states, large, large_state):
 
 
 def report(command):
-    bumps, larges = [Bump(n, BETWEEN) for n in COUNTS], [Bump(n, BETWEEN, 16, 4) for n in COUNTS]
+    bumps, larges = [Bump(n) for n in COUNTS], [Bump(n, size=16, pace=4) for n in COUNTS]
     guessed = [bump.run(command, bump.guessed_cells()) for bump in bumps]
     large_states = [large.run(command, large.guessed_cells()) for large in larges]
-    tables = {"bump": by_cells(command, bumps, guessed, larges, large_states), "bump-inflow": by_inflow(command),
+    tables = {"bump": by_cells(command, bumps, guessed, larges, large_states), "bump-steps": by_time_step(command),
               "bump-jump": by_jump(command), "bump-pool": by_pool(command)}
     pictures = {"bump.svg": profile(bumps[1], guessed[1]),
                 "bump-discharge.svg": discharge_drawing(bumps[1::2], guessed[1::2], larges[1], large_states[1])}

@@ -17,7 +17,7 @@ FALL, MANNING, DISCHARGE = 0.02, 0.020, 1       # the discharge in m2/s
 SECONDS, JUMP = 240, 64
 DEEP = 8                                        # so that the Manning value is whole: 0.080
 COUNTS = (40, 80, 160, 320)
-PIECES = 41120                                  # dt is this over the cells; Q dt/dx is 257, in 320 cells 256
+PIECES, SHORTER = 41120, 32896                  # dt is one of these over the cells
 START = 0.7, 0.4                                # m: the depth at the start, on the level and on the slope
 NORMAL = (MANNING * DISCHARGE / sqrt(FALL)) ** 0.6
 CRITICAL = (DISCHARGE ** 2 / GRAVITY) ** (1 / 3)
@@ -26,10 +26,10 @@ CRITICAL = (DISCHARGE ** 2 / GRAVITY) ** (1 / 3)
 class Slope:
     """The reach in n cells, run `deep` times as deep; it is given and answers as the shallow flow."""
 
-    def __init__(self, n, deep=1, brink=BRINK, start=START):
+    def __init__(self, n, deep=1, pieces=PIECES, brink=BRINK, start=START):
         self.n, self.deep, self.width = n, deep, LENGTH / n
         self.pace, self.flow = sqrt(deep), deep ** 1.5
-        self.dt = round(PIECES // n / self.pace)
+        self.dt = round(pieces // n / self.pace)
         self.steps = round(SECONDS * UNIT / self.pace / self.dt)
         self.bed = [2 * round(deep * FALL * (LENGTH - max(i * self.width, brink)) * UNIT / 2) for i in range(n + 1)]
         self.first = [start[0] if (i + 1) * self.width <= brink else start[1] for i in range(n)]
@@ -67,18 +67,25 @@ def percent(ratio):
     return ("%+.2f" % (100 * (ratio - 1))).replace("-", "\u2212")
 
 
-def told(slope, state):
-    """The depths and discharges of the last cells, and by how much their mean depth is off."""
+def error_text(slope, state):
+    """By how much the mean depth of the last cells is off."""
     depths = slope.last_depths(state)
-    return [range_text(depths), percent(sum(depths) / len(depths) / NORMAL),
-            range_text(slope.discharges(state)[-len(depths):])]
+    return percent(sum(depths) / len(depths) / NORMAL)
 
 
-def by_cells(shallow, deep):
+def told(slope, state):
+    """The depths and discharges of the last cells, with the error."""
+    depths = slope.last_depths(state)
+    return [range_text(depths), error_text(slope, state), range_text(slope.discharges(state)[-len(depths):])]
+
+
+def by_cells(command, shallow, deep):
     rows = []
     for (slope, state), (deeper, deeper_state) in zip(shallow, deep):
-        rows.append([count_text(slope.n), "%.4f" % (slope.dt / UNIT)] + told(slope, state) + told(deeper, deeper_state))
-    heads = ("cells", "time step (s)", "depth (m)", "error (%)", "discharge (m2/s)",
+        shorter = Slope(slope.n, pieces=SHORTER)
+        rows.append([count_text(slope.n), "%.4f" % (slope.dt / UNIT)] + told(slope, state)
+                    + [error_text(shorter, shorter.run(command))] + told(deeper, deeper_state))
+    heads = ("cells", "time step (s)", "depth (m)", "error (%)", "discharge (m2/s)", "a fifth shorter step: error (%)",
              "%d times as deep: depth (m)" % DEEP, "error (%)", "discharge (m2/s)")
     return table(heads, rows)
 
@@ -87,7 +94,7 @@ def without_level(command):
     """The inflow straight onto the slope, from Manning's depth: the answer, and the depth of the first cell."""
     rows = []
     for n in COUNTS:
-        slope = Slope(n, 1, 0, (NORMAL, NORMAL))
+        slope = Slope(n, brink=0, start=(NORMAL, NORMAL))
         state, refused = ended(command, slope.reach(), slope.steps)
         if refused:
             rows.append((count_text(n), "step %d is refused with %d" % refused, ""))
@@ -109,5 +116,5 @@ def drawing(runs):
 
 def report(command):
     shallow, deep = ([(slope, slope.run(command)) for slope in (Slope(n, d) for n in COUNTS)] for d in (1, DEEP))
-    tables = {"slope": by_cells(shallow, deep), "slope-steep": without_level(command)}
+    tables = {"slope": by_cells(command, shallow, deep), "slope-steep": without_level(command)}
     return tables, {"slope.svg": drawing((shallow[1], shallow[3], deep[3]))}
