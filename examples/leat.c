@@ -153,6 +153,7 @@ static uint32_t stable_step(const Leat *leat)
 /* Says what was refused and what to change; of a time step that is too long, also how long it should be. */
 static void say_refused(const Leat *leat, uint32_t refusal)
 {
+    fflush(stdout); /* so that the lines of the balance come first, in a pipe too */
     fprintf(stderr, "leat: at %.2f s a step is refused with %s\n", (double)leat->time / SECOND, advice(refusal));
     if (refusal == 7)
         fprintf(stderr, "      S, the greatest of |u| + a, is %lld here: take --dt %u or less\n",

@@ -12,6 +12,7 @@ from tables import count_text, order_text, orders, table
 
 LENGTH, CREST, HALF, HEIGHT = 25, 10, 2, 0.2        # m: the reach, and the bump's place, half length and height
 Q = 6272                                            # 1.53125 m2/s, of which some time steps cut nothing off
+OWN_Q = 6267                                        # 1.53 m2/s, SWASHES' own
 SECONDS, HOUR = 40, 3600
 UNLIMITED = 262144                                  # J at its greatest: no slope is limited
 JUMPS = (0, 64, UNLIMITED)
@@ -55,20 +56,18 @@ class Bernoulli:
         return total
 
 
-EXACT = Bernoulli(Q / UNIT)
-
-
 class Bump:
     """The reach in n cells, `size` times as large and its times `pace` times as long; it answers in its own size."""
 
-    def __init__(self, n, pieces=PIECES, size=1, pace=1, jump=UNLIMITED):
+    def __init__(self, n, pieces=PIECES, size=1, pace=1, jump=UNLIMITED, q=Q):
         self.n, self.size, self.jump = n, size, min(size * jump, UNLIMITED)
+        self.own_q, self.exact = q, Bernoulli(q / UNIT)
         self.width = LENGTH / n
         self.dx, self.dt = LENGTH * size * UNIT // n, pieces * pace // n
-        self.q = Q * size * size // pace
+        self.q = q * size * size // pace
         self.steps = round(SECONDS * pace * UNIT / self.dt)
         self.bed = [2 * round(size * bed_height(i * self.width) * UNIT / 2) for i in range(n + 1)]
-        self.means = [EXACT.mean_level(i * self.width, (i + 1) * self.width) for i in range(n)]
+        self.means = [self.exact.mean_level(i * self.width, (i + 1) * self.width) for i in range(n)]
 
     def reach(self, cells, inflows=None):
         return Reach(self.dx, self.dt, self.jump, DITCH_DRY, INFLOW, OPEN, self.bed, [0] * self.n, cells,
@@ -80,7 +79,7 @@ class Bump:
         for i, mean in enumerate(self.means):
             a, b = i * self.width, (i + 1) * self.width
             lift = deeper if b <= CREST - HALF else 0
-            slope = (EXACT.level(b) - EXACT.level(a)) / 2
+            slope = (self.exact.level(b) - self.exact.level(a)) / 2
             cells.append((units(self.size * (mean + lift)), units(self.size * slope), self.q, 0))
         return cells
 
@@ -100,7 +99,7 @@ class Bump:
         return [cell[0] / UNIT / self.size for cell in state.cells]
 
     def discharges(self, state):
-        return [cell[2] / self.q * Q / UNIT for cell in state.cells]
+        return [cell[2] / self.q * self.own_q / UNIT for cell in state.cells]
 
     def errors(self, state):
         """The mean and the greatest of the level's errors."""
@@ -132,13 +131,19 @@ def range_text(numbers):
     return "%.4f to %.4f" % (min(numbers), max(numbers))
 
 
+def kept(command, bump):
+    """Where the exact profile comes to; it must have come to a stand."""
+    state = bump.run(command, bump.exact_cells())
+    if not is_still(command, bump, state):
+        raise SystemExit("bump: from the exact profile, %d cells do not come to a stand" % bump.n)
+    return state
+
+
 def by_cells(command, bumps, guessed, larges, large_states):
     mean_errors = [large.errors(state)[0] for large, state in zip(larges, large_states)]
     rows = []
     for bump, state, large, large_state, order in zip(bumps, guessed, larges, large_states, orders(mean_errors)):
-        exact = bump.run(command, bump.exact_cells())
-        if not is_still(command, bump, exact):
-            raise SystemExit("bump: from the exact profile, %d cells do not come to a stand" % bump.n)
+        exact = kept(command, bump)
         deeper = bump.run(command, bump.exact_cells(DEEPER))
         rows.append((count_text(bump.n), "%.4f" % (bump.dt / UNIT), error_text(bump.errors(exact)),
                      error_text(bump.errors(deeper)), error_text(bump.errors(state)),
@@ -146,6 +151,18 @@ def by_cells(command, bumps, guessed, larges, large_states):
                      range_text(large.discharges(large_state))))
     heads = ("cells", "time step (s)", "from the exact profile (mm)", "from 5 cm deeper (mm)", "from a guess (mm)",
              "discharge (m2/s)", "16 times as large, from a guess: / 16 (mm)", "order", "discharge / 64 (m2/s)")
+    return table(heads, rows)
+
+
+def with_own_q(command):
+    """SWASHES' own discharge, of which every time step cuts something off."""
+    rows = []
+    for n in COUNTS[1:]:
+        bump = Bump(n, q=OWN_Q)
+        exact, deeper = kept(command, bump), bump.run(command, bump.exact_cells(DEEPER))
+        rows.append((count_text(n), "%.2f" % (bump.q * bump.dt / bump.dx), error_text(bump.errors(exact)),
+                     error_text(bump.errors(deeper)), range_text(bump.discharges(deeper))))
+    heads = ("cells", "Q·dt/dx", "from the exact profile (mm)", "from 5 cm deeper (mm)", "discharge (m2/s)")
     return table(heads, rows)
 
 
@@ -204,8 +221,9 @@ def profile(bump, state):
     places = [k / 20 for k in range(20 * LENGTH + 1)]
     guess = State((0, 0), bump.guessed_cells())
     picture.area([(x, bed_height(x)) for x in places], EARTH, "bed")
-    picture.line([(x, bed_height(x) + EXACT.critical) for x in places], GREEN, "critical depth", width=1.2, dash="2 3")
-    picture.line([(x, EXACT.level(x)) for x in places], BLACK, "exact (Bernoulli)", width=1.2)
+    critical = [(x, bed_height(x) + bump.exact.critical) for x in places]
+    picture.line(critical, GREEN, "critical depth", width=1.2, dash="2 3")
+    picture.line([(x, bump.exact.level(x)) for x in places], BLACK, "exact (Bernoulli)", width=1.2)
     picture.line(list(zip(middles(bump), bump.levels(guess))), ORANGE, "level at the start", dash="6 3")
     picture.dots(list(zip(middles(bump), bump.levels(state))), BLUE, "level after %d s" % SECONDS, radius=2.2)
     return picture.svg()
@@ -226,8 +244,8 @@ def report(command):
     bumps, larges = [Bump(n) for n in COUNTS], [Bump(n, size=16, pace=4) for n in COUNTS]
     guessed = [bump.run(command, bump.guessed_cells()) for bump in bumps]
     large_states = [large.run(command, large.guessed_cells()) for large in larges]
-    tables = {"bump": by_cells(command, bumps, guessed, larges, large_states), "bump-steps": by_time_step(command),
-              "bump-jump": by_jump(command), "bump-pool": by_pool(command)}
+    tables = {"bump": by_cells(command, bumps, guessed, larges, large_states), "bump-own": with_own_q(command),
+              "bump-steps": by_time_step(command), "bump-jump": by_jump(command), "bump-pool": by_pool(command)}
     pictures = {"bump.svg": profile(bumps[1], guessed[1]),
                 "bump-discharge.svg": discharge_drawing(bumps[1::2], guessed[1::2], larges[1], large_states[1])}
     return tables, pictures
