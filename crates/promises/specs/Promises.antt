@@ -145,9 +145,10 @@ pub deep-as-before : (r : Reach) (c : Call) (s : State) → ((i : ℕ) → i < r
 deep-as-before r c s d i l = deep-finish r c s d i l
 
 -- ---- what E3 changed: the dry depth is each call's own
--- given 4, a call was answered as before, when it gave none: the same number, or the same table and volumes
-pub four-as-before : (l : before-E3.Lent) → before-E4.stepOf (before-E3.given 4 l) ≡ before-E3.stepOf l
-four-as-before l = given-four l
+-- given 4, and no inflow, a call is answered as before, when it gave neither: the same number, or the same table and volumes
+pub four-as-before : (l : before-E3.Lent) → (l .left ≡ 2 → ⊥) → (l .right ≡ 2 → ⊥)
+    → stepOf (with-no-inflow (before-E3.given 4 l)) ≡ before-E3.stepOf l
+four-as-before l f g = no-inflow (before-E3.given 4 l) f g ∙ given-four l
 
 -- whichever it is, what an accepted call writes has no discharge where it is no deeper
 pub shallow-calm : (l : Lent) (w v : ℤ) (old new : List ℤ) → Gives (stepOf l) (Accepted w v) old new → (i : ℕ) → i < cellsOf l

@@ -1,9 +1,9 @@
 // The step over 100 blocks of 200 calls that are hard: dry depths of the whole list, cells about as
 // deep and dry ones, steep beds, jumps, speeds, depths and discharges at their limits, ends of every
 // kind with inflows of the whole list, a dt that closes in on the longest accepted, and faults. A line
-// gives how many calls of a block were accepted, how
-// many were refused with each number from 1 to 8, and the running sum of the answers, the volumes and
-// all that `next` held after each call. What it must write comes from tests/reference/steps.py.
+// gives how many calls of a block were accepted, how many were refused with each number from 1 to 8,
+// and the running sum of the answers, the volumes and all that `next` held after each call. What it
+// must write comes from tests/reference/steps.py.
 mod draw;
 mod ends;
 mod fill;
