@@ -31,8 +31,8 @@ fn called(line: &[u8], state: &[i32], next: &mut [i32], bed: &[i32], friction: &
         dt: given(line, 1),
         jump: given(line, 2),
         dry: given(line, 3),
-        left: left,
-        right: right,
+        left,
+        right,
     };
     step::step(state, next, bed, friction, call)
 }

@@ -152,8 +152,8 @@ fn made(
         dt: given(1, dt, x),
         jump: given(2, jump(third(x)), x),
         dry: given(3, dry(r), x),
-        left: left,
-        right: right,
+        left,
+        right,
     };
     step::step(state, next, bed, friction, call)
 }
