@@ -234,7 +234,8 @@ module _ (bed : List ℤ) (n dx : ℕ) where
   lake-rests (none s) d k = (refl, refl, refl)
   lake-rests (more s m t old w v a b c q) d k =
       let o = one bed n dx s w v old m c in let r = reachAt bed n dx in
-      let z = accepted-rest r lawful (o .some) (call c) (cellAt s) (o .unstopped) (record { left = d .0; right = d .1 }) (at-rest bed s dx n k) in
+      let z = accepted-rest r lawful (o .some) (call c) (cellAt s) (o .unstopped) (record { left = d .0; right = d .1 })
+      (at-rest bed s dx n k) in
       let e : m ≡ s = flat-is n m (cellAt s) (o .size) (λ i l. o .same i l ∙ z .0 i l) ∙ flat-cells n s (o .now) in
       let rest = lake-rests q (d .2) (subst (λ (x : List ℤ). Lake bed x n) (sym e) k) in
       (rest .0 ∙ e, ap₂ _+ℤ_ (o .left ∙ z .1) (rest .1), ap₂ _+ℤ_ (o .right ∙ z .2) (rest .2))

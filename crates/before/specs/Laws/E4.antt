@@ -78,7 +78,8 @@ module _ (r : Reach) (c : Call) (p : eqb (c .left .kind) 2 ≡ false) (q : eqb (
   carry-same : (s : State) → step.carry r c s ≡ carry r c s
   unfolding step.carry carry
   carry-same s = λ j i.
-      half (volume (r .dx) (c .dt) (crossAt (row-same (λ k. rubbed r c s) j) i)) (volume (r .dx) (c .dt) (crossAt (row-same (one-same s) j) i))
+      half
+      (volume (r .dx) (c .dt) (crossAt (row-same (λ k. rubbed r c s) j) i)) (volume (r .dx) (c .dt) (crossAt (row-same (one-same s) j) i))
 
   next-same : (s : State) → step.next r c s ≡ next r c s
   unfolding step.next next step.joined joined

@@ -280,7 +280,8 @@ module _ (r : Reach) (law : Lawful (r .face)) (ev : EvenBed r) (n>0 : 0 < r .n) 
   unfolding joined joinedCell
   joined-rest i l =
       let x = rubbed r c s i in let y = stage r c (stageOne r c s) i in
-      let e : y ≡ x = stage-rest r ev (stageOne r c s) stageOne-at law c shut i l ∙ stageOne-rest i l ∙ sym (rubbed-rest r ev s a law c shut i l) in
+      let e : y ≡ x = stage-rest r ev (stageOne r c s) stageOne-at law c shut i l ∙ stageOne-rest i l
+      ∙ sym (rubbed-rest r ev s a law c shut i l) in
       cell-is (joined r c s i) x
       (ap₂ (λ (p q : ℤ). x .e0 +ℤ p -ℤ q) (carry-none i (omega arith)) (carry-none (suc i) (omega arith)) ∙ plus-none (x .e0 +ℤ pos 0)
       ∙ plus-none (x .e0))

@@ -70,7 +70,8 @@ module _ (reach : Reach) (call : Call) (d : List (List ℤ)) where
     right-sized : Sized (right (rightIn d (n - 1)))
     unfolding fastEnds
     right-sized =
-        right-end-sized (call .dry) (endIn (call .right)) (rightIn d (n - 1)) (s (n - 1) (omega arith) .1) (num .right-q) (or-r inLeft inRight slow)
+        right-end-sized (call .dry) (endIn (call .right)) (rightIn d (n - 1)) (s (n - 1) (omega arith) .1) (num .right-q)
+        (or-r inLeft inRight slow)
 
     pub cross-sized : (i : ℕ) → i ≤ n → Sized (crossIn reach call d i)
     cross-sized i h = go (ℕ-discrete i 0) (ℕ-discrete i n)

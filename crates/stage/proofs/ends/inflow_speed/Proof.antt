@@ -23,7 +23,8 @@ unfolding inflowSpeed
 returns c =
     let w = c .before .before in let s = w .before in let x = s .pre .1 .0 in
     back64 (c .speed-of .ok)
-    (rw (w .widened .ensures, toZ-ofZ (fit (inflow-in s) tt), toZ-ofZ (fit (depth-size x) tt), toZ-ofZ (s .fits .dry)) at (c .speed-of .ensures))
+    (rw (w .widened .ensures, toZ-ofZ (fit (inflow-in s) tt), toZ-ofZ (fit (depth-size x) tt), toZ-ofZ (s .fits .dry))
+    at (c .speed-of .ensures))
 
 pub inflow-speed-spec : {M : Type 1} → statement M
 inflow-speed-spec = tie.close (tie.spec (λ c κs. search needs) speed-of-requires returns)
