@@ -58,9 +58,15 @@ sidesAt dry bed s i = sideRow (sideL dry (bedAt bed i) (s i)) (sideR dry (bedAt 
 unfoldable pub fastSides : ℤ → List ℤ → State → ℕ → Bool
 fastSides dry bed s i = fastSide (sideL dry (bedAt bed i) (s i)) || fastSide (sideR dry (bedAt bed i) (s i))
 
--- an end whose inflow is too fast, of the left one and of the right
+-- an inflow that is too fast: at the left end, at the right, at either
+abbrev pub fastLeft : Reach → Call → List (List ℤ) → Bool
+fastLeft r c d = fastInflow (c .dry) (endIn (c .left)) (leftIn d 0)
+
+abbrev pub fastRight : Reach → Call → List (List ℤ) → Bool
+fastRight r c d = fastInflow (c .dry) (endIn (c .right)) (rightIn d (r .n - 1))
+
 unfoldable pub fastEnds : Reach → Call → List (List ℤ) → Bool
-fastEnds r c d = fastInflow (c .dry) (endIn (c .left)) (leftIn d 0) || fastInflow (c .dry) (endIn (c .right)) (rightIn d (r .n - 1))
+fastEnds r c d = fastLeft r c d || fastRight r c d
 
 abbrev pub SlowEnds : Reach → Call → List (List ℤ) → Type 0
 SlowEnds r c d = fastEnds r c d ≡ false

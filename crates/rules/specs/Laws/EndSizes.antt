@@ -19,6 +19,10 @@ use Rattle.rules.specs.Laws.Face.{lawful}
 use Rattle.rules.specs.Laws.Sizes.{Sound, wave-size, square-size, Sized, face-sized}
 use Rattle.rules.specs.Laws.Ends.{inflow-size, right-turned}
 
+-- a Q in its list is no larger than a discharge may be
+pub inflow-most : (e : End) → e .q ≤ largestInflow → Within 8388608 (pos (e .q))
+inflow-most e q = record { abs = q }
+
 pub outer-sound : (kind : ℕ) (x : Side) → Sound x → Sound (outer kind x)
 unfolding outer
 outer-sound kind x s = record {
@@ -30,7 +34,7 @@ outer-sound kind x s = record {
 module _ (d : ℤ) (e : End) (x : Side) (s : Sound x) (q : e .q ≤ largestInflow) where
   inflow-sized : Within 131072 (inflowSpeed d e x) → Sized (inflow d e (pos (e .q)) x)
   unfolding inflow
-  inflow-sized v = let w : Within 8388608 (pos (e .q)) = record { abs = q } in record {
+  inflow-sized v = let w = inflow-most e q in record {
     F = b-up 51439616 w tt;
     K≥0 = mul-nonneg (x .h) (x .h) (s .least) (s .least);
     K = square-size s;

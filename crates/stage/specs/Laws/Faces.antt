@@ -1,7 +1,6 @@
 -- What crosses a face at an end and between two cells, and its sizes where all sides and inflows are within the limits.
 -- Assumes nothing.
 use mathlib.Core.Path.{_≡_, refl, sym, subst}
-use mathlib.Core.Bool.{Bool}
 use mathlib.Core.List.{List, []}
 use Prim.Native.Nat.{ℕ, zero, suc, _-_, _≤_, _<_}
 use native.Mathlib.Omega.{arith}
@@ -16,14 +15,13 @@ use Rattle.rules.specs.Limits.{longestStep}
 use Rattle.rules.specs.Face.{Side, Flux, face}
 use Rattle.rules.specs.Shown.{crossRight, crossAt, volume}
 use Rattle.rules.specs.Ends.{leftEnd, rightEnd}
-use Rattle.rules.specs.Refusals.{fastInflow}
 use Rattle.rules.specs.Laws.Sizes.{Sized, face-sized}
 use Rattle.rules.specs.Laws.EndSizes.{left-end-sized, right-end-sized}
 use Rattle.reach.specs.declared.Reach.{Reach}
 use Rattle.reach.specs.declared.Call.{Call}
 use Rattle.reach.specs.Told.{endIn}
 use Rattle.reach.specs.Ranges.{UpTo, Numbers}
-use Rattle.stage.specs.Rows.{leftIn, rightIn, Sounds, fastEnds, SlowEnds, faceRow, crossIn, faceRowAt}
+use Rattle.stage.specs.Rows.{leftIn, rightIn, Sounds, fastLeft, fastRight, fastEnds, SlowEnds, faceRow, crossIn, faceRowAt}
 use Rattle.stage.specs.Ranges.{Row, FaceRows}
 
 -- the row that is kept of a face
@@ -57,21 +55,16 @@ module _ (reach : Reach) (call : Call) (d : List (List ℤ)) where
 
   -- what crosses a face is as large as the limits of its sides and of the ends' inflows allow
   module _ (o : 0 < n) (num : Numbers reach call) (s : Sounds d n) (slow : SlowEnds reach call d) where
-    abbrev inLeft : Bool
-    inLeft = fastInflow (call .dry) (endIn (call .left)) (leftIn d 0)
-
-    abbrev inRight : Bool
-    inRight = fastInflow (call .dry) (endIn (call .right)) (rightIn d (n - 1))
-
     left-sized : Sized (left (leftIn d 0))
     unfolding fastEnds
-    left-sized = left-end-sized (call .dry) (endIn (call .left)) (leftIn d 0) (s 0 o .0) (num .left-q) (or-l inLeft inRight slow)
+    left-sized = left-end-sized (call .dry) (endIn (call .left)) (leftIn d 0) (s 0 o .0) (num .left-q)
+        (or-l (fastLeft reach call d) (fastRight reach call d) slow)
 
     right-sized : Sized (right (rightIn d (n - 1)))
     unfolding fastEnds
     right-sized =
         right-end-sized (call .dry) (endIn (call .right)) (rightIn d (n - 1)) (s (n - 1) (omega arith) .1) (num .right-q)
-        (or-r inLeft inRight slow)
+        (or-r (fastLeft reach call d) (fastRight reach call d) slow)
 
     pub cross-sized : (i : ℕ) → i ≤ n → Sized (crossIn reach call d i)
     cross-sized i h = go (ℕ-discrete i 0) (ℕ-discrete i n)

@@ -22,7 +22,7 @@ use Rattle.rules.specs.Laws.Shown.{inside, at-same}
 use Rattle.reach.specs.declared.Reach.{Reach}
 use Rattle.reach.specs.declared.Call.{Call}
 use Rattle.reach.specs.Told.{reachIn, callOn, bedAt}
-use Rattle.stage.specs.Rows.{leftIn, rightIn, sidesAt, fastSides, fastEnds, faceRow, shownIn, crossIn}
+use Rattle.stage.specs.Rows.{leftIn, rightIn, sidesAt, fastSides, fastLeft, fastRight, fastEnds, faceRow, shownIn, crossIn}
 use Rattle.stage.specs.Rows.{slopeOf, thrust, pushOf, tiltOf, updateBy}
 
 -- ---- the sides of a table of them are those of the state
@@ -93,10 +93,10 @@ module _ (reach : Reach) (call : Call) (bed : List ℤ) (ρ : ℕ → ℤ) (s : 
 
     -- so is the inflow of an end,
     abbrev inLeft : Bool
-    inLeft = fastInflow dry (c .left) (leftIn d 0)
+    inLeft = fastLeft reach call d
 
     abbrev inRight : Bool
-    inRight = fastInflow dry (c .right) (rightIn d last)
+    inRight = fastRight reach call d
 
     left-fast : inLeft ≡ fastInflow dry (c .left) (atLeft r c s 0)
     left-fast = ap (fastInflow dry (c .left)) (left-in dry n bed s d w 0 o)

@@ -8,7 +8,7 @@ use Rattle.whole.specs.Machine.{back}
 use Rattle.rules.specs.Refusals.{fastInflow}
 use Rattle.rules.specs.Laws.Sizes.{Sound}
 use Rattle.reach.specs.Told.{endIn}
-use Rattle.stage.specs.Rows.{sideIn, leftIn, fastEnds}
+use Rattle.stage.specs.Rows.{sideIn, fastLeft, fastEnds}
 use Rattle.stage.proofs.ends.fast_ends.Statement.{statement}
 use Rattle.stage.proofs.ends.fast_ends.Tie as tie
 
@@ -26,7 +26,7 @@ fast-inflow-requires c κs =
     (given .left-q, (first-sound l, rw (back {z = s .args .call .dry} (c .struct-told .given .1 .1 .0 .1)) (given .dry)))
 
 left-test : (f : tie.After-fast-inflow) → let a = start (f .before .before) .args in
-    fastInflow (a .call .dry) (endIn (a .call .left)) (leftIn (now (a .d)) 0) ≡ f .fast-inflow .result
+    fastLeft (a .reach) (a .call) (now (a .d)) ≡ f .fast-inflow .result
 left-test f =
     let k = f .before in let l = k .before in let a = start l .args in
     sym ((rw (back {z = a .call .dry} (k .struct-told .given .1 .1 .0 .1)) at (f .fast-inflow .ensures))

@@ -11,6 +11,7 @@ use Rattle.whole.specs.Machine.{X, v, k, _⊗_, _⊘_, Entry, need, value, back
 use Rattle.rules.specs.Ends.{inflowSpeed, inflow}
 use Rattle.rules.specs.Laws.Speeds.{speed-size}
 use Rattle.rules.specs.Laws.Sizes.{depth-size}
+use Rattle.rules.specs.Laws.EndSizes.{inflow-most}
 use Rattle.reach.specs.Told.{endIn}
 use Rattle.stage.specs.Rows.{sideIn}
 use Rattle.stage.specs.Laws.UpdateSizes.{sized}
@@ -22,7 +23,7 @@ abbrev fast : tie.Start → ℤ
 fast s = inflowSpeed (s .args .dry) (endIn (s .args .end)) (sideIn (s .args .x))
 
 inflow-in : (s : tie.Start) → Within 8388608 (pos (s .args .end .q))
-inflow-in s = record { abs = s .pre .0 }
+inflow-in s = inflow-most (endIn (s .args .end)) (s .pre .0)
 
 fast-in : (s : tie.Start) → Within 17179869184 (fast s)
 unfolding inflowSpeed

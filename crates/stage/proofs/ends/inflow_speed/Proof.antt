@@ -6,11 +6,13 @@ use Rattle.whole.specs.Parts.{Within, fit}
 use Rattle.whole.specs.Machine.{back64}
 use Rattle.rules.specs.Ends.{inflowSpeed}
 use Rattle.rules.specs.Laws.Sizes.{depth-size}
+use Rattle.rules.specs.Laws.EndSizes.{inflow-most}
+use Rattle.reach.specs.Told.{endIn}
 use Rattle.stage.proofs.ends.inflow_speed.Statement.{statement}
 use Rattle.stage.proofs.ends.inflow_speed.Tie as tie
 
 inflow-in : (s : tie.Start) → Within 8388608 (pos (s .args .end .q))
-inflow-in s = record { abs = s .pre .0 }
+inflow-in s = inflow-most (endIn (s .args .end)) (s .pre .0)
 
 speed-of-requires : tie.Need-speed-of-requires
 speed-of-requires c κs =

@@ -3,12 +3,12 @@ use mathlib.Core.Path.{sym, _∙_, ap, subst}
 use mir.Facts.{toZ-ofZ}
 use borrow.Author.Needs.{needs}
 use borrow.Author.Tests.{eq-eqb, ne-eqb}
-use lib.IntN.{pos}
-use Rattle.whole.specs.Parts.{Within, fit}
+use Rattle.whole.specs.Parts.{fit}
 use Rattle.rules.specs.Face.{Side, face}
 use Rattle.rules.specs.Ends.{leftEnd}
 use Rattle.rules.specs.Laws.Sizes.{Sound}
-use Rattle.rules.specs.Laws.EndSizes.{outer-sound}
+use Rattle.rules.specs.Laws.EndSizes.{inflow-most, outer-sound}
+use Rattle.reach.specs.Told.{endIn}
 use Rattle.stage.specs.Rows.{sideIn}
 use Rattle.stage.proofs.ends.left_end.Statement.{statement}
 use Rattle.stage.proofs.ends.left_end.Tie as tie
@@ -17,7 +17,7 @@ returns : tie.Need-returns
 unfolding leftEnd
 returns c =
     let w = c .before in let t = w .before in let s = t .before .before in
-    let q : Within 8388608 (pos (s .args .end .q)) = record { abs = s .pre .0 } in
+    let q = inflow-most (endIn (s .args .end)) (s .pre .0) in
     rw (eq-eqb _ _ (t .if1 .taken)) (rw (w .widened .ensures, toZ-ofZ (fit q tt), toZ-ofZ (s .fits .dry)) at (c .inflow .ensures))
 
 crossing-requires : tie.Need-crossing-requires

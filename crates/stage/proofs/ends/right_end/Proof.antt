@@ -12,7 +12,8 @@ use Rattle.whole.specs.Machine.{X, v, k, _⊝_, Entry, rd, need, value}
 use Rattle.rules.specs.Face.{face}
 use Rattle.rules.specs.Ends.{rightEnd}
 use Rattle.rules.specs.Laws.Sizes.{Sound}
-use Rattle.rules.specs.Laws.EndSizes.{outer-sound}
+use Rattle.rules.specs.Laws.EndSizes.{inflow-most, outer-sound}
+use Rattle.reach.specs.Told.{endIn}
 use Rattle.stage.specs.Rows.{sideIn}
 use Rattle.stage.specs.Laws.UpdateSizes.{sized}
 use Rattle.stage.proofs.ends.right_end.Statement.{statement}
@@ -22,7 +23,7 @@ abbrev start : tie.After-widened → tie.Start
 start w = w .before .before .before
 
 abbrev env : tie.After-widened → List Entry
-env w = sized (subst (Within 8388608) (sym (w .widened .ensures)) (record { abs = start w .pre .0 })) tt ∷ []
+env w = sized (subst (Within 8388608) (sym (w .widened .ensures)) (inflow-most (endIn (start w .args .end)) (start w .pre .0))) tt ∷ []
 
 abbrev less : X
 less = k (pos 0) ⊝ v 0
