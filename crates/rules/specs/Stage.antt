@@ -6,7 +6,7 @@ use Rattle.tables.specs.Cells.{Cell}
 use Rattle.rules.specs.Face.{Side, Flux, speed}
 use Rattle.rules.specs.Shown.{Shown, crossRight, crossAt, volume}
 use Rattle.rules.specs.Ends.{leftEnd, rightEnd}
-use Rattle.rules.specs.Reach.{Reach, Call, State, Bed, under, z1, h0, h1, depthL, depthR, groundL, groundR, sideL, sideR}
+use Rattle.rules.specs.Reach.{Reach, Call, State, Bed, under, z1, h0, h1, hl, hr, sideL, sideR}
 
 -- ---- faces
 -- the side that cell i shows to its left and right face
@@ -63,7 +63,7 @@ gauss d b x = carried d (flowBefore x) (depthBefore b x) +ℤ carried d (flowBeh
 -- ---- cells
 -- E: the pressure at the faces against the bed, for the mean
 unfoldable pub push : Bed → Cell → Flux → Flux → ℤ
-push b x l f = l .K -ℤ f .K -ℤ (depthR b x +ℤ depthL b x) *ℤ (groundR b x -ℤ groundL b x)
+push b x l f = l .K -ℤ f .K -ℤ (hr b x +ℤ hl b x) *ℤ (b .zr -ℤ b .zl)
 
 -- D: the same for the slope
 unfoldable pub tilt : Bed → Cell → Flux → Flux → ℤ

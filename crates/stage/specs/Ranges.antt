@@ -139,13 +139,10 @@ FaceRows f n = (i : ℕ) → i < suc n → Row (getD f i [])
 abbrev pub Momenta : List ℤ → ℕ → Type 0
 Momenta g n = (i : ℕ) → i < n → UpTo mostMomentum (getD g i (pos 0))
 
--- what E and D are formed of: a mean depth m with the slope s, whose face depths are not below nought, over a bed from zl to zr,
--- and the pressures kl and kr
+-- what E and D are formed of: a mean depth m with the slope s, over a bed from zl to zr, and the pressures kl and kr
 pub record Pressed (m s zl zr kl kr : ℤ) : Type 0 where
   pub mean : UpTo deepest m
   pub slope : UpTo (pos 131072) s
-  pub left : pos 0 ≤ℤ (m -ℤ s)
-  pub right : pos 0 ≤ℤ (m +ℤ s)
   pub zl-in : UpTo highestBed zl
   pub zr-in : UpTo highestBed zr
   pub kl-in : UpTo mostSquare kl

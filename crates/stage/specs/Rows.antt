@@ -11,7 +11,7 @@ use Rattle.rules.specs.Face.{speed, face}
 use Rattle.rules.specs.Face as rules
 use Rattle.rules.specs.Shown.{Shown, crossAt, volume}
 use Rattle.rules.specs.Ends.{leftEnd, rightEnd}
-use Rattle.rules.specs.Reach.{State, Bed, short, h0, h1, sideL, sideR}
+use Rattle.rules.specs.Reach.{State, Bed, h0, h1, sideL, sideR}
 use Rattle.rules.specs.Stage.{carried, flowBefore, flowBehind, depthBefore, depthBehind, gauss}
 use Rattle.rules.specs.Step.{half, rubbedCell, joinedCell}
 use Rattle.rules.specs.Refusals.{fastSide, fastInflow, fastPoints}
@@ -36,9 +36,9 @@ leftOf l = record { h = getD l 0 (pos 0); u = getD l 1 (pos 0) }
 abbrev pub rightOf : List ℤ → rules.Side
 rightOf l = record { h = getD l 2 (pos 0); u = getD l 3 (pos 0) }
 
--- at the dry depth dry, the side at a face whose level lies h over the bed, with the discharge q
+-- at the dry depth dry, the side at a face of depth h and discharge q
 abbrev pub sideBy : ℤ → ℤ → ℤ → rules.Side
-sideBy dry h q = record { h = h +ℤ short h; u = speed dry q (h +ℤ short h) }
+sideBy dry h q = record { h = h; u = speed dry q h }
 
 -- those of cell i, of a table of rows
 abbrev pub leftIn : List (List ℤ) → ℕ → rules.Side
@@ -140,9 +140,7 @@ thrust e dx dt = quotZ (pos 981 *ℤ e *ℤ dt) (pos 819200 *ℤ dx)
 
 -- E and D, of a mean depth m with the slope s over a bed from zl to zr, between faces of pressure kl and kr
 unfoldable pub pushOf : ℤ → ℤ → ℤ → ℤ → ℤ → ℤ → ℤ
-pushOf m s zl zr kl kr =
-    kl -ℤ kr
-    -ℤ ((m +ℤ s +ℤ short (m +ℤ s)) +ℤ (m -ℤ s +ℤ short (m -ℤ s))) *ℤ ((zr -ℤ short (m +ℤ s)) -ℤ (zl -ℤ short (m -ℤ s)))
+pushOf m s zl zr kl kr = kl -ℤ kr -ℤ (m +ℤ s +ℤ (m -ℤ s)) *ℤ (zr -ℤ zl)
 
 unfoldable pub tiltOf : ℤ → ℤ → ℤ → ℤ → ℤ → ℤ → ℤ
 tiltOf m s zl zr kl kr =

@@ -1,5 +1,4 @@
-// The sides that each cell shows to its two faces: a depth, from which any shortfall below the bed
-// has been taken, and the speed of the face discharge at it.
+// The sides that each cell shows to its two faces: a depth, and the speed of the face discharge at it.
 use crate::cell::depths;
 use crate::cell::either_fast;
 use crate::rows::Sides;
@@ -17,9 +16,9 @@ ghost use Rattle.tables.specs.Filling.{FillSays};
 ghost use Rattle.tables.specs.Cells.{asCell, seen};
 ghost use Rattle.rules.specs.Limits.{deepest, fullest};
 ghost use Rattle.rules.specs.Face.{speed};
-ghost use Rattle.rules.specs.Reach.{short, sideL, sideR};
+ghost use Rattle.rules.specs.Reach.{sideL, sideR};
 ghost use Rattle.reach.specs.Told.{bedIn};
-ghost use Rattle.reach.specs.Ranges.{UpTo, DryDepth, widest};
+ghost use Rattle.reach.specs.Ranges.{UpTo, DryDepth};
 ghost use Rattle.stage.specs.Ranges.{Room, Inside, Ranged, Around};
 ghost use Rattle.stage.specs.Rows.{sideBy, sideRow, sidesAt, fastSides};
 
@@ -36,30 +35,14 @@ pub fn speed_of(q: i64, h: i64, dry: i64) -> i64
     }
 }
 
-// By how much a face level lies below the bed.
-pub fn short_of(h: i64) -> i64
-    requires { ⌜ UpTo widest h ⌝ }
-    ensures { λ r. ⌜ r ≡ short h ⌝ }
-{
-    if h < 0 { -h } else { 0 }
-}
-
-// The depth at a face whose level lies h over the bed: 0 where it lies below.
-fn depth_of(h: i64) -> i64
-    requires { ⌜ UpTo deepest h ⌝ }
-    ensures { λ r. ⌜ r ≡ h +ℤ short h ⌝ }
-{
-    h + short_of(h)
-}
-
 // The two sides of a cell of mean depth m and slope d, mean discharge p and slope q.
 fn row_of(m: i64, d: i64, p: i64, q: i64, dry: i64) -> Sides
     requires { ⌜ Around m d p q ⌝ }
     requires { ⌜ DryDepth dry ⌝ }
     ensures { λ r. ⌜ r ≡ sideRow (sideBy dry (m -ℤ d) (p -ℤ q)) (sideBy dry (m +ℤ d) (p +ℤ q)) ⌝ }
 {
-    let hl = depth_of(m - d);
-    let hr = depth_of(m + d);
+    let hl = m - d;
+    let hr = m + d;
     let ul = speed_of(p - q, hl, dry);
     let ur = speed_of(p + q, hr, dry);
     [hl, ul, hr, ur]

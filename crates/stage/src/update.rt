@@ -1,7 +1,6 @@
 // The cells after a stage, from what crosses their faces.
 use crate::cell::depths;
 use crate::rows::FaceRow;
-use crate::sides::short_of;
 use reach::Call;
 use reach::Cell;
 use reach::Reach;
@@ -39,16 +38,14 @@ fn thrust_of(e: i64, reach: Reach, call: Call) -> i64
 }
 
 // E: the pressures kl and kr of the two faces against the bed, from zl to zr under the mean depth m
-// and its slope s; any shortfall is taken from both.
+// and its slope s.
 fn push_of(m: i64, s: i64, zl: i64, zr: i64, kl: i64, kr: i64) -> i64
     requires { ⌜ Pressed m s zl zr kl kr ⌝ }
     ensures { λ r. ⌜ r ≡ pushOf m s zl zr kl kr ⌝ }
 {
     let left = m - s;
     let right = m + s;
-    let sl = short_of(left);
-    let sr = short_of(right);
-    kl - kr - (right + sr + (left + sl)) * (zr - sr - (zl - sl))
+    kl - kr - (right + left) * (zr - zl)
 }
 
 // D: the same for the slope.

@@ -14,7 +14,7 @@ use Rattle.whole.specs.Tests.{yes-le}
 use Rattle.tables.specs.Cells.{Cell}
 use Rattle.rules.specs.Face.{speed}
 use Rattle.rules.specs.Friction.{drag, slowed}
-use Rattle.rules.specs.Reach.{Reach, Call, State, Bed, under, h0, shallow, depthL, depthR, sideL, sideR}
+use Rattle.rules.specs.Reach.{Reach, Call, State, Bed, under, h0, hl, hr, shallow, sideL, sideR}
 use Rattle.rules.specs.Stage.{atLeft, atRight, faceRight, faceAt, depthBefore, depthBehind, carried, gauss, tilt, update, stage}
 use Rattle.rules.specs.Finishing.{limit, cut, dried, finish}
 use Rattle.rules.specs.Step.{rub, rubbedCell, rubbed}
@@ -50,13 +50,13 @@ module _ (r : Reach) (c : Call) (s : State) (i : ℕ) where
   x = s i
 
   -- a face no deeper has no speed,
-  pub still-left : depthL b x ≤ℤ c .dry → atLeft r c s i .u ≡ pos 0
+  pub still-left : hl b x ≤ℤ c .dry → atLeft r c s i .u ≡ pos 0
   unfolding sideL
-  still-left l = still (c .dry) _ (depthL b x) l
+  still-left l = still (c .dry) _ (hl b x) l
 
-  pub still-right : depthR b x ≤ℤ c .dry → atRight r c s i .u ≡ pos 0
+  pub still-right : hr b x ≤ℤ c .dry → atRight r c s i .u ≡ pos 0
   unfolding sideR
-  still-right l = still (c .dry) _ (depthR b x) l
+  still-right l = still (c .dry) _ (hr b x) l
 
   -- and Gauss points no deeper have none to check, and 0 stands for what they carry in the discharge's slope
   module _ (before : depthBefore b x ≤ℤ c .dry) (behind : depthBehind b x ≤ℤ c .dry) where

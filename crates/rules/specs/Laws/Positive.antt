@@ -8,14 +8,13 @@ use lib.IntN.{ℤ, pos, negℤ, _+ℤ_, _-ℤ_}
 use lib.Signed.{quotZ, ltZ, _≤ℤ_, _<ℤ_}
 use Rattle.whole.specs.Flags.{cond-ind}
 use Rattle.whole.specs.Parts.{of-le, le-refl}
-use Rattle.whole.specs.Difference.{at, lit, _⊞_, _⊟_, ⊖, _⊠_, le!, le?, plus-none}
+use Rattle.whole.specs.Difference.{at, lit, _⊞_, _⊟_, ⊖, _⊠_, le!, le? }
 use Rattle.whole.specs.Quotient.{halves}
 use Rattle.whole.specs.Tests.{lt-no}
-use Rattle.whole.specs.Choice.{maxZ, max-r, max-none}
 use Rattle.tables.specs.Cells.{Cell}
 use Rattle.rules.specs.Lawful.{Lawful}
 use Rattle.rules.specs.Shown.{crossAt, volume}
-use Rattle.rules.specs.Reach.{Reach, Call, State, Bed, under, z0, z1, h0, h1, hl, hr, short, depthL, depthR, sideL, sideR}
+use Rattle.rules.specs.Reach.{Reach, Call, State, Bed, under, z0, z1, h0, h1, hl, hr, sideL, sideR}
 use Rattle.rules.specs.Stage.{shown, faceRight, faceAt, update, stage}
 use Rattle.rules.specs.Finishing.{limit, clipped, cut, dried, finish}
 use Rattle.rules.specs.Step.{rubbed, rubbedCell, stageOne, half, carry, joinedCell, joined, next}
@@ -45,53 +44,29 @@ mean≥0 b x n =
     let d = h1 b x in
     le! (lit 0) (at m) (omega (arith, le? (lit 0) (at m ⊟ at d) (n .left), le? (lit 0) (at m ⊞ at d) (n .right)))
 
--- ---- the shortfall correction: nothing where there is depth, and no depth below nought in any case
-pub no-short : (h : ℤ) → pos 0 ≤ℤ h → short h ≡ pos 0
-unfolding short
-no-short h k = max-none h k
-
-pub depthL-is : (b : Bed) (x : Cell) → pos 0 ≤ℤ hl b x → depthL b x ≡ hl b x
-unfolding depthL
-depthL-is b x h = rw (no-short (hl b x) h) (plus-none (hl b x))
-
-pub depthR-is : (b : Bed) (x : Cell) → pos 0 ≤ℤ hr b x → depthR b x ≡ hr b x
-unfolding depthR
-depthR-is b x h = rw (no-short (hr b x) h) (plus-none (hr b x))
-
-lifted : (h : ℤ) → pos 0 ≤ℤ (h +ℤ short h)
-unfolding short
-lifted h = le! (lit 0) (at h ⊞ at (short h)) (omega (arith, le? (⊖ (at h)) (at (maxZ (pos 0) (negℤ h))) (max-r (pos 0) (negℤ h))))
-
-sideL≥0 : (d : ℤ) (b : Bed) (x : Cell) → pos 0 ≤ℤ sideL d b x .h
-unfolding sideL depthL
-sideL≥0 d b x = lifted (hl b x)
-
-sideR≥0 : (d : ℤ) (b : Bed) (x : Cell) → pos 0 ≤ℤ sideR d b x .h
-unfolding sideR depthR
-sideR≥0 d b x = lifted (hr b x)
+-- its row is sound: it shows no depth below nought, and no end takes more than its cell has
+sound : (r : Reach) → Lawful (r .face) → (c : Call) (s : State) → Wet r s → SoundRow (shown r c s)
+unfolding sideL sideR
+sound r law c s w = record {
+  law = law;
+  left = left-end-takes (r .face) law (c .dry) (c .left);
+  right = right-end-takes (r .face) law (c .dry) (c .right);
+  toLeft = λ i l. w i l .left;
+  toRight = λ i l. w i l .right;
+}
 
 -- at every face 2·dt·S is at most 4096·dx
 abbrev pub Brief : Reach → Call → State → Type 0
 Brief r c s = (i : ℕ) → i < suc (r .n) → InTime (r .dx) (c .dt) (faceAt r c s i)
-
--- the row of a state is sound: the shortfall correction leaves no depth below nought, and no end takes more than its cell has
-sound : (r : Reach) → Lawful (r .face) → (c : Call) (s : State) → SoundRow (shown r c s)
-sound r law c s = record {
-  law = law;
-  left = left-end-takes (r .face) law (c .dry) (c .left);
-  right = right-end-takes (r .face) law (c .dry) (c .right);
-  toLeft = λ i l. sideL≥0 (c .dry) (under r i) (s i);
-  toRight = λ i l. sideR≥0 (c .dry) (under r i) (s i);
-}
 
 -- ---- a stage: the two depths that a cell shows come to twice its mean
 module _ (r : Reach) (law : Lawful (r .face)) (c : Call) (ok : Fine r c) (s : State) (w : Wet r s) (t : Brief r c s) where
   pub stage-mean : (i : ℕ) → i < r .n
       → pos 0 ≤ℤ (h0 (under r i) (s i) +ℤ volume (r .dx) (c .dt) (faceAt r c s i) -ℤ volume (r .dx) (c .dt) (faceRight r c s i))
   unfolding sideL sideR hl hr
-  stage-mean i l = let b = under r i in let x = s i in let m = h0 b x in let d = h1 b x in
-      keeps (shown r c s) (sound r law c s) (r .dx) (c .dt) (ok .dx) (ok .dt) t i l m
-      (rw (depthL-is b x (w i l .left), depthR-is b x (w i l .right)) (le! (at m ⊟ at d ⊞ (at m ⊞ at d)) (lit 2 ⊠ at m) (omega arith)))
+  stage-mean i l = let m = h0 (under r i) (s i) in let d = h1 (under r i) (s i) in
+      keeps (shown r c s) (sound r law c s w) (r .dx) (c .dt) (ok .dx) (ok .dt) t i l m
+      (le! (at m ⊟ at d ⊞ (at m ⊞ at d)) (lit 2 ⊠ at m) (omega arith))
 
 -- ---- finishing
 pub clipped-most : (m x : ℤ) → pos 0 ≤ℤ m → clipped m x ≤ℤ m

@@ -19,8 +19,7 @@ use Rattle.whole.specs.Choice.{sizeZ, size-of}
 use Rattle.tables.specs.Cells.{Cell}
 use Rattle.rules.specs.Face.{Side, Flux, speed}
 use Rattle.rules.specs.Lawful.{Still, resting, Lawful}
-use Rattle.rules.specs.Reach.{Reach, Call, State, el, er, ql, qr, Bed, under, z0, z1, h0, h1, hl}
-use Rattle.rules.specs.Reach.{hr, short, depthL, depthR, groundL, groundR, sideL, sideR}
+use Rattle.rules.specs.Reach.{Reach, Call, State, el, er, ql, qr, Bed, under, z0, z1, h0, h1, hl, hr, sideL, sideR}
 use Rattle.rules.specs.Shown.{volume}
 use Rattle.rules.specs.Stage.{atLeft, atRight, shown, faceRight, faceAt, share}
 use Rattle.rules.specs.Stage.{depthBefore, depthBehind, carried, gauss, push, tilt, update, stage}
@@ -34,7 +33,7 @@ use Rattle.rules.specs.Laws.Shown.{inside, none-volume, QuietRow, quiet-
 use Rattle.rules.specs.Laws.Ends.{left-end-still, right-end-still}
 use Rattle.rules.specs.Laws.EvenBed.{EvenBed, hl-is, hr-is}
 use Rattle.rules.specs.Laws.Balance.{half-same}
-use Rattle.rules.specs.Laws.Positive.{Nonneg, no-short, depthL-is, depthR-is}
+use Rattle.rules.specs.Laws.Positive.{Nonneg}
 
 pub rest-same : (r : Reach) (s t : State) → Same r t s → AtRest r s → AtRest r t
 rest-same r s t e a = record {
@@ -44,14 +43,12 @@ rest-same r s t e a = record {
 }
 
 -- ---- small facts
-side-is : (a b : Side) → a .h ≡ b .h → a .u ≡ b .u → a ≡ b
-side-is a b p q = λ j. record { h = p j; u = q j }
-
 cell-is : (x y : Cell) → x .e0 ≡ y .e0 → x .e1 ≡ y .e1 → x .q0 ≡ y .q0 → x .q1 ≡ y .q1 → x ≡ y
 cell-is x y a b c d = λ j. record { e0 = a j; e1 = b j; q0 = c j; q1 = d j }
 
-speed-calm : (d q h : ℤ) → q ≡ pos 0 → speed d q h ≡ pos 0
-speed-calm d q h e = rw e (speed-none d h)
+-- a side of depth h with no discharge
+side-calm : (d q h : ℤ) → q ≡ pos 0 → _≡_ {A = Side} (record { h = h; u = speed d q h }) (resting h)
+side-calm d q h e = rw (e, speed-none d h)
 
 zero-left : (b : Bed) (x : Cell) → Dry b x → hl b x ≡ pos 0
 unfolding hl h0 h1
@@ -108,15 +105,13 @@ module _ (r : Reach) (ev : EvenBed r) (s : State) (a : AtRest r s) where
   module _ (law : Lawful (r .face)) (c : Call) (shut : NoInflow c) where
     sideL-rest : (i : ℕ) → i < r .n → atLeft r c s i ≡ resting (hl (under r i) (s i))
     unfolding sideL
-    sideL-rest i l = side-is (atLeft r c s i) (resting (hl (under r i) (s i))) (depthL-is (under r i) (s i) (rest-wet i l .left))
-        (speed-calm (c .dry) (ql (s i)) (depthL (under r i) (s i))
-        (eq! (at (s i .q0) ⊟ at (s i .q1)) (lit 0) (omega (arith, of-eq (a .calm i l .q0), of-eq (a .calm i l .q1)))))
+    sideL-rest i l = side-calm (c .dry) (ql (s i)) (hl (under r i) (s i))
+        (eq! (at (s i .q0) ⊟ at (s i .q1)) (lit 0) (omega (arith, of-eq (a .calm i l .q0), of-eq (a .calm i l .q1))))
 
     sideR-rest : (i : ℕ) → i < r .n → atRight r c s i ≡ resting (hr (under r i) (s i))
     unfolding sideR
-    sideR-rest i l = side-is (atRight r c s i) (resting (hr (under r i) (s i))) (depthR-is (under r i) (s i) (rest-wet i l .right))
-        (speed-calm (c .dry) (qr (s i)) (depthR (under r i) (s i))
-        (eq! (at (s i .q0) ⊞ at (s i .q1)) (lit 0) (omega (arith, of-eq (a .calm i l .q0), of-eq (a .calm i l .q1)))))
+    sideR-rest i l = side-calm (c .dry) (qr (s i)) (hr (under r i) (s i))
+        (eq! (at (s i .q0) ⊞ at (s i .q1)) (lit 0) (omega (arith, of-eq (a .calm i l .q0), of-eq (a .calm i l .q1))))
 
     -- its row is one of still water, so nothing flows
     abbrev lefts : ℕ → ℤ
@@ -142,23 +137,19 @@ module _ (r : Reach) (ev : EvenBed r) (s : State) (a : AtRest r s) where
 
     push-none : (i : ℕ) → i < r .n → (l f : Flux) → Still (hl (under r i) (s i)) l → Still (hr (under r i) (s i)) f
         → push (under r i) (s i) l f ≡ pos 0
-    unfolding push groundL groundR
+    unfolding push
     push-none i m l f p q =
         let x = s i in let d = hl (under r i) x in let e = hr (under r i) x in let zl = r .bed i in let zr = r .bed (suc i) in
-        let nl : short d ≡ pos 0 = no-short d (rest-wet i m .left) in let nr : short e ≡ pos 0 = no-short e (rest-wet i m .right) in
-        rw (depthL-is (under r i) x (rest-wet i m .left), depthR-is (under r i) x (rest-wet i m .right))
-        (push-alg d e (l .K) (f .K) (zr -ℤ short e -ℤ (zl -ℤ short d)) (p .K≡) (q .K≡)
+        push-alg d e (l .K) (f .K) (zr -ℤ zl) (p .K≡) (q .K≡)
         (⊎-elim (λ y. inr (zero-left (under r i) x y, zero-right (under r i) x y))
-        (λ g. inl (eq! (at zr ⊟ at (short e) ⊟ (at zl ⊟ at (short d))) (at d ⊟ at e)
+        (λ g. inl (eq! (at zr ⊟ at zl) (at d ⊟ at e)
         (omega (
           arith,
-          of-eq nl,
-          of-eq nr,
           of-eq (g .slope),
           eq? (at d) (at (x .e0) ⊟ at (x .e1) ⊟ at zl) (hl-is r ev i m x),
           eq? (at e) (at (x .e0) ⊞ at (x .e1) ⊟ at zr) (hr-is r ev i m x),
         ))))
-        (a .cell i m)))
+        (a .cell i m))
 
     tilt-none : (i : ℕ) → i < r .n → (l f : Flux) → Still (hl (under r i) (s i)) l → Still (hr (under r i) (s i)) f
         → tilt (under r i) (s i) l f ≡ pos 0

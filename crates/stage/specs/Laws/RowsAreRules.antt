@@ -15,7 +15,7 @@ use Rattle.tables.specs.Rows.{Written}
 use Rattle.tables.specs.Cells.{Cell}
 use Rattle.rules.specs.Face.{Flux}
 use Rattle.rules.specs.Reach as rules
-use Rattle.rules.specs.Reach.{State, Bed, z1, hl, hr, depthL, depthR, groundL, groundR, sideL, sideR}
+use Rattle.rules.specs.Reach.{State, Bed, z1, hl, hr, sideL, sideR}
 use Rattle.rules.specs.Stage.{atLeft, atRight, faceAt, gauss, push, tilt, update}
 use Rattle.rules.specs.Refusals.{fastSide, fastInflow, fastFace}
 use Rattle.rules.specs.Laws.Shown.{inside, at-same}
@@ -134,5 +134,5 @@ module _ (reach : Reach) (call : Call) (bed : List ℤ) (ρ : ℕ → ℤ) (s : 
 -- ---- an update from rows is the rule's
 pub update-is : (dx dt dry : ℤ) (b : Bed) (x : Cell) (l f : Flux)
     → updateBy dx dt b x (faceRow dx dt l) (faceRow dx dt f) (gauss dry b x) ≡ update dx dt dry b x l f
-unfolding updateBy slopeOf thrust update pushOf tiltOf push tilt depthL depthR groundL groundR hl hr z1
+unfolding updateBy slopeOf thrust update pushOf tiltOf push tilt hl hr z1
 update-is dx dt dry b x l f = refl

@@ -22,7 +22,6 @@ use Rattle.rules.specs.Stage.{carried, gauss, flowBefore, flowBehind, depthBefo
 use Rattle.rules.specs.Finishing.{isLimited, limit, beyond, cut, dried}
 use Rattle.rules.specs.Step.{half, joinedCell}
 use Rattle.rules.specs.Refusals.{past, fastPoints}
-use Rattle.rules.specs.Laws.Positive.{depthL-is, depthR-is}
 use Rattle.rules.specs.Laws.Sizes.{Sound}
 use Rattle.reach.specs.Told.{bedAt}
 use Rattle.reach.specs.Ranges.{UpTo, widest, Ground, Wide}
@@ -34,22 +33,16 @@ use Rattle.stage.specs.Laws.CellSizes.{cell-sizes}
 use Rattle.stage.specs.Laws.RowsAreRules.{left-in, right-in, slow-sides}
 
 -- ---- sides that passed check 6
--- a side of depth d, which is the depth h of the level over the bed
-sound : (dry : ℤ) {d h : ℤ} (q : ℤ) → d ≡ h → pos 0 ≤ℤ h → h ≤ℤ deepest → past fastest (speed dry q d) ≡ false
-    → Sound (record { h = d; u = speed dry q d })
-sound dry {d} q e l m f = record {
-  least = subst (λ (z : ℤ). pos 0 ≤ℤ z) (sym e) l;
-  most = subst (λ (z : ℤ). z ≤ℤ deepest) (sym e) m;
-  speed = within-past 131072 (speed dry q d) f;
-}
+sound : (dry h q : ℤ) → pos 0 ≤ℤ h → h ≤ℤ deepest → past fastest (speed dry q h) ≡ false → Sound (record { h = h; u = speed dry q h })
+sound dry h q l m f = record { least = l; most = m; speed = within-past 131072 (speed dry q h) f }
 
 pub sounds : (dry : ℤ) (n : ℕ) (bed : List ℤ) (s : State) → Ranged bed n s → some (fastSides dry bed s) n ≡ false
     → (d : List (List ℤ)) → Written [] d n (sidesAt dry bed s) → Sounds d n
 unfolding sideL sideR hl hr
 sounds dry n bed s inside e d w i l =
     let b = bedAt bed i in let x = s i in let f = cell-sizes (inside i l) .faces in let slow = slow-sides dry n bed s e i l in (
-      subst Sound (sym (left-in dry n bed s d w i l)) (sound dry (ql x) (depthL-is b x (f .left)) (f .left) (f .left-most) (slow .0)),
-      subst Sound (sym (right-in dry n bed s d w i l)) (sound dry (qr x) (depthR-is b x (f .right)) (f .right) (f .right-most) (slow .1)),
+      subst Sound (sym (left-in dry n bed s d w i l)) (sound dry (hl b x) (ql x) (f .left) (f .left-most) (slow .0)),
+      subst Sound (sym (right-in dry n bed s d w i l)) (sound dry (hr b x) (qr x) (f .right) (f .right-most) (slow .1)),
     )
 
 -- ---- Gauss points that passed check 6

@@ -1,20 +1,18 @@
 -- Sizes of the lines of an update: of what a slope changes by, and of the pressures E and D of a cell in range, which a thrust can take.
 -- Assumes nothing.
-use mathlib.Core.Path.{sym, subst}
-use mathlib.Core.List.{List, _∷_}
+use mathlib.Core.List.{List, [], _∷_}
 use Prim.Native.Nat.{ℕ, _^_}
 use native.Mathlib.Omega.{arith}
 use lib.Dec.{T, ltb}
 use lib.IntN.{ℤ, pos, _+ℤ_, _-ℤ_, _*ℤ_}
-use lib.Signed.{_≤ℤ_, _<ℤ_}
+use lib.Signed.{_<ℤ_}
 use Rattle.whole.specs.Parts.{Within, of-lt, b-add, b-sub, b-mul, b-lit, b-up, b-nonneg, fit}
 use Rattle.whole.specs.Difference.{at, lit, _⊠_, le!, lt! }
 use Rattle.whole.specs.Quotient.{b-quot, b-quot-by, b-quot-ge}
 use Rattle.whole.specs.Machine.{Entry, entry}
 use Rattle.tables.specs.Cells.{Cell}
 use Rattle.rules.specs.Limits.{longestStep}
-use Rattle.rules.specs.Reach.{Bed, h0, h1, hl, hr, short}
-use Rattle.rules.specs.Laws.Positive.{no-short}
+use Rattle.rules.specs.Reach.{Bed, h0, h1}
 use Rattle.reach.specs.Ranges.{UpTo}
 use Rattle.stage.specs.Rows.{slopeOf, thrust, pushOf, tiltOf, updateBy}
 use Rattle.stage.specs.Ranges.{mostSquare, mostMomentum, mostChange, mostPressure, Inside, Small, Row, Pressed, mostThrust, mostTurn}
@@ -36,28 +34,17 @@ thrust-size e dx dt p h q =
 abbrev pub sized : {A : ℕ} {x : ℤ} → Within A x → T (ltb A (2 ^ 63)) → Entry
 sized h t = entry (fit h t) h
 
--- a face depth that is not below nought falls short by nought
-short-size : (h : ℤ) → pos 0 ≤ℤ h → Within 0 (short h)
-short-size h k = subst (Within 0) (sym (no-short h k)) (b-lit (pos 0))
-
 module _ {m s zl zr kl kr : ℤ} (p : Pressed m s zl zr kl kr) where
-  -- the six, in their order, and then others
-  abbrev pub and-then : List Entry → List Entry
-  and-then l =
-      sized (p .mean) tt ∷ sized (p .slope) tt ∷ sized (p .zl-in) tt ∷ sized (p .zr-in) tt ∷ sized (p .kl-in) tt ∷ sized (p .kr-in) tt ∷ l
-
-  pub left-short : Within 0 (short (m -ℤ s))
-  left-short = short-size (m -ℤ s) (p .left)
-
-  pub right-short : Within 0 (short (m +ℤ s))
-  right-short = short-size (m +ℤ s) (p .right)
+  -- the six, in their order
+  abbrev pub six : List Entry
+  six =
+      sized (p .mean) tt ∷ sized (p .slope) tt ∷ sized (p .zl-in) tt ∷ sized (p .zr-in) tt ∷ sized (p .kl-in) tt ∷ sized (p .kr-in) tt ∷ []
 
   pub push-size : UpTo mostPressure (pushOf m s zl zr kl kr)
   unfolding pushOf
   push-size =
-      let right = b-add (b-add (p .mean) (p .slope)) right-short in let left = b-add (b-sub (p .mean) (p .slope)) left-short in
-      b-up 2000000000000 (b-sub (b-sub (p .kl-in) (p .kr-in))
-      (b-mul (b-add right left) (b-sub (b-sub (p .zr-in) right-short) (b-sub (p .zl-in) left-short)))) tt
+      let depths = b-add (b-add (p .mean) (p .slope)) (b-sub (p .mean) (p .slope)) in
+      b-up 2000000000000 (b-sub (b-sub (p .kl-in) (p .kr-in)) (b-mul depths (b-sub (p .zr-in) (p .zl-in)))) tt
 
   pub tilt-size : UpTo mostPressure (tiltOf m s zl zr kl kr)
   unfolding tiltOf
@@ -69,14 +56,11 @@ module _ {m s zl zr kl kr : ℤ} (p : Pressed m s zl zr kl kr) where
 
 module _ {b : Bed} {x : Cell} (i : Inside b x) where
   pub pressed : {kl kr : ℤ} → UpTo mostSquare kl → UpTo mostSquare kr → Pressed (h0 b x) (h1 b x) (b .zl) (b .zr) kl kr
-  unfolding hl hr
   pressed p q =
       let k = cell-sizes i in
       record {
         mean = b-nonneg (k .mean) (k .mean-most);
         slope = k .slope;
-        left = k .faces .left;
-        right = k .faces .right;
         zl-in = i .ground .zl;
         zr-in = i .ground .zr;
         kl-in = p;

@@ -1,7 +1,7 @@
 -- The sides of a cell are those of its two depths and its two discharges.
 use borrow.Author.Needs.{needs}
 use Rattle.whole.specs.Machine.{back}
-use Rattle.rules.specs.Reach.{hl, hr, depthL, depthR, sideL, sideR}
+use Rattle.rules.specs.Reach.{hl, hr, sideL, sideR}
 use Rattle.stage.specs.Laws.CellSizes.{cell-sizes}
 use Rattle.stage.proofs.sides.sides_of.Statement.{statement}
 use Rattle.stage.proofs.sides.sides_of.Tie as tie
@@ -35,7 +35,7 @@ row-of-requires c κs =
     (cell-sizes (s .pre .0) .faces, s .pre .1)
 
 returns : tie.Need-returns
-unfolding sideL sideR depthL depthR hl hr
+unfolding sideL sideR hl hr
 returns c =
     let a4 = c .before in let a3 = a4 .before in let a2 = a3 .before in let a1 = a2 .before in let d = a1 .before in
     rw (

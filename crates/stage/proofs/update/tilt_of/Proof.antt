@@ -1,15 +1,15 @@
 -- The mean is within the deepest and the slope within half of it, so every square and product of D stays small.
-use mathlib.Core.List.{List, []}
+use mathlib.Core.List.{List}
 use lib.Dec.{lit<}
 use lib.IntN.{pos}
 use Rattle.whole.specs.Machine.{X, v, k, _⊕_, _⊝_, _⊗_, _⊘_, Entry, need, value}
-use Rattle.stage.specs.Laws.UpdateSizes.{and-then}
+use Rattle.stage.specs.Laws.UpdateSizes.{six}
 use Rattle.stage.specs.Rows.{tiltOf}
 use Rattle.stage.proofs.update.tilt_of.Statement.{statement}
 use Rattle.stage.proofs.update.tilt_of.Tie as tie
 
 abbrev env : tie.Start → List Entry
-env s = and-then (s .pre) []
+env s = six (s .pre)
 
 abbrev faces : X
 faces = k (pos 3) ⊗ v 5 ⊕ k (pos 3) ⊗ v 4
