@@ -1,7 +1,7 @@
 // The two Gauss points of each cell: their speeds, and the momentum that they carry.
 use crate::cell::depths;
 use crate::cell::either_fast;
-use crate::sides::speed_of;
+use crate::sides::places_of;
 use reach::Call;
 use reach::Cell;
 use reach::Reach;
@@ -42,11 +42,10 @@ fn pair_of(m: i64, d: i64, p: i64, q: i64, dry: i64) -> [i64; 3]
     requires { ⌜ DryDepth dry ⌝ }
     ensures { λ r. ⌜ r ≡ pointsBy dry (m -ℤ d) (p -ℤ q) (m +ℤ d) (p +ℤ q) ⌝ }
 {
-    let before = p - q;
-    let behind = p + q;
-    let u = speed_of(before, m - d, dry);
-    let w = speed_of(behind, m + d, dry);
-    [u, w, carried_both(before, u, behind, w)]
+    let s = places_of(m, d, p, q, dry);
+    let u = s[1];
+    let w = s[3];
+    [u, w, carried_both(p - q, u, p + q, w)]
 }
 
 // The two speeds of a cell's Gauss points, and the sum of their momenta.

@@ -35,8 +35,9 @@ pub fn speed_of(q: i64, h: i64, dry: i64) -> i64
     }
 }
 
-// The two sides of a cell of mean depth m and slope d, mean discharge p and slope q.
-fn row_of(m: i64, d: i64, p: i64, q: i64, dry: i64) -> Sides
+// Depth and speed at two places of a cell, one on each side of its middle: at the depth m - d the
+// discharge is p - q, at m + d it is p + q.
+pub fn places_of(m: i64, d: i64, p: i64, q: i64, dry: i64) -> [i64; 4]
     requires { ⌜ Around m d p q ⌝ }
     requires { ⌜ DryDepth dry ⌝ }
     ensures { λ r. ⌜ r ≡ sideRow (sideBy dry (m -ℤ d) (p -ℤ q)) (sideBy dry (m +ℤ d) (p +ℤ q)) ⌝ }
@@ -55,7 +56,7 @@ fn sides_of(b: Bed, x: Cell, dry: i64) -> Sides
     ensures { λ r. ⌜ r ≡ sideRow (sideL dry (bedIn b) (asCell x)) (sideR dry (bedIn b) (asCell x)) ⌝ }
 {
     let h = depths(b, x);
-    row_of(h[0], h[1], x[2], x[3], dry)
+    places_of(h[0], h[1], x[2], x[3], dry)
 }
 
 // The sides of every cell of t into d, and whether some side is too fast.

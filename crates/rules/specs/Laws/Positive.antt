@@ -8,7 +8,7 @@ use lib.IntN.{ℤ, pos, negℤ, _+ℤ_, _-ℤ_}
 use lib.Signed.{quotZ, ltZ, _≤ℤ_, _<ℤ_}
 use Rattle.whole.specs.Flags.{cond-ind}
 use Rattle.whole.specs.Parts.{of-le, le-refl}
-use Rattle.whole.specs.Difference.{at, lit, _⊞_, _⊟_, ⊖, _⊠_, le!, le? }
+use Rattle.whole.specs.Difference.{at, lit, _⊞_, _⊟_, ⊖, _⊠_, le!, le?}
 use Rattle.whole.specs.Quotient.{halves}
 use Rattle.whole.specs.Tests.{lt-no}
 use Rattle.tables.specs.Cells.{Cell}

@@ -6,8 +6,8 @@ use mir.Facts.{toZ-ofZ}
 use Rattle.whole.specs.Machine.{back64}
 use Rattle.rules.specs.Face.{speed}
 use Rattle.stage.specs.Laws.Around.{left-fits, right-fits, ql-fits, qr-fits}
-use Rattle.stage.proofs.sides.row_of.Statement.{statement}
-use Rattle.stage.proofs.sides.row_of.Tie as tie
+use Rattle.stage.proofs.sides.places_of.Statement.{statement}
+use Rattle.stage.proofs.sides.places_of.Tie as tie
 
 sub-hl : tie.Need-sub-hl
 sub-hl c = simp (toZ-ofZ, c .fits .m, c .fits .d) (left-fits (c .pre .0))
@@ -42,5 +42,5 @@ returns c =
     simp (toZ-ofZ, s .fits .m, s .fits .d, left-fits r, right-fits r) (λ i.
     (a .m -ℤ a .d) ∷ back64 (b .speed-of .ok) u i ∷ (a .m +ℤ a .d) ∷ back64 (c .speed-of2 .ok) w i ∷ [])
 
-pub row-of-spec : {M : Type 1} → statement M
-row-of-spec = tie.close (tie.spec sub-hl add-hr sub-speed-of speed-of-requires add-speed-of speed-of-requires-2 returns)
+pub places-of-spec : {M : Type 1} → statement M
+places-of-spec = tie.close (tie.spec sub-hl add-hr sub-speed-of speed-of-requires add-speed-of speed-of-requires-2 returns)
