@@ -1,19 +1,40 @@
--- The step before E3: no call gave a dry depth, and it was 4 in every one; check 2 knew of none. All else is as before E4, whose
--- conditions and states are cited at that depth.
+-- The step before E3: no call gave a dry depth, and it was 4 in every one; check 2 knew of none. All else is as before E4.
 use mathlib.Core.Bool.{Bool}
 use mathlib.Core.List.{List, [], _∷_}
 use Prim.Native.Nat.{ℕ}
 use lib.Dec.{ltb}
 use lib.IntN.{ℤ, pos}
-use Rattle.tables.specs.Cells.{cellAt}
 use Rattle.rules.specs.Limits.{longestCell, longestStep, largestJump}
 use Rattle.rules.specs.Reach.{Reach, Call}
-use Rattle.rules.specs.Refusals.{any, outside, chk}
+use Rattle.rules.specs.Refusals.{any, outside}
 use Rattle.rules.specs.Lent.{Outcome}
+use Rattle.before.specs.Parts.{Parts, stepBy}
 use Rattle.before.specs.E4 as E4
 
 abbrev pub dryDepth : ℕ
 dryDepth = 4
+
+-- 2: dx, dt, J or an end kind is outside its list
+unfoldable pub badCall : Reach → Call → Bool
+badCall r c = any (
+    outside (pos 1) longestCell (r .dx)
+    ∷ outside (pos 1) longestStep (c .dt)
+    ∷ outside (pos 0) largestJump (c .jump)
+    ∷ ltb 1 (c .left .kind)
+    ∷ ltb 1 (c .right .kind)
+    ∷ []
+    )
+
+abbrev pub parts : Parts
+parts = record {
+  badCall = badCall;
+  sideL = E4.parts .sideL;
+  sideR = E4.parts .sideR;
+  leftEnd = E4.parts .leftEnd;
+  rightEnd = E4.parts .rightEnd;
+  fastInflow = E4.parts .fastInflow;
+  update = E4.parts .update;
+}
 
 -- what was lent and given
 pub record Lent : Type 0 where
@@ -42,17 +63,5 @@ given dry a = record {
   right = a .right;
 }
 
--- 2: dx, dt, J or an end kind is outside its list
-unfoldable pub badCall : Reach → Call → Bool
-badCall r c = any (
-    outside (pos 1) longestCell (r .dx)
-    ∷ outside (pos 1) longestStep (c .dt)
-    ∷ outside (pos 0) largestJump (c .jump)
-    ∷ ltb 1 (c .left .kind)
-    ∷ ltb 1 (c .right .kind)
-    ∷ []
-    )
-
-unfoldable pub stepOf : Lent → Outcome
-stepOf a = let b : E4.Lent = given dryDepth a in let r = E4.reachOf b in let c = E4.callOf b in
-    E4.outcomeBy (E4.numberBy (chk 2 (badCall r c) ∷ E4.laterChecks r c (cellAt (b .now))) b) b
+abbrev pub stepOf : Lent → Outcome
+stepOf a = stepBy parts (E4.with-no-inflow (given dryDepth a))

@@ -30,11 +30,12 @@ use Rattle.rules.specs.Laws.Face.{lawful}
 use Rattle.rules.specs.Laws.EndChecks.{kind-in, inflow-in, inflow-only}
 use Rattle.rules.specs.Laws.EndVolumes.{left-shut, right-shut, left-brought, right-brought}
 use Rattle.rules.specs.Laws.Runs.{Run, stop, step, accepted-ends, Depths, depths, TooLarge, Large}
+use Rattle.before.specs.Laws.E6 as before-E6
 use Rattle.step.specs.Gives.{lend, code, atLeft, atRight, Gives, answer, leaves}
 use Rattle.step.specs.declared.Answer.{Answer}
 use Rattle.step.specs.declared.Answer.the-variants.{Refused, Accepted}
 use Rattle.promises.specs.Seen.{at, meanBed, bedSlope, meanDepth, leftDepth, rightDepth}
-use Rattle.promises.specs.Seen.{NoneBelow, Excess, water, Listed, brought, Lake, Called, Calls, none, more}
+use Rattle.promises.specs.Seen.{NoneBelow, Excess, NoShortfall, water, Listed, brought, Lake, Called, Calls, none, more}
 
 -- ---- an outcome by its number
 -- all the checks of a call, in their order
@@ -152,6 +153,13 @@ module _ (bed : List ℤ) (n dx : ℕ) (s : State) where
 
   pub none-below-table : Wet (reachAt bed n dx) s → NoneBelow bed table n
   none-below-table w = none-below bed table dx n (depths (reachAt bed n dx) (cellAt table) (wet-table w))
+
+  pub none-short-table : ((i : ℕ) → i < n → before-E6.NoShortfall (under (reachAt bed n dx) i) (s i)) → NoShortfall bed table n
+  unfolding leftDepth rightDepth meanDepth meanBed bedSlope h0 h1 hl hr z0 z1
+  none-short-table f =
+      let at : (i : ℕ) (l : i < n) → before-E6.NoShortfall (under (reachAt bed n dx) i) (cellAt table i) = λ i l.
+      subst (before-E6.NoShortfall (under (reachAt bed n dx) i)) (sym (cellAt-flat n s i l)) (f i l) in
+      record { left = λ i l. at i l .left; right = λ i l. at i l .right }
 
   pub excess-table : (k : Large (reachAt bed n dx) s) → Excess bed table n
   unfolding leftDepth rightDepth meanDepth meanBed bedSlope h0 h1 hl hr z0 z1

@@ -27,9 +27,13 @@ use Rattle.before.specs.Laws.E2.{unspared-finish, deep-finish}
 use Rattle.before.specs.E3 as before-E3
 use Rattle.before.specs.Laws.E3.{given-four}
 use Rattle.before.specs.E4 as before-E4
-use Rattle.before.specs.Laws.E4.{with-no-inflow, no-inflow}
+use Rattle.before.specs.E4.{with-no-inflow}
+use Rattle.before.specs.Laws.E4.{no-inflow}
+use Rattle.before.specs.Parts as before
+use Rattle.before.specs.E6 as before-E6
+use Rattle.before.specs.Laws.E6.{none-short-one, none-short-two, uncorrected}
 use Rattle.rules.specs.Laws.Lengths.{unrefused}
-use Rattle.rules.specs.Step.{stageOne, next}
+use Rattle.rules.specs.Step.{rubbed, stageOne, next}
 use Rattle.rules.specs.Refusals.{checks, early, stageChecks}
 use Rattle.rules.specs.Lent.{Lent, cellsOf, reachOf, callOf, stateOf, number, filled, crossed, stepOf}
 use Rattle.rules.specs.Laws.Accept.{Clear}
@@ -60,13 +64,14 @@ use Rattle.stage.specs.declared.worked.Worked.{Worked}
 use Rattle.step.specs.Gives.{Gives, one-answer, one-table}
 use Rattle.step.specs.declared.Answer.{Answer}
 use Rattle.step.specs.declared.Answer.the-variants.{Refused, Accepted}
-use Rattle.promises.specs.Seen.{at, meanDepth, NoneBelow, Excess, stageTable, water, Listed, brought, Lake}
+use Rattle.promises.specs.Seen.{at, meanDepth, NoneBelow, Excess, stageTable, frictionTable, correctedStageTable, NoShortfall}
+use Rattle.promises.specs.Seen.{water, Listed, brought, Lake}
 use Rattle.promises.specs.Seen.{Called, Calls, none, more, NoInflow}
 use Rattle.promises.specs.First.{FirstMet, first-verdict, verdict-first, first-listed}
 use Rattle.promises.specs.Outcomes.{allChecks, number-is, refuses-with, refused-number, refused-some}
 use Rattle.promises.specs.Outcomes.{refused-table, refused-later, Taken, taken, reachAt, lent, call, one, none-below}
 use Rattle.promises.specs.Outcomes.{both-listed, wall-left, wall-right, inflow-left, inflow-right}
-use Rattle.promises.specs.Outcomes.{none-below-table, excess-table, wet, water-is, at-rest, written-calm, run}
+use Rattle.promises.specs.Outcomes.{none-below-table, none-short-table, excess-table, wet, water-is, at-rest, written-calm, run}
 
 -- ---- demand 1: one answer, one content of the table
 pub step-answer : (l : Lent) {a b : Answer} {old new new′ : List ℤ} → Gives (stepOf l) a old new → Gives (stepOf l) b old new′ → a ≡ b
@@ -148,7 +153,7 @@ deep-as-before r c s d i l = deep-finish r c s d i l
 -- given 4, and no inflow, a call is answered as before, when it gave neither: the same number, or the same table and volumes
 pub four-as-before : (l : before-E3.Lent) → (l .left ≡ 2 → ⊥) → (l .right ≡ 2 → ⊥)
     → stepOf (with-no-inflow (before-E3.given 4 l)) ≡ before-E3.stepOf l
-four-as-before l f g = no-inflow (before-E3.given 4 l) f g ∙ given-four l
+four-as-before l f g = given-four l f g
 
 -- whichever it is, what an accepted call writes has no discharge where it is no deeper
 pub shallow-calm : (l : Lent) (w v : ℤ) (old new : List ℤ) → Gives (stepOf l) (Accepted w v) old new → (i : ℕ) → i < cellsOf l
@@ -181,6 +186,24 @@ module _ (l : Lent) (w v : ℤ) (old new : List ℤ) (g : Gives (stepOf l) (Acce
 
   pub right-wall : l .right .kind ≡ 0 → v ≡ pos 0
   right-wall e = went .right ∙ wall-right l (went .number) e
+
+-- ---- what E6 took out: the correction that took from bed and level what a face level fell short of the bed
+-- nothing ever did: not in the state after friction of a call that passed checks 1 to 5, nor in the finished stage one of a call that
+-- passed its 8;
+pub no-shortfall-one : (l : Lent) → Clear (before.checksToFive before-E6.parts l) → NoShortfall (l .bed) (frictionTable l) (cellsOf l)
+unfolding frictionTable
+no-shortfall-one l q = let r = reachOf l in let c = callOf l in let s = stateOf l in
+    none-short-table (l .bed) (cellsOf l) (l .dx) (rubbed r c s) (none-short-one r c s (q .1))
+
+pub no-shortfall-two : (l : Lent) → Clear (before.checksOfOne before-E6.parts l)
+    → NoShortfall (l .bed) (correctedStageTable l) (cellsOf l)
+unfolding correctedStageTable
+no-shortfall-two l q = let r = reachOf l in let c = callOf l in let s = stateOf l in
+    none-short-table (l .bed) (cellsOf l) (l .dx) (before.stageOne before-E6.parts r c s) (none-short-two r c s q)
+
+-- so every call whatever is answered as it was with the correction: the same number, or the same table and volumes
+pub uncorrected-as-before : (l : Lent) → stepOf l ≡ before-E6.stepOf l
+uncorrected-as-before l = uncorrected l
 
 -- ---- demand 3, over any number of accepted calls on one bed with n cells of length dx; all else that they are given may differ
 module _ (bed : List ℤ) (n dx : ℕ) where

@@ -11,8 +11,10 @@ use Rattle.tables.specs.Rows.{row}
 use Rattle.tables.specs.Cells.{flat}
 use Rattle.rules.specs.Limits.{deepest, fullest, largestInflow}
 use Rattle.rules.specs.Ends.{End, inflowKind}
-use Rattle.rules.specs.Step.{stageOne}
+use Rattle.rules.specs.Step.{rubbed, stageOne}
 use Rattle.rules.specs.Lent.{Lent, cellsOf, reachOf, callOf, stateOf, stepOf}
+use Rattle.before.specs.Parts as before
+use Rattle.before.specs.E6 as before-E6
 use Rattle.step.specs.Gives.{lend, Gives}
 use Rattle.step.specs.declared.Answer.{Answer}
 use Rattle.step.specs.declared.Answer.the-variants.{Accepted}
@@ -55,6 +57,18 @@ pub record Excess (bed t : List ℤ) (n : ℕ) : Type 0 where
 -- the finished stage one of a call, written as a table
 unfoldable pub stageTable : Lent → List ℤ
 stageTable l = flat (row (cellsOf l) (stageOne (reachOf l) (callOf l) (stateOf l)))
+
+-- the states that its two stages started from before E6: that after friction, which E6 left alone, and the finished stage one
+unfoldable pub frictionTable : Lent → List ℤ
+frictionTable l = flat (row (cellsOf l) (rubbed (reachOf l) (callOf l) (stateOf l)))
+
+unfoldable pub correctedStageTable : Lent → List ℤ
+correctedStageTable l = flat (row (cellsOf l) (before.stageOne before-E6.parts (reachOf l) (callOf l) (stateOf l)))
+
+-- at no face does a level fall short of the bed
+pub record NoShortfall (bed t : List ℤ) (n : ℕ) : Type 0 where
+  pub left : (i : ℕ) → i < n → before-E6.short (leftDepth bed t i) ≡ pos 0
+  pub right : (i : ℕ) → i < n → before-E6.short (rightDepth bed t i) ≡ pos 0
 
 -- the water: the sum of the mean depths
 unfoldable pub water : List ℤ → List ℤ → ℕ → ℤ

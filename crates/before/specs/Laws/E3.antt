@@ -1,11 +1,37 @@
--- Given the dry depth 4, a call is answered as it was before E3, when it gave none.
+-- Given the dry depth 4, and no inflow, a call is answered as it was before E3, when it gave neither.
 -- Assumes nothing.
-use mathlib.Core.Path.{_≡_, refl}
+use mathlib.Core.Path.{_≡_, refl, _∙_}
 use Rattle.rules.specs.Refusals.{any}
+use Rattle.rules.specs.Reach.{Reach, Call}
+use Rattle.rules.specs.Lent as lent
+use Rattle.rules.specs.Lent.{reachOf, callOf}
 use Rattle.before.specs.E4 as E4
-use Rattle.before.specs.E3.{Lent, given, badCall, stepOf}
+use Rattle.before.specs.E4.{with-no-inflow}
+use Rattle.before.specs.E3.{Lent, given, badCall, parts, stepOf}
+use Rattle.before.specs.Laws.Parts.{as-before}
+use Rattle.before.specs.Laws.E4.{as-in-force}
 
--- with the same number, or the same table and volumes
-pub given-four : (a : Lent) → E4.stepOf (given 4 a) ≡ stepOf a
-unfolding E4.stepOf stepOf E4.badCall badCall any
-given-four a = refl
+module _ (a : Lent) (f : a .left ≡ 2 → ⊥) (g : a .right ≡ 2 → ⊥) where
+  abbrev r : Reach
+  r = reachOf (with-no-inflow (given 4 a))
+
+  abbrev c : Call
+  c = callOf (with-no-inflow (given 4 a))
+
+  -- 4 is in its list, so check 2 finds nothing more
+  four-listed : badCall r c ≡ E4.badCall r c
+  unfolding badCall E4.badCall any
+  four-listed = refl
+
+  -- the same number, or the same table and volumes
+  pub given-four : lent.stepOf (with-no-inflow (given 4 a)) ≡ stepOf a
+  given-four = let k = as-in-force (given 4 a) f g in as-before parts (with-no-inflow (given 4 a)) (record {
+    call = four-listed ∙ k .call;
+    sideL = k .sideL;
+    sideR = k .sideR;
+    left = k .left;
+    right = k .right;
+    fastLeft = k .fastLeft;
+    fastRight = k .fastRight;
+    update = k .update;
+  })

@@ -55,7 +55,7 @@ even-bed r e i l =
     let f : badBed z ≡ false = some-none (λ i. badBed (r .bed i)) (suc (r .n)) e i l in
     even-of z (eqb→eq (natAbs z % 2) 0 (held odd (not-f odd (or-r (outside (pos 0) highestBed z) (not odd) f))))
 
-in-range : (r : Reach) (s : State) → some (off r s) (r .n) ≡ false → Wet r s
+pub in-range : (r : Reach) (s : State) → some (off r s) (r .n) ≡ false → Wet r s
 unfolding off offCell
 in-range r s e i l =
     let b = under r i in let x = s i in

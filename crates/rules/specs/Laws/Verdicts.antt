@@ -5,7 +5,7 @@ use mathlib.Core.Bool.{Bool, true, false, cond}
 use mathlib.Core.List.{List, [], _∷_, _++_}
 use Prim.Native.Nat.{ℕ, zero, suc}
 use lib.Dec.{T, eqb, eqb-refl}
-use Rattle.whole.specs.Flags.{holds, clash}
+use Rattle.whole.specs.Flags.{holds, clash, by}
 use Rattle.rules.specs.Refusals.{Check, chk, verdict}
 use Rattle.rules.specs.Laws.Accept.{Clear, other}
 
@@ -39,6 +39,12 @@ went-on xs ys t e = go xs (cleared xs t e)
     go : (zs : List Check) → Clear zs → verdict ys ≡ verdict (zs ++ ys)
     go [] c = refl
     go (z ∷ zs) c = rw (c .0) (go zs (c .1))
+
+-- what comes after a list matters only where none of it applies
+pub verdict-after : (xs ys zs : List Check) → (Clear xs → verdict ys ≡ verdict zs) → verdict (xs ++ ys) ≡ verdict (xs ++ zs)
+unfolding verdict
+verdict-after [] ys zs f = f tt
+verdict-after (x ∷ xs) ys zs f = by (x .bad) (λ b. rw b) (λ b. rw b (verdict-after xs ys zs (λ k. f (b, k))))
 
 -- the check at each place of a list, and that it does not apply
 abbrev pub checkAt : List Check → ℕ → Check

@@ -1,0 +1,63 @@
+-- The step before E6: where the level at a face lay below the bed, the shortfall was taken from both, and the depth was nought.
+-- All else is as in the rules in force.
+use lib.IntN.{ℤ, pos, negℤ, _+ℤ_, _-ℤ_, _*ℤ_}
+use lib.Signed.{quotZ}
+use Rattle.whole.specs.Choice.{maxZ}
+use Rattle.tables.specs.Cells.{Cell}
+use Rattle.rules.specs.Face.{Side, Flux, speed}
+use Rattle.rules.specs.Ends.{leftEnd, rightEnd}
+use Rattle.rules.specs.Reach.{Bed, ql, qr, hl, hr}
+use Rattle.rules.specs.Stage as rules
+use Rattle.rules.specs.Refusals.{badCall, fastInflow}
+use Rattle.rules.specs.Lent.{Lent, Outcome}
+use Rattle.before.specs.Parts.{Parts, stepBy}
+
+-- the shortfall of a face level that lies h over the bed
+unfoldable pub short : ℤ → ℤ
+short h = maxZ (pos 0) (negℤ h)
+
+-- depth and bed at the two faces, after it was taken from level and bed
+unfoldable pub depthL : Bed → Cell → ℤ
+depthL b x = hl b x +ℤ short (hl b x)
+
+unfoldable pub depthR : Bed → Cell → ℤ
+depthR b x = hr b x +ℤ short (hr b x)
+
+unfoldable pub groundL : Bed → Cell → ℤ
+groundL b x = b .zl -ℤ short (hl b x)
+
+unfoldable pub groundR : Bed → Cell → ℤ
+groundR b x = b .zr -ℤ short (hr b x)
+
+-- the sides
+unfoldable pub sideL : ℤ → Bed → Cell → Side
+sideL d b x = record { h = depthL b x; u = speed d (ql x) (depthL b x) }
+
+unfoldable pub sideR : ℤ → Bed → Cell → Side
+sideR d b x = record { h = depthR b x; u = speed d (qr x) (depthR b x) }
+
+-- E, and the discharge's mean after a stage
+unfoldable pub push : Bed → Cell → Flux → Flux → ℤ
+push b x l f = l .K -ℤ f .K -ℤ (depthR b x +ℤ depthL b x) *ℤ (groundR b x -ℤ groundL b x)
+
+unfoldable pub update : ℤ → ℤ → ℤ → Bed → Cell → Flux → Flux → Cell
+update dx dt d b x l f = let y = rules.update dx dt d b x l f in record {
+  e0 = y .e0;
+  e1 = y .e1;
+  q0 = x .q0 +ℤ quotZ ((l .A -ℤ f .A) *ℤ dt) dx +ℤ quotZ (pos 981 *ℤ push b x l f *ℤ dt) (pos 819200 *ℤ dx);
+  q1 = y .q1;
+}
+
+abbrev pub parts : Parts
+parts = record {
+  badCall = badCall;
+  sideL = sideL;
+  sideR = sideR;
+  leftEnd = leftEnd;
+  rightEnd = rightEnd;
+  fastInflow = fastInflow;
+  update = update;
+}
+
+abbrev pub stepOf : Lent → Outcome
+stepOf a = stepBy parts a

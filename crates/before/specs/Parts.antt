@@ -1,0 +1,112 @@
+-- The step over those parts of it that requests changed: what it was before a request is the step of that request's `Parts`.
+-- All else is as in the rules in force.
+use mathlib.Core.Bool.{Bool, cond, _||_}
+use mathlib.Core.List.{List, [], _∷_, _++_}
+use Prim.Native.Nat.{ℕ, zero, suc}
+use lib.Dec.{eqb}
+use lib.IntN.{ℤ, pos, _*ℤ_}
+use lib.Signed.{ltZ}
+use Rattle.tables.specs.Some.{some}
+use Rattle.tables.specs.Rows.{row}
+use Rattle.tables.specs.Cells.{Cell, flat}
+use Rattle.rules.specs.Face.{Side, Flux}
+use Rattle.rules.specs.Shown.{Shown, crossRight, crossAt, volume}
+use Rattle.rules.specs.Ends.{End}
+use Rattle.rules.specs.Reach.{Reach, Call, State, Bed, under}
+use Rattle.rules.specs.Finishing.{finish}
+use Rattle.rules.specs.Step.{rubbed, half, joinedCell}
+use Rattle.rules.specs.Refusals.{badBed, badRough, off, fastFriction, fastSide, fastGauss, Check, chk, verdict}
+use Rattle.rules.specs.Lent.{Lent, cellsOf, reachOf, callOf, stateOf, misfits, Outcome, refused, accepted}
+
+pub record Parts : Type 0 where
+  -- check 2
+  pub badCall : Reach → Call → Bool
+  -- the sides that a cell shows to its two faces, at a dry depth
+  pub sideL : ℤ → Bed → Cell → Side
+  pub sideR : ℤ → Bed → Cell → Side
+  -- what crosses the two ends beside a side, under a face rule and at a dry depth; and whether an end's own speed is too fast there
+  pub leftEnd : (Side → Side → Flux) → ℤ → End → Side → Flux
+  pub rightEnd : (Side → Side → Flux) → ℤ → End → Side → Flux
+  pub fastInflow : ℤ → End → Side → Bool
+  -- a cell after a stage: by dx, dt and the dry depth, over its bed, between the fluxes at its faces
+  pub update : ℤ → ℤ → ℤ → Bed → Cell → Flux → Flux → Cell
+
+module _ (p : Parts) (r : Reach) (c : Call) where
+  -- ---- the stages
+  abbrev pub shown : State → Shown
+  shown s = record {
+    n = r .n;
+    face = r .face;
+    left = p .leftEnd (r .face) (c .dry) (c .left);
+    right = p .rightEnd (r .face) (c .dry) (c .right);
+    toLeft = λ i. p .sideL (c .dry) (under r i) (s i);
+    toRight = λ i. p .sideR (c .dry) (under r i) (s i);
+  }
+
+  unfoldable pub stage : State → State
+  stage s i = p .update (r .dx) (c .dt) (c .dry) (under r i) (s i) (crossAt (shown s) i) (crossRight (shown s) i)
+
+  unfoldable pub stageOne : State → State
+  stageOne s = finish r c (stage (rubbed r c s))
+
+  -- V at face i in a stage from s, and W
+  abbrev pub volumeAt : State → ℕ → ℤ
+  volumeAt s i = volume (r .dx) (c .dt) (crossAt (shown s) i)
+
+  unfoldable pub carry : State → ℕ → ℤ
+  carry s i = half (volumeAt (rubbed r c s) i) (volumeAt (stageOne s) i)
+
+  unfoldable pub next : State → State
+  next s = finish r c (λ i. joinedCell (rubbed r c s i) (stage (stageOne s) i) (carry s i) (carry s (suc i)))
+
+  -- ---- the checks after 1, in their order
+  unfoldable pub fastFace : State → ℕ → Bool
+  fastFace s zero = let x = shown s .toLeft zero in p .fastInflow (c .dry) (c .left) x || fastSide x
+  fastFace s (suc i) = let x = shown s .toRight i in
+      fastSide x || cond (eqb (suc i) (r .n)) (p .fastInflow (c .dry) (c .right) x) (fastSide (shown s .toLeft (suc i)))
+
+  unfoldable pub tooLong : State → ℕ → Bool
+  tooLong s i = ltZ (pos 4096 *ℤ r .dx) (pos 2 *ℤ c .dt *ℤ crossAt (shown s) i .S)
+
+  unfoldable pub stageChecks : State → List Check
+  stageChecks s =
+      chk 6 (some (fastFace s) (suc (r .n)))
+      ∷ chk 6 (some (fastGauss r c s) (r .n))
+      ∷ chk 7 (some (tooLong s) (suc (r .n)))
+      ∷ []
+
+  unfoldable pub toFive : State → List Check
+  toFive s =
+      chk 2 (p .badCall r c)
+      ∷ chk 3 (some (λ i. badBed (r .bed i)) (suc (r .n)))
+      ∷ chk 4 (some (λ i. badRough (c .rough i)) (r .n))
+      ∷ chk 5 (some (off r s) (r .n))
+      ∷ []
+
+  unfoldable pub ofOne : State → List Check
+  ofOne s =
+      chk 6 (some (fastFriction r c s) (r .n)) ∷ stageChecks (rubbed r c s) ++ chk 8 (some (off r (stageOne s)) (r .n)) ∷ []
+
+  unfoldable pub ofTwo : State → List Check
+  ofTwo s = stageChecks (stageOne s) ++ chk 8 (some (off r (next s)) (r .n)) ∷ []
+
+-- ---- the call
+module _ (p : Parts) (a : Lent) where
+  -- its checks: 1 to 5; the friction speeds, and stage one with its 8; stage two with the end state's
+  abbrev pub checksToFive : List Check
+  checksToFive = chk 1 (misfits a) ∷ toFive p (reachOf a) (callOf a) (stateOf a)
+
+  abbrev pub checksOfOne : List Check
+  checksOfOne = ofOne p (reachOf a) (callOf a) (stateOf a)
+
+  abbrev pub checksOfTwo : List Check
+  checksOfTwo = ofTwo p (reachOf a) (callOf a) (stateOf a)
+
+  -- the number of the refusal, or 0
+  unfoldable pub number : ℕ
+  number = verdict (checksToFive ++ checksOfOne ++ checksOfTwo)
+
+  -- that number; or the next table and W at face 0 and at face n
+  unfoldable pub stepBy : Outcome
+  stepBy = let n = cellsOf a in let r = reachOf a in let c = callOf a in let s = stateOf a in
+      cond (eqb number 0) (accepted (flat (row n (next p r c s))) (carry p r c s 0) (carry p r c s n)) (refused number)
