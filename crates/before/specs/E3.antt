@@ -8,7 +8,7 @@ use Rattle.rules.specs.Limits.{longestCell, longestStep, largestJump}
 use Rattle.rules.specs.Reach.{Reach, Call}
 use Rattle.rules.specs.Refusals.{any, outside}
 use Rattle.rules.specs.Lent.{Outcome}
-use Rattle.before.specs.Parts.{Parts, stepBy}
+use Rattle.before.specs.Parts.{stepBy}
 use Rattle.before.specs.E4 as E4
 
 abbrev pub dryDepth : ℕ
@@ -24,17 +24,6 @@ badCall r c = any (
     ∷ ltb 1 (c .right .kind)
     ∷ []
     )
-
-abbrev pub parts : Parts
-parts = record {
-  badCall = badCall;
-  sideL = E4.parts .sideL;
-  sideR = E4.parts .sideR;
-  leftEnd = E4.parts .leftEnd;
-  rightEnd = E4.parts .rightEnd;
-  fastInflow = E4.parts .fastInflow;
-  update = E4.parts .update;
-}
 
 -- what was lent and given
 pub record Lent : Type 0 where
@@ -64,4 +53,4 @@ given dry a = record {
 }
 
 abbrev pub stepOf : Lent → Outcome
-stepOf a = stepBy parts (E4.with-no-inflow (given dryDepth a))
+stepOf a = stepBy badCall E4.parts (E4.with-no-inflow (given dryDepth a))

@@ -35,7 +35,6 @@ badCall r c = any (
 
 abbrev pub parts : Parts
 parts = record {
-  badCall = badCall;
   sideL = E6.sideL;
   sideR = E6.sideR;
   leftEnd = leftEnd;
@@ -73,4 +72,4 @@ with-no-inflow a = record {
 }
 
 abbrev pub stepOf : Lent → Outcome
-stepOf a = stepBy parts (with-no-inflow a)
+stepOf a = stepBy badCall parts (with-no-inflow a)

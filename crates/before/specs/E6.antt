@@ -1,15 +1,17 @@
 -- The step before E6: where the level at a face lay below the bed, the shortfall was taken from both, and the depth was nought.
 -- All else is as in the rules in force.
+use mathlib.Core.List.{List}
 use lib.IntN.{ℤ, pos, negℤ, _+ℤ_, _-ℤ_, _*ℤ_}
 use lib.Signed.{quotZ}
 use Rattle.whole.specs.Choice.{maxZ}
 use Rattle.tables.specs.Cells.{Cell}
 use Rattle.rules.specs.Face.{Side, Flux, speed}
 use Rattle.rules.specs.Ends.{leftEnd, rightEnd}
-use Rattle.rules.specs.Reach.{Bed, ql, qr, hl, hr}
+use Rattle.rules.specs.Reach.{State, Bed, ql, qr, hl, hr}
 use Rattle.rules.specs.Stage as rules
-use Rattle.rules.specs.Refusals.{badCall, fastInflow}
-use Rattle.rules.specs.Lent.{Lent, Outcome}
+use Rattle.rules.specs.Refusals.{badCall, fastInflow, Check}
+use Rattle.rules.specs.Lent.{Lent, reachOf, callOf, stateOf, Outcome}
+use Rattle.before.specs.Parts as before
 use Rattle.before.specs.Parts.{Parts, stepBy}
 
 -- the shortfall of a face level that lies h over the bed
@@ -50,7 +52,6 @@ update dx dt d b x l f = let y = rules.update dx dt d b x l f in record {
 
 abbrev pub parts : Parts
 parts = record {
-  badCall = badCall;
   sideL = sideL;
   sideR = sideR;
   leftEnd = leftEnd;
@@ -60,4 +61,14 @@ parts = record {
 }
 
 abbrev pub stepOf : Lent → Outcome
-stepOf a = stepBy parts a
+stepOf a = stepBy badCall parts a
+
+-- checks 1 to 5 of a call; its further ones up to stage one's 8; and that stage, finished
+abbrev pub toFive : Lent → List Check
+toFive a = before.toFive badCall a
+
+abbrev pub ofOne : Lent → List Check
+ofOne a = before.ofOne parts (reachOf a) (callOf a) (stateOf a)
+
+abbrev pub stageOne : Lent → State
+stageOne a = before.stageOne parts (reachOf a) (callOf a) (stateOf a)

@@ -1,5 +1,4 @@
--- The step over those parts of it that requests changed: what it was before a request is the step of that request's `Parts`.
--- All else is as in the rules in force.
+-- The step over what requests changed of it: its check 2, and parts of a stage. All else is as in the rules in force.
 use mathlib.Core.Bool.{Bool, cond, _||_}
 use mathlib.Core.List.{List, [], _∷_, _++_}
 use Prim.Native.Nat.{ℕ, zero, suc}
@@ -19,8 +18,6 @@ use Rattle.rules.specs.Refusals.{badBed, badRough, off, fastFriction, fastSide,
 use Rattle.rules.specs.Lent.{Lent, cellsOf, reachOf, callOf, stateOf, misfits, Outcome, refused, accepted}
 
 pub record Parts : Type 0 where
-  -- check 2
-  pub badCall : Reach → Call → Bool
   -- the sides that a cell shows to its two faces, at a dry depth
   pub sideL : ℤ → Bed → Cell → Side
   pub sideR : ℤ → Bed → Cell → Side
@@ -59,7 +56,7 @@ module _ (p : Parts) (r : Reach) (c : Call) where
   unfoldable pub next : State → State
   next s = finish r c (λ i. joinedCell (rubbed r c s i) (stage (stageOne s) i) (carry s i) (carry s (suc i)))
 
-  -- ---- the checks after 1, in their order
+  -- ---- the checks after 5, in their order
   unfoldable pub fastFace : State → ℕ → Bool
   fastFace s zero = let x = shown s .toLeft zero in p .fastInflow (c .dry) (c .left) x || fastSide x
   fastFace s (suc i) = let x = shown s .toRight i in
@@ -75,14 +72,7 @@ module _ (p : Parts) (r : Reach) (c : Call) where
       ∷ chk 7 (some (tooLong s) (suc (r .n)))
       ∷ []
 
-  unfoldable pub toFive : State → List Check
-  toFive s =
-      chk 2 (p .badCall r c)
-      ∷ chk 3 (some (λ i. badBed (r .bed i)) (suc (r .n)))
-      ∷ chk 4 (some (λ i. badRough (c .rough i)) (r .n))
-      ∷ chk 5 (some (off r s) (r .n))
-      ∷ []
-
+  -- the friction speeds, and stage one with its 8; stage two with the end state's
   unfoldable pub ofOne : State → List Check
   ofOne s =
       chk 6 (some (fastFriction r c s) (r .n)) ∷ stageChecks (rubbed r c s) ++ chk 8 (some (off r (stageOne s)) (r .n)) ∷ []
@@ -90,21 +80,20 @@ module _ (p : Parts) (r : Reach) (c : Call) where
   unfoldable pub ofTwo : State → List Check
   ofTwo s = stageChecks (stageOne s) ++ chk 8 (some (off r (next s)) (r .n)) ∷ []
 
--- ---- the call
-module _ (p : Parts) (a : Lent) where
-  -- its checks: 1 to 5; the friction speeds, and stage one with its 8; stage two with the end state's
-  abbrev pub checksToFive : List Check
-  checksToFive = chk 1 (misfits a) ∷ toFive p (reachOf a) (callOf a) (stateOf a)
+-- ---- the call, whose check 2 is bad
+unfoldable pub toFive : (Reach → Call → Bool) → Lent → List Check
+toFive bad a = let n = cellsOf a in
+    chk 1 (misfits a)
+    ∷ chk 2 (bad (reachOf a) (callOf a))
+    ∷ chk 3 (some (λ i. badBed (reachOf a .bed i)) (suc n))
+    ∷ chk 4 (some (λ i. badRough (callOf a .rough i)) n)
+    ∷ chk 5 (some (off (reachOf a) (stateOf a)) n)
+    ∷ []
 
-  abbrev pub checksOfOne : List Check
-  checksOfOne = ofOne p (reachOf a) (callOf a) (stateOf a)
-
-  abbrev pub checksOfTwo : List Check
-  checksOfTwo = ofTwo p (reachOf a) (callOf a) (stateOf a)
-
+module _ (bad : Reach → Call → Bool) (p : Parts) (a : Lent) where
   -- the number of the refusal, or 0
   unfoldable pub number : ℕ
-  number = verdict (checksToFive ++ checksOfOne ++ checksOfTwo)
+  number = let r = reachOf a in let c = callOf a in let s = stateOf a in verdict (toFive bad a ++ ofOne p r c s ++ ofTwo p r c s)
 
   -- that number; or the next table and W at face 0 and at face n
   unfoldable pub stepBy : Outcome

@@ -29,7 +29,6 @@ use Rattle.before.specs.Laws.E3.{given-four}
 use Rattle.before.specs.E4 as before-E4
 use Rattle.before.specs.E4.{with-no-inflow}
 use Rattle.before.specs.Laws.E4.{no-inflow}
-use Rattle.before.specs.Parts as before
 use Rattle.before.specs.E6 as before-E6
 use Rattle.before.specs.Laws.E6.{none-short-one, none-short-two, uncorrected}
 use Rattle.rules.specs.Laws.Lengths.{unrefused}
@@ -187,21 +186,18 @@ module _ (l : Lent) (w v : ℤ) (old new : List ℤ) (g : Gives (stepOf l) (Acce
   pub right-wall : l .right .kind ≡ 0 → v ≡ pos 0
   right-wall e = went .right ∙ wall-right l (went .number) e
 
--- ---- what E6 took out: the correction that took from bed and level what a face level fell short of the bed
--- nothing ever did: not in the state after friction of a call that passed checks 1 to 5, nor in the finished stage one of a call that
--- passed its 8;
-pub no-shortfall-one : (l : Lent) → Clear (before.checksToFive before-E6.parts l) → NoShortfall (l .bed) (frictionTable l) (cellsOf l)
+-- ---- what E6 took out: the correction for a level at a face that fell short of the bed, which was taken from bed and level
+-- none ever did: not in the state after friction, where a call passes checks 1 to 5, nor in the finished stage one, where it passes its 8;
+pub no-shortfall-one : (l : Lent) → Clear (before-E6.toFive l) → NoShortfall (l .bed) (frictionTable l) (cellsOf l)
 unfolding frictionTable
-no-shortfall-one l q = let r = reachOf l in let c = callOf l in let s = stateOf l in
-    none-short-table (l .bed) (cellsOf l) (l .dx) (rubbed r c s) (none-short-one r c s (q .1))
+no-shortfall-one l q =
+    none-short-table (l .bed) (cellsOf l) (l .dx) (rubbed (reachOf l) (callOf l) (stateOf l)) (none-short-one l q)
 
-pub no-shortfall-two : (l : Lent) → Clear (before.checksOfOne before-E6.parts l)
-    → NoShortfall (l .bed) (correctedStageTable l) (cellsOf l)
+pub no-shortfall-two : (l : Lent) → Clear (before-E6.ofOne l) → NoShortfall (l .bed) (correctedStageTable l) (cellsOf l)
 unfolding correctedStageTable
-no-shortfall-two l q = let r = reachOf l in let c = callOf l in let s = stateOf l in
-    none-short-table (l .bed) (cellsOf l) (l .dx) (before.stageOne before-E6.parts r c s) (none-short-two r c s q)
+no-shortfall-two l q = none-short-table (l .bed) (cellsOf l) (l .dx) (before-E6.stageOne l) (none-short-two l q)
 
--- so every call whatever is answered as it was with the correction: the same number, or the same table and volumes
+-- so every call, whatever it is lent, is answered as it was with the correction: the same number, or the same table and volumes
 pub uncorrected-as-before : (l : Lent) → stepOf l ≡ before-E6.stepOf l
 uncorrected-as-before l = uncorrected l
 

@@ -13,7 +13,6 @@ use Rattle.rules.specs.Limits.{deepest, fullest, largestInflow}
 use Rattle.rules.specs.Ends.{End, inflowKind}
 use Rattle.rules.specs.Step.{rubbed, stageOne}
 use Rattle.rules.specs.Lent.{Lent, cellsOf, reachOf, callOf, stateOf, stepOf}
-use Rattle.before.specs.Parts as before
 use Rattle.before.specs.E6 as before-E6
 use Rattle.step.specs.Gives.{lend, Gives}
 use Rattle.step.specs.declared.Answer.{Answer}
@@ -63,7 +62,7 @@ unfoldable pub frictionTable : Lent → List ℤ
 frictionTable l = flat (row (cellsOf l) (rubbed (reachOf l) (callOf l) (stateOf l)))
 
 unfoldable pub correctedStageTable : Lent → List ℤ
-correctedStageTable l = flat (row (cellsOf l) (before.stageOne before-E6.parts (reachOf l) (callOf l) (stateOf l)))
+correctedStageTable l = flat (row (cellsOf l) (before-E6.stageOne l))
 
 -- at no face does a level fall short of the bed
 pub record NoShortfall (bed t : List ℤ) (n : ℕ) : Type 0 where

@@ -7,9 +7,9 @@ use Rattle.rules.specs.Lent as lent
 use Rattle.rules.specs.Lent.{reachOf, callOf}
 use Rattle.before.specs.E4 as E4
 use Rattle.before.specs.E4.{with-no-inflow}
-use Rattle.before.specs.E3.{Lent, given, badCall, parts, stepOf}
+use Rattle.before.specs.E3.{Lent, given, badCall, stepOf}
 use Rattle.before.specs.Laws.Parts.{as-before}
-use Rattle.before.specs.Laws.E4.{as-in-force}
+use Rattle.before.specs.Laws.E4.{bad-kinds, as-in-force}
 
 module _ (a : Lent) (f : a .left ≡ 2 → ⊥) (g : a .right ≡ 2 → ⊥) where
   abbrev r : Reach
@@ -25,13 +25,5 @@ module _ (a : Lent) (f : a .left ≡ 2 → ⊥) (g : a .right ≡ 2 → ⊥) whe
 
   -- the same number, or the same table and volumes
   pub given-four : lent.stepOf (with-no-inflow (given 4 a)) ≡ stepOf a
-  given-four = let k = as-in-force (given 4 a) f g in as-before parts (with-no-inflow (given 4 a)) (record {
-    call = four-listed ∙ k .call;
-    sideL = k .sideL;
-    sideR = k .sideR;
-    left = k .left;
-    right = k .right;
-    fastLeft = k .fastLeft;
-    fastRight = k .fastRight;
-    update = k .update;
-  })
+  given-four = let b = given 4 a in
+      as-before badCall E4.parts (with-no-inflow b) (four-listed ∙ bad-kinds b f g) (as-in-force b f g)

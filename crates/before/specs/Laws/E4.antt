@@ -27,15 +27,19 @@ bad-kind (suc (suc zero)) p = clash (sym p)
 bad-kind (suc (suc (suc k))) p = rw (lt-ltb 2 (suc (suc (suc k))) (omega arith), lt-ltb 1 (suc (suc (suc k))) (omega arith))
 
 module _ (a : Lent) (f : a .left ≡ 2 → ⊥) (g : a .right ≡ 2 → ⊥) where
+  pub bad-kinds : badCall (reachOf (with-no-inflow a)) (callOf (with-no-inflow a))
+      ≡ checks.badCall (reachOf (with-no-inflow a)) (callOf (with-no-inflow a))
+  unfolding checks.badCall badCall any
+  bad-kinds = λ j.
+      outside (pos 1) longestCell (pos (a .dx)) || (outside (pos 1) longestStep (pos (a .dt)) || (outside (pos 0) largestJump (pos (a .jump))
+      || (badDry (pos (a .dry)) || (bad-kind (a .left) (ne-eqb (a .left) 2 f) j || (bad-kind (a .right) (ne-eqb (a .right) 2 g) j || false)))))
+
   pub as-in-force : AsInForce parts (reachOf (with-no-inflow a)) (callOf (with-no-inflow a))
-  unfolding checks.badCall badCall any ends.leftEnd ends.rightEnd leftEnd rightEnd fastInflow
+  unfolding ends.leftEnd ends.rightEnd leftEnd rightEnd fastInflow
   as-in-force =
-      let r = reachOf (with-no-inflow a) in let c = callOf (with-no-inflow a) in let k = E6.as-in-force r c in
+      let k = E6.as-in-force (reachOf (with-no-inflow a)) (callOf (with-no-inflow a)) in
       let p = ne-eqb (a .left) 2 f in let q = ne-eqb (a .right) 2 g in
       record {
-        call = λ j.
-            outside (pos 1) longestCell (r .dx) || (outside (pos 1) longestStep (c .dt) || (outside (pos 0) largestJump (c .jump)
-            || (badDry (c .dry) || (bad-kind (a .left) p j || (bad-kind (a .right) q j || false)))));
         sideL = k .sideL;
         sideR = k .sideR;
         left = λ x. rw p;
@@ -47,4 +51,4 @@ module _ (a : Lent) (f : a .left ≡ 2 → ⊥) (g : a .right ≡ 2 → ⊥) whe
 
   -- the same number, or the same table and volumes
   pub no-inflow : lent.stepOf (with-no-inflow a) ≡ stepOf a
-  no-inflow = as-before parts (with-no-inflow a) as-in-force
+  no-inflow = as-before badCall parts (with-no-inflow a) bad-kinds as-in-force

@@ -12,12 +12,12 @@ use Rattle.rules.specs.Reach as reach
 use Rattle.rules.specs.Reach.{Reach, Call, State, Bed, under, ql, qr, hl, hr}
 use Rattle.rules.specs.Stage as rules
 use Rattle.rules.specs.Step.{rubbed}
+use Rattle.rules.specs.Refusals.{badCall}
 use Rattle.rules.specs.Lent as lent
-use Rattle.rules.specs.Lent.{Lent, reachOf, callOf}
+use Rattle.rules.specs.Lent.{Lent, cellsOf, reachOf, callOf, stateOf}
 use Rattle.rules.specs.Laws.Accept.{Clear}
 use Rattle.rules.specs.Laws.Positive.{Nonneg, rubbed-wet}
-use Rattle.before.specs.Parts.{stageOne, toFive, ofOne}
-use Rattle.before.specs.E6.{short, depthL, depthR, groundL, groundR, sideL, sideR, push, update, parts, stepOf}
+use Rattle.before.specs.E6.{short, depthL, depthR, groundL, groundR, sideL, sideR, push, update, parts, stepOf, toFive, ofOne, stageOne}
 use Rattle.before.specs.Laws.Parts.{AsInForce, wet-now, wet-one, as-before}
 
 -- ---- the shortfall is nought
@@ -33,12 +33,13 @@ covered : {b : Bed} {x : Cell} → Nonneg b x → NoShortfall b x
 covered {b} {x} n = record { left = no-short (hl b x) (n .left); right = no-short (hr b x) (n .right) }
 
 -- at every face: after friction, where the call passed the checks up to 5, and after stage one, where it passed those up to its 8
-module _ (r : Reach) (c : Call) (s : State) where
-  pub none-short-one : Clear (toFive parts r c s) → (i : ℕ) → i < r .n → NoShortfall (under r i) (rubbed r c s i)
-  none-short-one q i l = covered (rubbed-wet r c s (wet-now parts r c s q) i l)
+module _ (a : Lent) where
+  pub none-short-one : Clear (toFive a) → (i : ℕ) → i < cellsOf a
+      → NoShortfall (under (reachOf a) i) (rubbed (reachOf a) (callOf a) (stateOf a) i)
+  none-short-one q i l = covered (rubbed-wet (reachOf a) (callOf a) (stateOf a) (wet-now badCall a q) i l)
 
-  pub none-short-two : Clear (ofOne parts r c s) → (i : ℕ) → i < r .n → NoShortfall (under r i) (stageOne parts r c s i)
-  none-short-two q i l = covered (wet-one parts r c s q i l)
+  pub none-short-two : Clear (ofOne a) → (i : ℕ) → i < cellsOf a → NoShortfall (under (reachOf a) i) (stageOne a i)
+  none-short-two q i l = covered (wet-one parts (reachOf a) (callOf a) (stateOf a) q i l)
 
 -- ---- so depths and bed are as they are without it
 module _ {b : Bed} {x : Cell} (n : NoShortfall b x) where
@@ -58,7 +59,6 @@ module _ {b : Bed} {x : Cell} (n : NoShortfall b x) where
 pub as-in-force : (r : Reach) (c : Call) → AsInForce parts r c
 unfolding sideL sideR reach.sideL reach.sideR update rules.update
 as-in-force r c = record {
-  call = refl;
   sideL = λ b x n. let e = depth-left (covered n) in λ j. record { h = e j; u = speed (c .dry) (ql x) (e j) };
   sideR = λ b x n. let e = depth-right (covered n) in λ j. record { h = e j; u = speed (c .dry) (qr x) (e j) };
   left = λ x. refl;
@@ -76,4 +76,4 @@ as-in-force r c = record {
 
 -- ---- and every call is answered as it was with it: the same number, or the same table and volumes
 pub uncorrected : (a : Lent) → lent.stepOf a ≡ stepOf a
-uncorrected a = as-before parts a (as-in-force (reachOf a) (callOf a))
+uncorrected a = as-before badCall parts a refl (as-in-force (reachOf a) (callOf a))

@@ -29,24 +29,32 @@ use Rattle.rules.specs.Laws.Shown.{last, at-same}
 use Rattle.rules.specs.Laws.Agree.{Same, finish-same, off-same, fastGauss-same}
 use Rattle.rules.specs.Laws.Accept.{Clear, passed}
 use Rattle.rules.specs.Laws.Verdicts.{clear-at, verdict-after}
-use Rattle.rules.specs.Laws.Lengths.{fitted, fits, unrefused}
+use Rattle.rules.specs.Laws.Lengths.{fitted}
 use Rattle.rules.specs.Laws.Positive.{Nonneg, Wet, rubbed-wet}
 use Rattle.rules.specs.Laws.Runs.{in-range}
 use Rattle.before.specs.Parts.{Parts}
 use Rattle.before.specs.Parts as before
 
 -- ---- the two states that stages start from have no face depth below nought, where the checks before are passed
-module _ (p : Parts) (r : Reach) (c : Call) (s : State) where
-  pub wet-now : Clear (before.toFive p r c s) → Wet r s
-  unfolding before.toFive
-  wet-now q = in-range r s (clear-at (before.toFive p r c s) q 3)
+pub wet-now : (bad : Reach → Call → Bool) (a : Lent) → Clear (before.toFive bad a) → Wet (reachOf a) (stateOf a)
+unfolding before.toFive
+wet-now bad a q = in-range (reachOf a) (stateOf a) (clear-at (before.toFive bad a) q 4)
 
-  pub wet-one : Clear (before.ofOne p r c s) → Wet r (before.stageOne p r c s)
-  unfolding before.ofOne before.stageChecks
-  wet-one q = in-range r (before.stageOne p r c s) (clear-at (before.ofOne p r c s) q 4)
+pub wet-one : (p : Parts) (r : Reach) (c : Call) (s : State) → Clear (before.ofOne p r c s) → Wet r (before.stageOne p r c s)
+unfolding before.ofOne before.stageChecks
+wet-one p r c s q = in-range r (before.stageOne p r c s) (clear-at (before.ofOne p r c s) q 4)
+
+-- the checks in force after 5, parted alike
+module _ (r : Reach) (c : Call) (s : State) where
+  abbrev one : List Check
+  one =
+      chk 6 (some (fastFriction r c s) (r .n))
+      ∷ stageChecks r c (rubbed r c s) ++ chk 8 (some (off r (stageOne r c s)) (r .n)) ∷ []
+
+  abbrev two : List Check
+  two = stageChecks r c (stageOne r c s) ++ chk 8 (some (off r (next r c s)) (r .n)) ∷ []
 
 pub record AsInForce (p : Parts) (r : Reach) (c : Call) : Type 0 where
-  pub call : p .badCall r c ≡ badCall r c
   pub sideL : (b : Bed) (x : Cell) → Nonneg b x → p .sideL (c .dry) b x ≡ sideL (c .dry) b x
   pub sideR : (b : Bed) (x : Cell) → Nonneg b x → p .sideR (c .dry) b x ≡ sideR (c .dry) b x
   pub left : (x : Side) → p .leftEnd (r .face) (c .dry) (c .left) x ≡ leftEnd (r .face) (c .dry) (c .left) x
@@ -106,83 +114,56 @@ module _ (p : Parts) (r : Reach) (c : Call) (k : AsInForce p r c) (o : 0 < r .n)
 
   -- ---- the step from s
   module _ (s : State) where
-    -- the checks in force
-    abbrev five : List Check
-    five = chk 2 (badCall r c)
-        ∷ chk 3 (some (λ i. badBed (r .bed i)) (suc (r .n)))
-        ∷ chk 4 (some (λ i. badRough (c .rough i)) (r .n))
-        ∷ chk 5 (some (off r s) (r .n))
-        ∷ []
-
-    abbrev one : List Check
-    one = chk 6 (some (fastFriction r c s) (r .n))
-        ∷ stageChecks r c (rubbed r c s) ++ chk 8 (some (off r (stageOne r c s)) (r .n)) ∷ []
-
-    abbrev two : List Check
-    two = stageChecks r c (stageOne r c s) ++ chk 8 (some (off r (next r c s)) (r .n)) ∷ []
-
-    -- where what was lent passes check 5
+    -- where s passes check 5
     module _ (w : Wet r s) where
-      abbrev rubbed-same : Same r (rubbed r c s) (rubbed r c s)
+      abbrev a : State
+      a = rubbed r c s
+
+      abbrev b : State
+      b = before.stageOne p r c s
+
+      abbrev rubbed-same : Same r a a
       rubbed-same i l = refl
 
-      one-same : Same r (before.stageOne p r c s) (stageOne r c s)
+      one-same : Same r b (stageOne r c s)
       unfolding before.stageOne stageOne
-      one-same = finish-same r c (before.stage p r c (rubbed r c s)) (stage r c (rubbed r c s))
-          (stage-same (rubbed r c s) (rubbed r c s) (rubbed-wet r c s w) rubbed-same)
+      one-same = finish-same r c (before.stage p r c a) (stage r c a) (stage-same a a (rubbed-wet r c s w) rubbed-same)
 
-      ofOne-same : before.ofOne p r c s ≡ one
+      ofOne-same : before.ofOne p r c s ≡ one r c s
       unfolding before.ofOne
       ofOne-same = λ j.
           chk 6 (some (fastFriction r c s) (r .n))
-          ∷ checks-same (rubbed r c s) (rubbed r c s) (rubbed-wet r c s w) rubbed-same j
-          ++ chk 8 (off-same r c o (before.stageOne p r c s) (stageOne r c s) one-same j) ∷ []
+          ∷ checks-same a a (rubbed-wet r c s w) rubbed-same j
+          ++ chk 8 (off-same r c o b (stageOne r c s) one-same j) ∷ []
 
-      -- and stage one passes its 8
-      module _ (v : Wet r (before.stageOne p r c s)) where
-        carry-same : (i : ℕ) → i < suc (r .n) → before.carry p r c s i ≡ carry r c s i
+      -- and stage one its 8
+      module _ (v : Wet r b) where
+        pub carry-same : (i : ℕ) → i < suc (r .n) → before.carry p r c s i ≡ carry r c s i
         unfolding before.carry carry
-        carry-same i l = ap₂ half (volume-same (rubbed r c s) (rubbed r c s) (rubbed-wet r c s w) rubbed-same i l)
-            (volume-same (before.stageOne p r c s) (stageOne r c s) v one-same i l)
+        carry-same i l =
+            ap₂ half (volume-same a a (rubbed-wet r c s w) rubbed-same i l) (volume-same b (stageOne r c s) v one-same i l)
 
-        next-same : Same r (before.next p r c s) (next r c s)
+        pub next-same : Same r (before.next p r c s) (next r c s)
         unfolding before.next next joined
-        next-same = finish-same r c _ _ (λ i l. λ j. joinedCell (rubbed r c s i)
-            (stage-same (before.stageOne p r c s) (stageOne r c s) v one-same i l j)
+        next-same = finish-same r c _ _ (λ i l j. joinedCell (a i) (stage-same b (stageOne r c s) v one-same i l j)
             (carry-same i (omega arith) j) (carry-same (suc i) (omega arith) j))
 
-        ofTwo-same : before.ofTwo p r c s ≡ two
+        ofTwo-same : before.ofTwo p r c s ≡ two r c s
         unfolding before.ofTwo
         ofTwo-same = λ j.
-            checks-same (before.stageOne p r c s) (stageOne r c s) v one-same j
-            ++ chk 8 (off-same r c o (before.next p r c s) (next r c s) next-same j) ∷ []
+            checks-same b (stageOne r c s) v one-same j ++ chk 8 (off-same r c o (before.next p r c s) (next r c s) next-same j) ∷ []
 
-    refusal-same : verdict (before.toFive p r c s ++ before.ofOne p r c s ++ before.ofTwo p r c s) ≡ refusal r c s
-    unfolding refusal checks early stageChecks before.toFive
-    refusal-same =
-        verdict-after (before.toFive p r c s) (before.ofOne p r c s ++ before.ofTwo p r c s) (one ++ two)
-        (λ q. let w = wet-now p r c s q in
-        verdict-after (before.ofOne p r c s) (before.ofTwo p r c s) two (λ z. ap verdict (ofTwo-same w (wet-one p r c s z)))
-        ∙ (λ j. verdict (ofOne-same w j ++ two)))
-        ∙ (λ j. verdict (chk 2 (k .call j)
-        ∷ chk 3 (some (λ i. badBed (r .bed i)) (suc (r .n)))
-        ∷ chk 4 (some (λ i. badRough (c .rough i)) (r .n))
-        ∷ chk 5 (some (off r s) (r .n))
-        ∷ one ++ two))
-
-    -- an accepted step passed both
-    both-wet : refusal r c s ≡ 0 → Wet r s × Wet r (before.stageOne p r c s)
-    unfolding before.toFive before.ofOne before.stageChecks
-    both-wet e =
-        let a = passed 0 (before.toFive p r c s) (before.ofOne p r c s ++ before.ofTwo p r c s) tt (refusal-same ∙ e) in
-        let b = passed 0 (before.ofOne p r c s) (before.ofTwo p r c s) tt (a .1) in
-        (wet-now p r c s (a .0), wet-one p r c s (b .0))
+    further-same : Wet r s → verdict (before.ofOne p r c s ++ before.ofTwo p r c s) ≡ verdict (one r c s ++ two r c s)
+    further-same w =
+        verdict-after (before.ofOne p r c s) (before.ofTwo p r c s) (two r c s) (λ z. ap verdict (ofTwo-same w (wet-one p r c s z)))
+        ∙ (λ j. verdict (ofOne-same w j ++ two r c s))
 
 -- ---- the call: the same number, or the same table and volumes
-either : (k m : ℕ) (x y : Outcome) → k ≡ m → (m ≡ 0 → x ≡ y) → cond (eqb k 0) x (refused k) ≡ cond (eqb m 0) y (refused m)
-either k m x y e f = ap (λ (j : ℕ). cond (eqb j 0) x (refused j)) e ∙ by (eqb m 0) (λ z. rw z (f (eqb-true m 0 z))) (λ z. rw z)
+either : (k m : ℕ) (x y : Outcome) → k ≡ m → (k ≡ 0 → x ≡ y) → cond (eqb k 0) x (refused k) ≡ cond (eqb m 0) y (refused m)
+either k m x y e f = by (eqb k 0) (λ z. rw z (f (eqb-true k 0 z))) (λ z. rw z) ∙ ap (λ (j : ℕ). cond (eqb j 0) y (refused j)) e
 
-module _ (p : Parts) (a : Lent) (k : AsInForce p (reachOf a) (callOf a)) where
+module _ (bad : Reach → Call → Bool) (p : Parts) (a : Lent) (call : bad (reachOf a) (callOf a) ≡ badCall (reachOf a) (callOf a))
+    (k : AsInForce p (reachOf a) (callOf a)) where
   abbrev n : ℕ
   n = cellsOf a
 
@@ -195,16 +176,24 @@ module _ (p : Parts) (a : Lent) (k : AsInForce p (reachOf a) (callOf a)) where
   abbrev s : State
   s = stateOf a
 
-  some-cell : misfits a ≡ false → 0 < n
-  some-cell e = fitted (length (a .now)) (a .room) (length (a .bed)) n e .some
+  some-cell : Clear (before.toFive bad a) → 0 < n
+  unfolding before.toFive
+  some-cell q = fitted (length (a .now)) (a .room) (length (a .bed)) n (q .0) .some
 
-  number-same : before.number p a ≡ number a
-  unfolding before.number number verdict
-  number-same = by (misfits a) (λ e. rw e) (λ e. rw e (refusal-same p r c k (some-cell e) s))
+  number-same : before.number bad p a ≡ number a
+  unfolding before.number number refusal checks early stageChecks before.toFive verdict
+  number-same =
+      verdict-after (before.toFive bad a) (before.ofOne p r c s ++ before.ofTwo p r c s) (one r c s ++ two r c s)
+      (λ q. further-same p r c k (some-cell q) s (wet-now bad a q))
+      ∙ (λ j. verdict (chk 1 (misfits a) ∷ chk 2 (call j)
+      ∷ chk 3 (some (λ i. badBed (r .bed i)) (suc n)) ∷ chk 4 (some (λ i. badRough (c .rough i)) n) ∷ chk 5 (some (off r s) n)
+      ∷ one r c s ++ two r c s))
 
-  pub as-before : stepOf a ≡ before.stepBy p a
-  unfolding before.stepBy stepOf filled crossed
-  as-before = sym (either (before.number p a) (number a) _ _ number-same (λ z.
-      let o = some-cell (fits a z) in let w = both-wet p r c k o s (unrefused a z) in
-      λ j. accepted (flat (row-same n (before.next p r c s) (next r c s) (next-same p r c k o s (w .0) (w .1)) j))
-      (carry-same p r c k o s (w .0) (w .1) 0 (omega arith) j) (carry-same p r c k o s (w .0) (w .1) n (omega arith) j)))
+  pub as-before : stepOf a ≡ before.stepBy bad p a
+  unfolding before.stepBy stepOf filled crossed before.number before.toFive before.ofOne before.stageChecks
+  as-before = sym (either (before.number bad p a) (number a) _ _ number-same (λ z.
+      let five = passed 0 (before.toFive bad a) (before.ofOne p r c s ++ before.ofTwo p r c s) tt z in
+      let eight = passed 0 (before.ofOne p r c s) (before.ofTwo p r c s) tt (five .1) in
+      let o = some-cell (five .0) in let w = wet-now bad a (five .0) in let v = wet-one p r c s (eight .0) in
+      λ j. accepted (flat (row-same n (before.next p r c s) (next r c s) (next-same p r c k o s w v) j))
+      (carry-same p r c k o s w v 0 (omega arith) j) (carry-same p r c k o s w v n (omega arith) j)))
