@@ -14,33 +14,27 @@ use Rattle.rules.specs.Lent.{Lent, reachOf, callOf, stateOf, Outcome}
 use Rattle.before.specs.Parts as before
 use Rattle.before.specs.Parts.{Parts, stepBy}
 
--- the shortfall of a face level that lies h over the bed
+-- by how much the level at a face, h over the bed, falls short of it
 unfoldable pub short : ℤ → ℤ
 short h = maxZ (pos 0) (negℤ h)
 
--- depth and bed at the two faces, after it was taken from level and bed
-unfoldable pub depthL : Bed → Cell → ℤ
-depthL b x = hl b x +ℤ short (hl b x)
+-- the depth there, and the bed z, after that was taken from level and bed
+unfoldable pub depth : ℤ → ℤ
+depth h = h +ℤ short h
 
-unfoldable pub depthR : Bed → Cell → ℤ
-depthR b x = hr b x +ℤ short (hr b x)
-
-unfoldable pub groundL : Bed → Cell → ℤ
-groundL b x = b .zl -ℤ short (hl b x)
-
-unfoldable pub groundR : Bed → Cell → ℤ
-groundR b x = b .zr -ℤ short (hr b x)
+unfoldable pub ground : ℤ → ℤ → ℤ
+ground z h = z -ℤ short h
 
 -- the sides
 unfoldable pub sideL : ℤ → Bed → Cell → Side
-sideL d b x = record { h = depthL b x; u = speed d (ql x) (depthL b x) }
+sideL d b x = record { h = depth (hl b x); u = speed d (ql x) (depth (hl b x)) }
 
 unfoldable pub sideR : ℤ → Bed → Cell → Side
-sideR d b x = record { h = depthR b x; u = speed d (qr x) (depthR b x) }
+sideR d b x = record { h = depth (hr b x); u = speed d (qr x) (depth (hr b x)) }
 
 -- E, and the discharge's mean after a stage
 unfoldable pub push : Bed → Cell → Flux → Flux → ℤ
-push b x l f = l .K -ℤ f .K -ℤ (depthR b x +ℤ depthL b x) *ℤ (groundR b x -ℤ groundL b x)
+push b x l f = l .K -ℤ f .K -ℤ (depth (hr b x) +ℤ depth (hl b x)) *ℤ (ground (b .zr) (hr b x) -ℤ ground (b .zl) (hl b x))
 
 unfoldable pub update : ℤ → ℤ → ℤ → Bed → Cell → Flux → Flux → Cell
 update dx dt d b x l f = let y = rules.update dx dt d b x l f in record {

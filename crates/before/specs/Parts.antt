@@ -46,12 +46,10 @@ module _ (p : Parts) (r : Reach) (c : Call) where
   unfoldable pub stageOne : State → State
   stageOne s = finish r c (stage (rubbed r c s))
 
-  -- V at face i in a stage from s, and W
-  abbrev pub volumeAt : State → ℕ → ℤ
-  volumeAt s i = volume (r .dx) (c .dt) (crossAt (shown s) i)
-
+  -- W at face i
   unfoldable pub carry : State → ℕ → ℤ
-  carry s i = half (volumeAt (rubbed r c s) i) (volumeAt (stageOne s) i)
+  carry s i =
+      half (volume (r .dx) (c .dt) (crossAt (shown (rubbed r c s)) i)) (volume (r .dx) (c .dt) (crossAt (shown (stageOne s)) i))
 
   unfoldable pub next : State → State
   next s = finish r c (λ i. joinedCell (rubbed r c s i) (stage (stageOne s) i) (carry s i) (carry s (suc i)))

@@ -30,9 +30,11 @@ module _ (a : Lent) (f : a .left ≡ 2 → ⊥) (g : a .right ≡ 2 → ⊥) whe
   pub bad-kinds : badCall (reachOf (with-no-inflow a)) (callOf (with-no-inflow a))
       ≡ checks.badCall (reachOf (with-no-inflow a)) (callOf (with-no-inflow a))
   unfolding checks.badCall badCall any
-  bad-kinds = λ j.
-      outside (pos 1) longestCell (pos (a .dx)) || (outside (pos 1) longestStep (pos (a .dt)) || (outside (pos 0) largestJump (pos (a .jump))
-      || (badDry (pos (a .dry)) || (bad-kind (a .left) (ne-eqb (a .left) 2 f) j || (bad-kind (a .right) (ne-eqb (a .right) 2 g) j || false)))))
+  bad-kinds =
+      let p = bad-kind (a .left) (ne-eqb (a .left) 2 f) in let q = bad-kind (a .right) (ne-eqb (a .right) 2 g) in
+      λ j.
+      outside (pos 1) longestCell (pos (a .dx)) || (outside (pos 1) longestStep (pos (a .dt))
+      || (outside (pos 0) largestJump (pos (a .jump)) || (badDry (pos (a .dry)) || (p j || (q j || false)))))
 
   pub as-in-force : AsInForce parts (reachOf (with-no-inflow a)) (callOf (with-no-inflow a))
   unfolding ends.leftEnd ends.rightEnd leftEnd rightEnd fastInflow

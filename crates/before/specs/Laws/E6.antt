@@ -1,6 +1,6 @@
 -- The correction that E6 took out did nothing: no face level lay below the bed in a state that a stage started from.
 -- Assumes nothing.
-use mathlib.Core.Path.{_≡_, refl, _∙_, ap}
+use mathlib.Core.Path.{_≡_, refl}
 use Prim.Native.Nat.{ℕ, _<_}
 use lib.IntN.{ℤ, pos, _+ℤ_, _-ℤ_, _*ℤ_}
 use lib.Signed.{quotZ, _≤ℤ_}
@@ -9,7 +9,7 @@ use Rattle.whole.specs.Choice.{max-none}
 use Rattle.tables.specs.Cells.{Cell}
 use Rattle.rules.specs.Face.{Flux, speed}
 use Rattle.rules.specs.Reach as reach
-use Rattle.rules.specs.Reach.{Reach, Call, State, Bed, under, ql, qr, hl, hr}
+use Rattle.rules.specs.Reach.{Reach, Call, Bed, under, ql, qr, hl, hr}
 use Rattle.rules.specs.Stage as rules
 use Rattle.rules.specs.Step.{rubbed}
 use Rattle.rules.specs.Refusals.{badCall}
@@ -17,7 +17,7 @@ use Rattle.rules.specs.Lent as lent
 use Rattle.rules.specs.Lent.{Lent, cellsOf, reachOf, callOf, stateOf}
 use Rattle.rules.specs.Laws.Accept.{Clear}
 use Rattle.rules.specs.Laws.Positive.{Nonneg, rubbed-wet}
-use Rattle.before.specs.E6.{short, depthL, depthR, groundL, groundR, sideL, sideR, push, update, parts, stepOf, toFive, ofOne, stageOne}
+use Rattle.before.specs.E6.{short, depth, ground, sideL, sideR, push, update, parts, stepOf, toFive, ofOne, stageOne}
 use Rattle.before.specs.Laws.Parts.{AsInForce, wet-now, wet-one, as-before}
 
 -- ---- the shortfall is nought
@@ -41,26 +41,26 @@ module _ (a : Lent) where
   pub none-short-two : Clear (ofOne a) → (i : ℕ) → i < cellsOf a → NoShortfall (under (reachOf a) i) (stageOne a i)
   none-short-two q i l = covered (wet-one parts (reachOf a) (callOf a) (stateOf a) q i l)
 
--- ---- so depths and bed are as they are without it
-module _ {b : Bed} {x : Cell} (n : NoShortfall b x) where
-  depth-left : depthL b x ≡ hl b x
-  unfolding depthL
-  depth-left = rw (n .left) (plus-none (hl b x))
+-- ---- so depth and bed are as they are without it
+module _ (h : ℤ) (k : pos 0 ≤ℤ h) where
+  depth-is : depth h ≡ h
+  unfolding depth
+  depth-is = rw (no-short h k) (plus-none h)
 
-  depth-right : depthR b x ≡ hr b x
-  unfolding depthR
-  depth-right = rw (n .right) (plus-none (hr b x))
+  ground-is : (z : ℤ) → ground z h ≡ z
+  unfolding ground
+  ground-is z = rw (no-short h k) (plus-none z)
 
-  push-same : (l f : Flux) → push b x l f ≡ rules.push b x l f
-  unfolding push rules.push groundL groundR
-  push-same l f = rw (depth-left, depth-right, n .left, n .right)
-      (λ j. l .K -ℤ f .K -ℤ (hr b x +ℤ hl b x) *ℤ (plus-none (b .zr) j -ℤ plus-none (b .zl) j))
+push-is : (b : Bed) (x : Cell) → Nonneg b x → (l f : Flux) → push b x l f ≡ rules.push b x l f
+unfolding push rules.push
+push-is b x n l f = λ j. l .K -ℤ f .K -ℤ (depth-is (hr b x) (n .right) j +ℤ depth-is (hl b x) (n .left) j)
+    *ℤ (ground-is (hr b x) (n .right) (b .zr) j -ℤ ground-is (hl b x) (n .left) (b .zl) j)
 
 pub as-in-force : (r : Reach) (c : Call) → AsInForce parts r c
 unfolding sideL sideR reach.sideL reach.sideR update rules.update
 as-in-force r c = record {
-  sideL = λ b x n. let e = depth-left (covered n) in λ j. record { h = e j; u = speed (c .dry) (ql x) (e j) };
-  sideR = λ b x n. let e = depth-right (covered n) in λ j. record { h = e j; u = speed (c .dry) (qr x) (e j) };
+  sideL = λ b x n. let e = depth-is (hl b x) (n .left) in λ j. record { h = e j; u = speed (c .dry) (ql x) (e j) };
+  sideR = λ b x n. let e = depth-is (hr b x) (n .right) in λ j. record { h = e j; u = speed (c .dry) (qr x) (e j) };
   left = λ x. refl;
   right = λ x. refl;
   fastLeft = λ x. refl;
@@ -69,7 +69,7 @@ as-in-force r c = record {
     e0 = y .e0;
     e1 = y .e1;
     q0 = x .q0 +ℤ quotZ ((l .A -ℤ f .A) *ℤ c .dt) (r .dx)
-        +ℤ quotZ (pos 981 *ℤ push-same (covered n) l f j *ℤ c .dt) (pos 819200 *ℤ r .dx);
+        +ℤ quotZ (pos 981 *ℤ push-is b x n l f j *ℤ c .dt) (pos 819200 *ℤ r .dx);
     q1 = y .q1;
   };
 }

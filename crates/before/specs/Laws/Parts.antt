@@ -1,8 +1,8 @@
 -- Parts that do in a call what the rules in force do, on every cell whose face depths are not below nought, make the step in force:
 -- each stage starts from a state that passed check 5 or 8, so no other cell is met.
 -- Assumes nothing.
-use mathlib.Core.Path.{_≡_, sym, refl, _∙_, ap, ap₂}
-use mathlib.Core.Bool.{Bool, false, cond, _||_}
+use mathlib.Core.Path.{_≡_, sym, _∙_, ap, ap₂}
+use mathlib.Core.Bool.{Bool, cond, _||_}
 use mathlib.Core.List.{List, [], _∷_, _++_}
 use Prim.Native.Nat.{ℕ, zero, suc, _<_}
 use native.Mathlib.Omega.{arith}
@@ -13,20 +13,19 @@ use lib.IntN.{pos, _*ℤ_}
 use lib.Signed.{ltZ}
 use Rattle.whole.specs.Flags.{by}
 use Rattle.tables.specs.Some.{some, some-same}
-use Rattle.tables.specs.Rows.{row, row-same}
+use Rattle.tables.specs.Rows.{row-same}
 use Rattle.tables.specs.Cells.{Cell, flat}
 use Rattle.rules.specs.Face.{Side, Flux}
-use Rattle.rules.specs.Shown.{Shown, crossRight, crossAt, volume}
+use Rattle.rules.specs.Shown.{crossRight, crossAt, volume}
 use Rattle.rules.specs.Ends.{leftEnd, rightEnd}
 use Rattle.rules.specs.Reach.{Reach, Call, State, Bed, under, sideL, sideR}
 use Rattle.rules.specs.Stage.{atLeft, atRight, faceAt, update, stage}
-use Rattle.rules.specs.Finishing.{finish}
 use Rattle.rules.specs.Step.{rubbed, stageOne, half, carry, joinedCell, joined, next}
-use Rattle.rules.specs.Refusals.{badCall, badBed, badRough, off, fastFriction, fastSide, fastInflow, fastFace, tooLong}
-use Rattle.rules.specs.Refusals.{Check, chk, verdict, stageChecks, early, checks, refusal}
+use Rattle.rules.specs.Refusals.{badCall, badBed, badRough, off, fastFriction, fastSide, fastInflow, fastFace, fastGauss}
+use Rattle.rules.specs.Refusals.{tooLong, Check, chk, verdict, stageChecks, early, checks, refusal}
 use Rattle.rules.specs.Lent.{Lent, cellsOf, reachOf, callOf, stateOf, misfits, number, filled, crossed, Outcome, refused, accepted, stepOf}
 use Rattle.rules.specs.Laws.Shown.{last, at-same}
-use Rattle.rules.specs.Laws.Agree.{Same, finish-same, off-same, fastGauss-same}
+use Rattle.rules.specs.Laws.Agree.{Same, faceAt-same, stage-same, finish-same, off-same, stageChecks-same}
 use Rattle.rules.specs.Laws.Accept.{Clear, passed}
 use Rattle.rules.specs.Laws.Verdicts.{clear-at, verdict-after}
 use Rattle.rules.specs.Laws.Lengths.{fitted}
@@ -35,7 +34,7 @@ use Rattle.rules.specs.Laws.Runs.{in-range}
 use Rattle.before.specs.Parts.{Parts}
 use Rattle.before.specs.Parts as before
 
--- ---- the two states that stages start from have no face depth below nought, where the checks before are passed
+-- ---- the two states that stages start from have no face depth below nought, where the checks before are passed: the last is of the range
 pub wet-now : (bad : Reach → Call → Bool) (a : Lent) → Clear (before.toFive bad a) → Wet (reachOf a) (stateOf a)
 unfolding before.toFive
 wet-now bad a q = in-range (reachOf a) (stateOf a) (clear-at (before.toFive bad a) q 4)
@@ -44,16 +43,7 @@ pub wet-one : (p : Parts) (r : Reach) (c : Call) (s : State) → Clear (before.o
 unfolding before.ofOne before.stageChecks
 wet-one p r c s q = in-range r (before.stageOne p r c s) (clear-at (before.ofOne p r c s) q 4)
 
--- the checks in force after 5, parted alike
-module _ (r : Reach) (c : Call) (s : State) where
-  abbrev one : List Check
-  one =
-      chk 6 (some (fastFriction r c s) (r .n))
-      ∷ stageChecks r c (rubbed r c s) ++ chk 8 (some (off r (stageOne r c s)) (r .n)) ∷ []
-
-  abbrev two : List Check
-  two = stageChecks r c (stageOne r c s) ++ chk 8 (some (off r (next r c s)) (r .n)) ∷ []
-
+-- ---- parts that do as the rules in force
 pub record AsInForce (p : Parts) (r : Reach) (c : Call) : Type 0 where
   pub sideL : (b : Bed) (x : Cell) → Nonneg b x → p .sideL (c .dry) b x ≡ sideL (c .dry) b x
   pub sideR : (b : Bed) (x : Cell) → Nonneg b x → p .sideR (c .dry) b x ≡ sideR (c .dry) b x
@@ -64,94 +54,99 @@ pub record AsInForce (p : Parts) (r : Reach) (c : Call) : Type 0 where
   pub update : (b : Bed) (x : Cell) → Nonneg b x → (l f : Flux)
       → p .update (r .dx) (c .dt) (c .dry) b x l f ≡ update (r .dx) (c .dt) (c .dry) b x l f
 
+-- the checks in force after 5, of stage one and of stage two
+module _ (r : Reach) (c : Call) (s : State) where
+  abbrev one : List Check
+  one =
+      chk 6 (some (fastFriction r c s) (r .n))
+      ∷ stageChecks r c (rubbed r c s) ++ chk 8 (some (off r (stageOne r c s)) (r .n)) ∷ []
+
+  abbrev two : List Check
+  two = stageChecks r c (stageOne r c s) ++ chk 8 (some (off r (next r c s)) (r .n)) ∷ []
+
 module _ (p : Parts) (r : Reach) (c : Call) (k : AsInForce p r c) (o : 0 < r .n) where
-  -- ---- a stage from s, which has no face depth below nought, and one in force from t, which is the same in the reach
-  module _ (s t : State) (w : Wet r s) (e : Same r s t) where
-    left-same : (i : ℕ) → i < r .n → before.shown p r c s .toLeft i ≡ atLeft r c t i
-    left-same i l = k .sideL (under r i) (s i) (w i l) ∙ ap (sideL (c .dry) (under r i)) (e i l)
+  -- ---- a stage from a state with no face depth below nought is the one in force
+  module _ (s : State) (w : Wet r s) where
+    left-is : (i : ℕ) → i < r .n → before.shown p r c s .toLeft i ≡ atLeft r c s i
+    left-is i l = k .sideL (under r i) (s i) (w i l)
 
-    right-same : (i : ℕ) → i < r .n → before.shown p r c s .toRight i ≡ atRight r c t i
-    right-same i l = k .sideR (under r i) (s i) (w i l) ∙ ap (sideR (c .dry) (under r i)) (e i l)
+    right-is : (i : ℕ) → i < r .n → before.shown p r c s .toRight i ≡ atRight r c s i
+    right-is i l = k .sideR (under r i) (s i) (w i l)
 
-    face-same : (i : ℕ) → i < suc (r .n) → crossAt (before.shown p r c s) i ≡ faceAt r c t i
-    face-same i l = at-same (before.shown p r c s) (atLeft r c t) (atRight r c t) left-same right-same o i l
+    face-is : (i : ℕ) → i < suc (r .n) → crossAt (before.shown p r c s) i ≡ faceAt r c s i
+    face-is i l = at-same (before.shown p r c s) (atLeft r c s) (atRight r c s) left-is right-is o i l
         ∙ (λ j. crossAt (record {
           n = r .n;
           face = r .face;
           left = λ x. k .left x j;
           right = λ x. k .right x j;
-          toLeft = atLeft r c t;
-          toRight = atRight r c t;
+          toLeft = atLeft r c s;
+          toRight = atRight r c s;
         }) i)
 
-    stage-same : Same r (before.stage p r c s) (stage r c t)
+    stage-is : Same r (before.stage p r c s) (stage r c s)
     unfolding before.stage stage crossAt
-    stage-same i l =
+    stage-is i l =
         k .update (under r i) (s i) (w i l) (crossAt (before.shown p r c s) i) (crossRight (before.shown p r c s) i)
-        ∙ (λ j. update (r .dx) (c .dt) (c .dry) (under r i) (e i l j) (face-same i (omega arith) j) (face-same (suc i) (omega arith) j))
+        ∙ ap₂ (update (r .dx) (c .dt) (c .dry) (under r i) (s i)) (face-is i (omega arith)) (face-is (suc i) (omega arith))
 
-    volume-same : (i : ℕ) → i < suc (r .n) → before.volumeAt p r c s i ≡ volume (r .dx) (c .dt) (faceAt r c t i)
-    volume-same i l = ap (volume (r .dx) (c .dt)) (face-same i l)
-
-    fast-same : (i : ℕ) → i < suc (r .n) → before.fastFace p r c s i ≡ fastFace r c t i
+    fast-is : (i : ℕ) → i < suc (r .n) → before.fastFace p r c s i ≡ fastFace r c s i
     unfolding before.fastFace fastFace
-    fast-same zero l = ap (λ (x : Side). p .fastInflow (c .dry) (c .left) x || fastSide x) (left-same zero o)
-        ∙ ap (λ (b : Bool). b || fastSide (atLeft r c t zero)) (k .fastLeft (atLeft r c t zero))
-    fast-same (suc i) l = let m : i < r .n = omega arith in let q = right-same i m in
-        ap₂ _||_ (ap fastSide q) (last i (r .n) m
-        (p .fastInflow (c .dry) (c .right) (before.shown p r c s .toRight i)) (fastSide (before.shown p r c s .toLeft (suc i)))
-        (fastInflow (c .dry) (c .right) (atRight r c t i)) (fastSide (atLeft r c t (suc i)))
-        (ap (p .fastInflow (c .dry) (c .right)) q ∙ k .fastRight (atRight r c t i)) (λ n. ap fastSide (left-same (suc i) n)))
+    fast-is zero l = let x = before.shown p r c s .toLeft zero in
+        ap₂ _||_ (k .fastLeft x ∙ ap (fastInflow (c .dry) (c .left)) (left-is zero o)) (ap fastSide (left-is zero o))
+    fast-is (suc i) l = let m : i < r .n = omega arith in let x = before.shown p r c s .toRight i in
+        ap₂ _||_ (ap fastSide (right-is i m)) (last i (r .n) m
+        (p .fastInflow (c .dry) (c .right) x) (fastSide (before.shown p r c s .toLeft (suc i)))
+        (fastInflow (c .dry) (c .right) (atRight r c s i)) (fastSide (atLeft r c s (suc i)))
+        (k .fastRight x ∙ ap (fastInflow (c .dry) (c .right)) (right-is i m)) (λ n. ap fastSide (left-is (suc i) n)))
 
-    checks-same : before.stageChecks p r c s ≡ stageChecks r c t
+    checks-are : before.stageChecks p r c s ≡ stageChecks r c s
     unfolding before.stageChecks stageChecks before.tooLong tooLong
-    checks-same = λ j.
-        chk 6 (some-same (before.fastFace p r c s) (fastFace r c t) (suc (r .n)) fast-same j)
-        ∷ chk 6 (fastGauss-same r c o s t e j)
-        ∷ chk 7 (some-same (before.tooLong p r c s) (tooLong r c t) (suc (r .n))
-        (λ i l. ap (λ (f : Flux). ltZ (pos 4096 *ℤ r .dx) (pos 2 *ℤ c .dt *ℤ f .S)) (face-same i l)) j)
+    checks-are = λ j.
+        chk 6 (some-same (before.fastFace p r c s) (fastFace r c s) (suc (r .n)) fast-is j)
+        ∷ chk 6 (some (fastGauss r c s) (r .n))
+        ∷ chk 7 (some-same (before.tooLong p r c s) (tooLong r c s) (suc (r .n))
+        (λ i l. ap (λ (f : Flux). ltZ (pos 4096 *ℤ r .dx) (pos 2 *ℤ c .dt *ℤ f .S)) (face-is i l)) j)
         ∷ []
 
   -- ---- the step from s
   module _ (s : State) where
+    abbrev a : State
+    a = rubbed r c s
+
+    abbrev b : State
+    b = before.stageOne p r c s
+
     -- where s passes check 5
     module _ (w : Wet r s) where
-      abbrev a : State
-      a = rubbed r c s
-
-      abbrev b : State
-      b = before.stageOne p r c s
-
-      abbrev rubbed-same : Same r a a
-      rubbed-same i l = refl
-
       one-same : Same r b (stageOne r c s)
       unfolding before.stageOne stageOne
-      one-same = finish-same r c (before.stage p r c a) (stage r c a) (stage-same a a (rubbed-wet r c s w) rubbed-same)
+      one-same = finish-same r c (before.stage p r c a) (stage r c a) (stage-is a (rubbed-wet r c s w))
 
       ofOne-same : before.ofOne p r c s ≡ one r c s
       unfolding before.ofOne
       ofOne-same = λ j.
           chk 6 (some (fastFriction r c s) (r .n))
-          ∷ checks-same a a (rubbed-wet r c s w) rubbed-same j
-          ++ chk 8 (off-same r c o b (stageOne r c s) one-same j) ∷ []
+          ∷ checks-are a (rubbed-wet r c s w) j ++ chk 8 (off-same r c o b (stageOne r c s) one-same j) ∷ []
 
       -- and stage one its 8
       module _ (v : Wet r b) where
         pub carry-same : (i : ℕ) → i < suc (r .n) → before.carry p r c s i ≡ carry r c s i
         unfolding before.carry carry
-        carry-same i l =
-            ap₂ half (volume-same a a (rubbed-wet r c s w) rubbed-same i l) (volume-same b (stageOne r c s) v one-same i l)
+        carry-same i l = ap₂ (λ (f g : Flux). half (volume (r .dx) (c .dt) f) (volume (r .dx) (c .dt) g))
+            (face-is a (rubbed-wet r c s w) i l) (face-is b v i l ∙ faceAt-same r c b (stageOne r c s) one-same o i l)
 
         pub next-same : Same r (before.next p r c s) (next r c s)
         unfolding before.next next joined
-        next-same = finish-same r c _ _ (λ i l j. joinedCell (a i) (stage-same b (stageOne r c s) v one-same i l j)
+        next-same = finish-same r c _ _ (λ i l j. joinedCell (a i)
+            ((stage-is b v i l ∙ stage-same r c b (stageOne r c s) one-same i l) j)
             (carry-same i (omega arith) j) (carry-same (suc i) (omega arith) j))
 
         ofTwo-same : before.ofTwo p r c s ≡ two r c s
         unfolding before.ofTwo
         ofTwo-same = λ j.
-            checks-same b (stageOne r c s) v one-same j ++ chk 8 (off-same r c o (before.next p r c s) (next r c s) next-same j) ∷ []
+            (checks-are b v ∙ stageChecks-same r c o b (stageOne r c s) one-same) j
+            ++ chk 8 (off-same r c o (before.next p r c s) (next r c s) next-same j) ∷ []
 
     further-same : Wet r s → verdict (before.ofOne p r c s ++ before.ofTwo p r c s) ≡ verdict (one r c s ++ two r c s)
     further-same w =

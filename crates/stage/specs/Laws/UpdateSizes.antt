@@ -4,7 +4,7 @@ use mathlib.Core.List.{List, [], _∷_}
 use Prim.Native.Nat.{ℕ, _^_}
 use native.Mathlib.Omega.{arith}
 use lib.Dec.{T, ltb}
-use lib.IntN.{ℤ, pos, _+ℤ_, _-ℤ_, _*ℤ_}
+use lib.IntN.{ℤ, pos, _*ℤ_}
 use lib.Signed.{_<ℤ_}
 use Rattle.whole.specs.Parts.{Within, of-lt, b-add, b-sub, b-mul, b-lit, b-up, b-nonneg, fit}
 use Rattle.whole.specs.Difference.{at, lit, _⊠_, le!, lt! }
