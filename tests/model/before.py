@@ -3,7 +3,8 @@
 `before.E2()` is a context in which the model's finishing is document 01's own, at whatever dry
 depth.  `before.E3()` is one in which the model knows no dry depth: the argument is not looked at,
 and a fixed 4 stands in every place.  `before.E4()` is one in which it knows no inflow: the two Qs
-are not looked at, and an end is a wall or open.  Each leaves the other requests as they stand.
+are not looked at, and an end is a wall or open.  `before.E6()` is one in which the papers'
+correction of a face level below the bed is made.  Each leaves the other requests as they stand.
 Where E2's and E3's are both wanted, E2's is the inner one.
 """
 
@@ -107,3 +108,39 @@ def E4():
     """01 has two kinds of end, and the step is given no Q."""
     return replaced(kind_in_list=wall_or_open, inflow_in_list=any_inflow, check_inflow_speeds=none_to_check,
                     left_end=left_end, right_end=right_end)
+
+
+# ---- E6: the papers' correction
+
+def shortfall(level, z):
+    """How far a face level falls below the bed there."""
+    return max(0, z - level)
+
+
+def corrected(level, z):
+    """ "take from bed and level any shortfall ... (depth then 0)", F9: the level and the bed after it.
+
+    The level is first lifted to the bed, so both end at the level as it stood.
+    """
+    d = shortfall(level, z)
+    return max(level, z) - d, z - d
+
+
+def corrected_faces(cell, zl, zr):
+    """Level and bed at the left face, then at the right."""
+    return (*corrected(cell.e0 - cell.e1, zl), *corrected(cell.e0 + cell.e1, zr))
+
+
+def cell_faces(cell, zl, zr):
+    el, zl, er, zr = corrected_faces(cell, zl, zr)
+    return m.Faces(el - zl, cell.q0 - cell.q1, er - zr, cell.q0 + cell.q1)
+
+
+def push(cell, zl, zr, left, right):
+    el, zl, er, zr = corrected_faces(cell, zl, zr)
+    return left.K - right.K - (er - zr + el - zl) * (zr - zl)
+
+
+def E6():
+    """Depths at faces, and E, are of level and bed after any shortfall was taken from both."""
+    return replaced(cell_faces=cell_faces, push=push)

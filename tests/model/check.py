@@ -388,6 +388,54 @@ def inflow_holds(seed, count):
     case("E4: every check refuses some call with such an end", sorted(CHECKS ^ refusing), [])
 
 
+# ---- E6
+
+# Of cells over a bed from 100 to 140, by level mean and slope: face depths without the correction, then depths and bed with it.
+CORRECTED = {
+    (130, 40): ((-10, 30), (0, 30), (90, 140)), (150, -20): ((70, -10), (70, 0), (100, 130)), (90, 5): ((-15, -45), (0, 0), (85, 95)),
+    (120, 20): ((0, 0), (0, 0), (100, 140)), (150, 10): ((40, 20), (40, 20), (100, 140)),
+}
+
+
+def correction():
+    """What the correction does where a level lies below the bed, as the random calls below never show it."""
+    def shown(cell):
+        faces = m.cell_faces(cell, 100, 140)
+        return (faces.hl, faces.hr), m.push(cell, 100, 140, m.Flux(0, 9, 0, 0), m.Flux(0, 2, 0, 0))
+    for (e0, e1), (without, depths, (zl, zr)) in CORRECTED.items():
+        cell = m.Cell(e0, e1, 0, 0)
+        case("E6: depths and E of levels %d and %d over a bed of 100 and 140" % (e0 - e1, e0 + e1),
+             shown(cell), (without, 7 - 40 * sum(without)))
+        with before.E6():
+            case("E6: the same with the correction", shown(cell), (depths, 7 - (zr - zl) * sum(depths)))
+
+
+def short_of_bed(stage, seen):
+    """stage, noting a face level below the bed in the state that it starts from."""
+    def watch(cells, call, which):
+        for i, cell in enumerate(cells):
+            seen["faces, stage %d" % which] += 2
+            seen["short"] += before.shortfall(cell.e0 - cell.e1, call.bed[i]) > 0
+            seen["short"] += before.shortfall(cell.e0 + cell.e1, call.bed[i + 1]) > 0
+        return stage(cells, call, which)
+    return watch
+
+
+def uncorrected_holds(seed, count):
+    """ "in every state the step reaches at stage one and stage two ... the shortfall is nought", and the steps are equal."""
+    seen, otherwise, checks = Counter(), 0, Counter()
+    for call in hard.calls(seed, count):
+        found = told_apart(call)
+        with before.E6(), before.replaced(stage=short_of_bed(m.stage, seen)):
+            otherwise += told_apart(call) != found
+        checks[found[0]] += 1
+    case("E6: no shortfall at %d faces that stage one starts from and %d of stage two" % (seen["faces, stage 1"], seen["faces, stage 2"]),
+         seen["short"], 0)
+    case("E6: with the correction the answer is the same, in %d random calls" % count, otherwise, 0)
+    case("E6: at least a quarter of these accepted, and some refused by each check",
+         (4 * checks[None] >= count, sorted(CHECKS - set(checks))), (True, []))
+
+
 # ---- Demand 3 on random calls
 
 def depths(now, bed):
@@ -404,12 +452,9 @@ def watched(check_range, seen):
     def check(cells, call, number, name):
         if number == 8:
             for i, cell in enumerate(cells):
-                f = m.cell_faces(cell, call.bed[i], call.bed[i + 1])
                 low = min(cell.e0 - cell.e1 - call.bed[i], cell.e0 + cell.e1 - call.bed[i + 1])
                 seen["depths"] += 1
                 seen["below"] += low < 0
-                # the shortfall correction moved the bed the face reads
-                seen["corrected"] += (f.zl, f.zr) != (call.bed[i], call.bed[i + 1])
         check_range(cells, call, number, name)
     return check
 
@@ -431,7 +476,6 @@ def calls_hold(seed, count):
     case("demand 3: nothing passes a wall, same calls", leaking, 0)
     case("demand 3: nothing leaves where an inflow is given, same calls", taking, 0)
     case("demand 3: no depth below nought in %d finished cells, refused ones too" % seen["depths"], seen["below"], 0)
-    case("shortfall: nought in the same cells", seen["corrected"], 0)
     case("random calls: at least three in ten accepted", 10 * accepted >= 3 * count, True)
 
 
@@ -553,6 +597,8 @@ def main():
     turning_holds(8, 2000)
     without_inflow_holds(9, 2000)
     inflow_holds(10, 6000)
+    correction()
+    uncorrected_holds(11, 3000)
     calls_hold(3, 3000)
     rest_holds(4, 800)
     runs_hold(5, 250)

@@ -3,8 +3,9 @@ compared with the library.
 
 Exact integers throughout, in 01's order and with 01's letters.  It shares nothing
 with the library, so an answer that both give was worked twice.  Where 01 has a depth
-of 4 the argument `dry` stands (E3), and an end may be given a discharge Q into the reach
-(E4).  What a rule said before a request is in before.py.
+of 4 the argument `dry` stands (E3), an end may be given a discharge Q into the reach (E4),
+and nothing is taken from a face level that lies below the bed (E6).  What a rule said before
+a request is in before.py.
 
 Public rules answer None where 01 refuses them "with no number".  `step` answers
 ("refused", number) or ("accepted", next, W0, Wn).  Labels such as S7 are those of
@@ -184,28 +185,13 @@ def in_range(cell, zl, zr):
             and within(cell.q0 + cell.q1, GREATEST_Q))
 
 
-def shortfall(level, z):
-    """How far a face level falls below the bed there."""
-    return max(0, z - level)
-
-
-def corrected(level, z):
-    """ "take from bed and level any shortfall ... (depth then 0)", F9.
-
-    The level is first lifted to the bed, so both end at the level as it stood.
-    """
-    d = shortfall(level, z)
-    return max(level, z) - d, z - d
-
-
-Faces = namedtuple("Faces", "hl ql zl hr qr zr")
+Faces = namedtuple("Faces", "hl ql hr qr")
 
 
 def cell_faces(cell, zl, zr):
-    """The cell's own depth, discharge and bed at its two faces, corrected."""
-    el, zl = corrected(cell.e0 - cell.e1, zl)
-    er, zr = corrected(cell.e0 + cell.e1, zr)
-    return Faces(el - zl, cell.q0 - cell.q1, zl, er - zr, cell.q0 + cell.q1, zr)
+    """ "Its face depths are h0-h1 and h0+h1, its face discharges q0-q1 and q0+q1." """
+    h0, h1 = depth_mean(cell, zl, zr), depth_slope(cell, zl, zr)
+    return Faces(h0 - h1, cell.q0 - cell.q1, h0 + h1, cell.q0 + cell.q1)
 
 
 def gauss_points(cell, zl, zr):
@@ -273,13 +259,18 @@ def volume(F, call):
     return quo(F * call.dt, call.dx)
 
 
+def push(cell, zl, zr, left, right):
+    """E."""
+    own = cell_faces(cell, zl, zr)
+    return left.K - right.K - (own.hr + own.hl) * (zr - zl)
+
+
 def updated(cell, zl, zr, left, right, gauss, call):
     """One cell after a stage, unfinished; every product is whole before its division."""
     dt, dx = call.dt, call.dx
-    own = cell_faces(cell, zl, zr)
     h0, h1 = depth_mean(cell, zl, zr), depth_slope(cell, zl, zr)
     z1 = bed_slope(zl, zr)
-    E = left.K - right.K - (own.hr + own.hl) * (own.zr - own.zl)
+    E = push(cell, zl, zr, left, right)
     D = 3 * right.K + 3 * left.K - 6 * h0 * h0 - 2 * h1 * h1 + 4 * h1 * z1
     e0 = cell.e0 + volume(left.F, call) - volume(right.F, call)
     e1 = cell.e1 - quo(3 * (right.F + left.F - 2 * cell.q0) * dt, dx)
