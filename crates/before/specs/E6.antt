@@ -58,11 +58,11 @@ abbrev pub stepOf : Lent → Outcome
 stepOf a = stepBy badCall parts a
 
 -- checks 1 to 5 of a call; its further ones up to stage one's 8; and that stage, finished
-abbrev pub toFive : Lent → List Check
-toFive a = before.toFive badCall a
+abbrev pub checksToFive : Lent → List Check
+checksToFive a = before.checksToFive badCall a
 
-abbrev pub ofOne : Lent → List Check
-ofOne a = before.ofOne parts (reachOf a) (callOf a) (stateOf a)
+abbrev pub checksOfOne : Lent → List Check
+checksOfOne a = before.checksOfOne parts (reachOf a) (callOf a) (stateOf a)
 
 abbrev pub stageOne : Lent → State
 stageOne a = before.stageOne parts (reachOf a) (callOf a) (stateOf a)

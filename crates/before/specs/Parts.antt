@@ -71,16 +71,16 @@ module _ (p : Parts) (r : Reach) (c : Call) where
       ∷ []
 
   -- the friction speeds, and stage one with its 8; stage two with the end state's
-  unfoldable pub ofOne : State → List Check
-  ofOne s =
+  unfoldable pub checksOfOne : State → List Check
+  checksOfOne s =
       chk 6 (some (fastFriction r c s) (r .n)) ∷ stageChecks (rubbed r c s) ++ chk 8 (some (off r (stageOne s)) (r .n)) ∷ []
 
-  unfoldable pub ofTwo : State → List Check
-  ofTwo s = stageChecks (stageOne s) ++ chk 8 (some (off r (next s)) (r .n)) ∷ []
+  unfoldable pub checksOfTwo : State → List Check
+  checksOfTwo s = stageChecks (stageOne s) ++ chk 8 (some (off r (next s)) (r .n)) ∷ []
 
 -- ---- the call, whose check 2 is bad
-unfoldable pub toFive : (Reach → Call → Bool) → Lent → List Check
-toFive bad a = let n = cellsOf a in
+unfoldable pub checksToFive : (Reach → Call → Bool) → Lent → List Check
+checksToFive bad a = let n = cellsOf a in
     chk 1 (misfits a)
     ∷ chk 2 (bad (reachOf a) (callOf a))
     ∷ chk 3 (some (λ i. badBed (reachOf a .bed i)) (suc n))
@@ -91,7 +91,8 @@ toFive bad a = let n = cellsOf a in
 module _ (bad : Reach → Call → Bool) (p : Parts) (a : Lent) where
   -- the number of the refusal, or 0
   unfoldable pub number : ℕ
-  number = let r = reachOf a in let c = callOf a in let s = stateOf a in verdict (toFive bad a ++ ofOne p r c s ++ ofTwo p r c s)
+  number = let r = reachOf a in let c = callOf a in let s = stateOf a in
+      verdict (checksToFive bad a ++ checksOfOne p r c s ++ checksOfTwo p r c s)
 
   -- that number; or the next table and W at face 0 and at face n
   unfoldable pub stepBy : Outcome

@@ -186,14 +186,14 @@ module _ (l : Lent) (w v : ℤ) (old new : List ℤ) (g : Gives (stepOf l) (Acce
   pub right-wall : l .right .kind ≡ 0 → v ≡ pos 0
   right-wall e = went .right ∙ wall-right l (went .number) e
 
--- ---- what E6 took out: the correction for a level at a face that fell short of the bed, which was taken from bed and level
--- none ever did: not in the state after friction, where a call passes checks 1 to 5, nor in the finished stage one, where it passes its 8;
-pub no-shortfall-one : (l : Lent) → Clear (before-E6.toFive l) → NoShortfall (l .bed) (frictionTable l) (cellsOf l)
+-- ---- what E6 took out: where a level at a face fell short of the bed, the shortfall was taken from both
+-- no level does: not in the state after friction, where a call passes checks 1 to 5, nor in the finished stage one, where it passes its 8;
+pub no-shortfall-one : (l : Lent) → Clear (before-E6.checksToFive l) → NoShortfall (l .bed) (frictionTable l) (cellsOf l)
 unfolding frictionTable
 no-shortfall-one l q =
     none-short-table (l .bed) (cellsOf l) (l .dx) (rubbed (reachOf l) (callOf l) (stateOf l)) (none-short-one l q)
 
-pub no-shortfall-two : (l : Lent) → Clear (before-E6.ofOne l) → NoShortfall (l .bed) (correctedStageTable l) (cellsOf l)
+pub no-shortfall-two : (l : Lent) → Clear (before-E6.checksOfOne l) → NoShortfall (l .bed) (correctedStageTable l) (cellsOf l)
 unfolding correctedStageTable
 no-shortfall-two l q = none-short-table (l .bed) (cellsOf l) (l .dx) (before-E6.stageOne l) (none-short-two l q)
 

@@ -36,7 +36,7 @@ leftOf l = record { h = getD l 0 (pos 0); u = getD l 1 (pos 0) }
 abbrev pub rightOf : List ℤ → rules.Side
 rightOf l = record { h = getD l 2 (pos 0); u = getD l 3 (pos 0) }
 
--- at the dry depth dry, the side at a face of depth h and discharge q
+-- at the dry depth dry, depth and speed at a place of depth h and discharge q: at a face, the side there
 abbrev pub sideBy : ℤ → ℤ → ℤ → rules.Side
 sideBy dry h q = record { h = h; u = speed dry q h }
 

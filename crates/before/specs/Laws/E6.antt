@@ -17,7 +17,7 @@ use Rattle.rules.specs.Lent as lent
 use Rattle.rules.specs.Lent.{Lent, cellsOf, reachOf, callOf, stateOf}
 use Rattle.rules.specs.Laws.Accept.{Clear}
 use Rattle.rules.specs.Laws.Positive.{Nonneg, rubbed-wet}
-use Rattle.before.specs.E6.{short, depth, ground, sideL, sideR, push, update, parts, stepOf, toFive, ofOne, stageOne}
+use Rattle.before.specs.E6.{short, depth, ground, sideL, sideR, push, update, parts, stepOf, checksToFive, checksOfOne, stageOne}
 use Rattle.before.specs.Laws.Parts.{AsInForce, wet-now, wet-one, as-before}
 
 -- ---- the shortfall is nought
@@ -34,11 +34,11 @@ covered {b} {x} n = record { left = no-short (hl b x) (n .left); right = no-shor
 
 -- at every face: after friction, where the call passed the checks up to 5, and after stage one, where it passed those up to its 8
 module _ (a : Lent) where
-  pub none-short-one : Clear (toFive a) → (i : ℕ) → i < cellsOf a
+  pub none-short-one : Clear (checksToFive a) → (i : ℕ) → i < cellsOf a
       → NoShortfall (under (reachOf a) i) (rubbed (reachOf a) (callOf a) (stateOf a) i)
   none-short-one q i l = covered (rubbed-wet (reachOf a) (callOf a) (stateOf a) (wet-now badCall a q) i l)
 
-  pub none-short-two : Clear (ofOne a) → (i : ℕ) → i < cellsOf a → NoShortfall (under (reachOf a) i) (stageOne a i)
+  pub none-short-two : Clear (checksOfOne a) → (i : ℕ) → i < cellsOf a → NoShortfall (under (reachOf a) i) (stageOne a i)
   none-short-two q i l = covered (wet-one parts (reachOf a) (callOf a) (stateOf a) q i l)
 
 -- ---- so depth and bed are as they are without it

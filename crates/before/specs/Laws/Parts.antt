@@ -34,14 +34,14 @@ use Rattle.rules.specs.Laws.Runs.{in-range}
 use Rattle.before.specs.Parts.{Parts}
 use Rattle.before.specs.Parts as before
 
--- ---- the two states that stages start from have no face depth below nought, where the checks before are passed: the last is of the range
-pub wet-now : (bad : Reach → Call → Bool) (a : Lent) → Clear (before.toFive bad a) → Wet (reachOf a) (stateOf a)
-unfolding before.toFive
-wet-now bad a q = in-range (reachOf a) (stateOf a) (clear-at (before.toFive bad a) q 4)
+-- ---- the states that the two stages start from have no face depth below nought: the last check before each is of its range
+pub wet-now : (bad : Reach → Call → Bool) (a : Lent) → Clear (before.checksToFive bad a) → Wet (reachOf a) (stateOf a)
+unfolding before.checksToFive
+wet-now bad a q = in-range (reachOf a) (stateOf a) (clear-at (before.checksToFive bad a) q 4)
 
-pub wet-one : (p : Parts) (r : Reach) (c : Call) (s : State) → Clear (before.ofOne p r c s) → Wet r (before.stageOne p r c s)
-unfolding before.ofOne before.stageChecks
-wet-one p r c s q = in-range r (before.stageOne p r c s) (clear-at (before.ofOne p r c s) q 4)
+pub wet-one : (p : Parts) (r : Reach) (c : Call) (s : State) → Clear (before.checksOfOne p r c s) → Wet r (before.stageOne p r c s)
+unfolding before.checksOfOne before.stageChecks
+wet-one p r c s q = in-range r (before.stageOne p r c s) (clear-at (before.checksOfOne p r c s) q 4)
 
 -- ---- parts that do as the rules in force
 pub record AsInForce (p : Parts) (r : Reach) (c : Call) : Type 0 where
@@ -123,9 +123,9 @@ module _ (p : Parts) (r : Reach) (c : Call) (k : AsInForce p r c) (o : 0 < r .n)
       unfolding before.stageOne stageOne
       one-same = finish-same r c (before.stage p r c a) (stage r c a) (stage-is a (rubbed-wet r c s w))
 
-      ofOne-same : before.ofOne p r c s ≡ one r c s
-      unfolding before.ofOne
-      ofOne-same = λ j.
+      checksOfOne-same : before.checksOfOne p r c s ≡ one r c s
+      unfolding before.checksOfOne
+      checksOfOne-same = λ j.
           chk 6 (some (fastFriction r c s) (r .n))
           ∷ checks-are a (rubbed-wet r c s w) j ++ chk 8 (off-same r c o b (stageOne r c s) one-same j) ∷ []
 
@@ -142,16 +142,17 @@ module _ (p : Parts) (r : Reach) (c : Call) (k : AsInForce p r c) (o : 0 < r .n)
             ((stage-is b v i l ∙ stage-same r c b (stageOne r c s) one-same i l) j)
             (carry-same i (omega arith) j) (carry-same (suc i) (omega arith) j))
 
-        ofTwo-same : before.ofTwo p r c s ≡ two r c s
-        unfolding before.ofTwo
-        ofTwo-same = λ j.
+        checksOfTwo-same : before.checksOfTwo p r c s ≡ two r c s
+        unfolding before.checksOfTwo
+        checksOfTwo-same = λ j.
             (checks-are b v ∙ stageChecks-same r c o b (stageOne r c s) one-same) j
             ++ chk 8 (off-same r c o (before.next p r c s) (next r c s) next-same j) ∷ []
 
-    further-same : Wet r s → verdict (before.ofOne p r c s ++ before.ofTwo p r c s) ≡ verdict (one r c s ++ two r c s)
+    further-same : Wet r s → verdict (before.checksOfOne p r c s ++ before.checksOfTwo p r c s) ≡ verdict (one r c s ++ two r c s)
     further-same w =
-        verdict-after (before.ofOne p r c s) (before.ofTwo p r c s) (two r c s) (λ z. ap verdict (ofTwo-same w (wet-one p r c s z)))
-        ∙ (λ j. verdict (ofOne-same w j ++ two r c s))
+        verdict-after (before.checksOfOne p r c s) (before.checksOfTwo p r c s) (two r c s)
+        (λ z. ap verdict (checksOfTwo-same w (wet-one p r c s z)))
+        ∙ (λ j. verdict (checksOfOne-same w j ++ two r c s))
 
 -- ---- the call: the same number, or the same table and volumes
 either : (k m : ℕ) (x y : Outcome) → k ≡ m → (k ≡ 0 → x ≡ y) → cond (eqb k 0) x (refused k) ≡ cond (eqb m 0) y (refused m)
@@ -171,24 +172,24 @@ module _ (bad : Reach → Call → Bool) (p : Parts) (a : Lent) (call : bad (rea
   abbrev s : State
   s = stateOf a
 
-  some-cell : Clear (before.toFive bad a) → 0 < n
-  unfolding before.toFive
+  some-cell : Clear (before.checksToFive bad a) → 0 < n
+  unfolding before.checksToFive
   some-cell q = fitted (length (a .now)) (a .room) (length (a .bed)) n (q .0) .some
 
   number-same : before.number bad p a ≡ number a
-  unfolding before.number number refusal checks early stageChecks before.toFive verdict
+  unfolding before.number number refusal checks early stageChecks before.checksToFive verdict
   number-same =
-      verdict-after (before.toFive bad a) (before.ofOne p r c s ++ before.ofTwo p r c s) (one r c s ++ two r c s)
+      verdict-after (before.checksToFive bad a) (before.checksOfOne p r c s ++ before.checksOfTwo p r c s) (one r c s ++ two r c s)
       (λ q. further-same p r c k (some-cell q) s (wet-now bad a q))
       ∙ (λ j. verdict (chk 1 (misfits a) ∷ chk 2 (call j)
       ∷ chk 3 (some (λ i. badBed (r .bed i)) (suc n)) ∷ chk 4 (some (λ i. badRough (c .rough i)) n) ∷ chk 5 (some (off r s) n)
       ∷ one r c s ++ two r c s))
 
   pub as-before : stepOf a ≡ before.stepBy bad p a
-  unfolding before.stepBy stepOf filled crossed before.number before.toFive before.ofOne before.stageChecks
+  unfolding before.stepBy stepOf filled crossed before.number before.checksToFive before.checksOfOne before.stageChecks
   as-before = sym (either (before.number bad p a) (number a) _ _ number-same (λ z.
-      let five = passed 0 (before.toFive bad a) (before.ofOne p r c s ++ before.ofTwo p r c s) tt z in
-      let eight = passed 0 (before.ofOne p r c s) (before.ofTwo p r c s) tt (five .1) in
+      let five = passed 0 (before.checksToFive bad a) (before.checksOfOne p r c s ++ before.checksOfTwo p r c s) tt z in
+      let eight = passed 0 (before.checksOfOne p r c s) (before.checksOfTwo p r c s) tt (five .1) in
       let o = some-cell (five .0) in let w = wet-now bad a (five .0) in let v = wet-one p r c s (eight .0) in
       λ j. accepted (flat (row-same n (before.next p r c s) (next r c s) (next-same p r c k o s w v) j))
       (carry-same p r c k o s w v 0 (omega arith) j) (carry-same p r c k o s w v n (omega arith) j)))
