@@ -118,7 +118,7 @@ def shortfall(level, z):
 
 
 def corrected(level, z):
-    """ "take from bed and level any shortfall ... (depth then 0)", F9: the level and the bed after it.
+    """Level and bed after the shortfall was taken from both, F9.
 
     The level is first lifted to the bed, so both end at the level as it stood.
     """

@@ -422,7 +422,7 @@ def short_of_bed(stage, seen):
 
 
 def uncorrected_holds(seed, count):
-    """ "in every state the step reaches at stage one and stage two ... the shortfall is nought", and the steps are equal."""
+    """No stage starts from a level below the bed, so with the correction every answer is the same."""
     seen, otherwise, checks = Counter(), 0, Counter()
     for call in hard.calls(seed, count):
         found = told_apart(call)

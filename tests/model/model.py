@@ -189,7 +189,7 @@ Faces = namedtuple("Faces", "hl ql hr qr")
 
 
 def cell_faces(cell, zl, zr):
-    """ "Its face depths are h0-h1 and h0+h1, its face discharges q0-q1 and q0+q1." """
+    """The cell's own depth and discharge at its left face, then at its right."""
     h0, h1 = depth_mean(cell, zl, zr), depth_slope(cell, zl, zr)
     return Faces(h0 - h1, cell.q0 - cell.q1, h0 + h1, cell.q0 + cell.q1)
 
