@@ -31,10 +31,10 @@ module _ (p q : ℤ) (left : UpTo fullest (p -ℤ q)) (right : UpTo fullest (p +
 
 module _ {m d p q : ℤ} (a : Around m d p q) where
   -- ---- the two places
-  pub left-size : UpTo deepest (m -ℤ d)
+  left-size : UpTo deepest (m -ℤ d)
   left-size = b-nonneg (a .left) (a .left-most)
 
-  pub right-size : UpTo deepest (m +ℤ d)
+  right-size : UpTo deepest (m +ℤ d)
   right-size = b-nonneg (a .right) (a .right-most)
 
   pub left-fits : SFits w64 (m -ℤ d)
