@@ -15,6 +15,7 @@ use Rattle.rules.specs.Lent.{Outcome}
 use Rattle.before.specs.Parts.{Parts, stepBy}
 use Rattle.before.specs.E6 as E6
 
+-- what crossed the two ends
 unfoldable pub leftEnd : (Side → Side → Flux) → ℤ → End → Side → Flux
 leftEnd face d e x = face (outer (e .kind) x) x
 
