@@ -260,7 +260,7 @@ def volume(F, call):
 
 
 def push(cell, zl, zr, left, right):
-    """E."""
+    """E of a cell, from the fluxes at its two faces."""
     own = cell_faces(cell, zl, zr)
     return left.K - right.K - (own.hr + own.hl) * (zr - zl)
 

@@ -78,7 +78,7 @@ module _ (p : Parts) (r : Reach) (c : Call) where
   unfoldable pub checksOfTwo : State → List Check
   checksOfTwo s = stageChecks (stageOne s) ++ chk 8 (some (off r (next s)) (r .n)) ∷ []
 
--- ---- the call, whose check 2 is bad
+-- ---- the call; its check 2 is given, as `bad`
 unfoldable pub checksToFive : (Reach → Call → Bool) → Lent → List Check
 checksToFive bad a = let n = cellsOf a in
     chk 1 (misfits a)
