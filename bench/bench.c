@@ -48,6 +48,15 @@ typedef struct {
     int32_t next[4 * MOST_CELLS];
 } Given;
 
+/* Level mean and slope, discharge mean and slope of cell i: a number in each column of the start. */
+static void put_cell(Case *c, size_t i, int32_t e0, int32_t e1, int32_t q0, int32_t q1)
+{
+    c->start[i] = e0;
+    c->start[c->n + i] = e1;
+    c->start[2 * c->n + i] = q0;
+    c->start[3 * c->n + i] = q1;
+}
+
 /* ---- The cases that are timed */
 
 /* How far cell face i is up a hill between faces a and b: METRE at its middle, 0 at its foot. */
@@ -65,7 +74,7 @@ static void fill_lake(Case *c, size_t n)
         c->bed[i] = (hill((int64_t)i, (int64_t)n / 2, (int64_t)n) / 2 + METRE / 4) & ~1;
     for (size_t i = 0; i < n; i++) {
         c->friction[i] = 30;
-        c->start[4 * i] = METRE * 5 / 4;
+        put_cell(c, i, METRE * 5 / 4, 0, 0, 0);
     }
 }
 
@@ -76,8 +85,7 @@ static void fill_wave(Case *c, size_t n)
     for (size_t i = 0; i < n / 2; i++) {
         int32_t left = hill((int64_t)i, 0, (int64_t)n / 2) / 2, right = hill((int64_t)i + 1, 0, (int64_t)n / 2) / 2;
         int32_t mean = (left + right) / 2, slope = (right - left) / 2;
-        int32_t cell[4] = {METRE * 5 / 4 + mean, slope, 3 * mean, 3 * slope};
-        memcpy(&c->start[4 * i], cell, sizeof cell);
+        put_cell(c, i, METRE * 5 / 4 + mean, slope, 3 * mean, 3 * slope);
     }
 }
 
@@ -125,8 +133,8 @@ static void draw_cell(Case *c, size_t i, int64_t kind)
     int32_t left = drawn_depth(c, kind), right = drawn_depth(c, kind), quick = kind == 0 ? 40 : 3 * METRE;
     right ^= (left ^ right ^ c->bed[i] ^ c->bed[i + 1]) & 1; /* so that the mean is whole */
     int32_t l = left + c->bed[i], r = right + c->bed[i + 1];
-    int32_t cell[4] = {(l + r) / 2, (r - l) / 2, (int32_t)drawn(-quick, quick), (int32_t)drawn(-quick, quick)};
-    memcpy(&c->start[4 * i], cell, sizeof cell);
+    int32_t mean = (int32_t)drawn(-quick, quick), slope = (int32_t)drawn(-quick, quick);
+    put_cell(c, i, (l + r) / 2, (r - l) / 2, mean, slope);
 }
 
 /* What an end is given: most inflows are those of ditches, some are none or the greatest there are. */
@@ -146,9 +154,9 @@ static void spoil(Case *c)
     case 0: c->dt = (uint32_t)drawn(0, 5000); break;
     case 1: c->bed[i] = (int32_t)drawn(-3, 1048579); break;
     case 2: c->friction[i] = (uint16_t)drawn(190, 65535); break;
-    case 3: c->start[4 * i + 2] = (int32_t)drawn(INT32_MIN, INT32_MAX); break;
-    case 4: c->start[4 * i] += (int32_t)drawn(-300, 262144); break;
-    case 5: c->start[4 * i + 2] = (int32_t)drawn(-8388608, 8388608); break;
+    case 3: c->start[2 * c->n + i] = (int32_t)drawn(INT32_MIN, INT32_MAX); break;
+    case 4: c->start[i] += (int32_t)drawn(-300, 262144); break;
+    case 5: c->start[2 * c->n + i] = (int32_t)drawn(-8388608, 8388608); break;
     case 6: c->right = 3; break;
     case 7: c->n = (size_t)drawn(0, 1) * 1025; break;
     case 8: c->dry = (uint32_t)drawn(0, 1) * (MOST_DRY + 1); break;

@@ -391,19 +391,22 @@ static uint32_t both_stages(const Reach *r, Cell *cells, int64_t volumes[2])
     return 0;
 }
 
+/* A lent state is four columns, worked on as cells. */
 static void load(const int32_t *now, size_t n, Cell *cells)
 {
+    const int32_t *e0 = now, *e1 = e0 + n, *q0 = e1 + n, *q1 = q0 + n;
     for (size_t i = 0; i < n; i++)
-        cells[i] = (Cell){now[4 * i], now[4 * i + 1], now[4 * i + 2], now[4 * i + 3]};
+        cells[i] = (Cell){e0[i], e1[i], q0[i], q1[i]};
 }
 
 static void store(const Cell *cells, size_t n, int32_t *next)
 {
+    int32_t *e0 = next, *e1 = e0 + n, *q0 = e1 + n, *q1 = q0 + n;
     for (size_t i = 0; i < n; i++) {
-        next[4 * i] = (int32_t)cells[i].e0;
-        next[4 * i + 1] = (int32_t)cells[i].e1;
-        next[4 * i + 2] = (int32_t)cells[i].q0;
-        next[4 * i + 3] = (int32_t)cells[i].q1;
+        e0[i] = (int32_t)cells[i].e0;
+        e1[i] = (int32_t)cells[i].e1;
+        q0[i] = (int32_t)cells[i].q0;
+        q1[i] = (int32_t)cells[i].q1;
     }
 }
 

@@ -40,18 +40,15 @@ enum {
     LINE_HEIGHT = METRE / 8 /* so that it shows 0 to 2 m */
 };
 
-/* A cell's numbers in the order the library has them, so that an array of cells is its table. */
-typedef struct {
-    int32_t level, level_slope, discharge, discharge_slope;
-} Cell;
-
-_Static_assert(sizeof(Cell) == 4 * sizeof(int32_t), "a cell is four numbers with no gap");
+/* Where each column begins in the library's table of a state: now + LEVEL is the curve of the levels, and
+ * now[LEVEL + i] the level of cell i. */
+enum { LEVEL = 0, LEVEL_SLOPE = CELLS, DISCHARGE = 2 * CELLS, DISCHARGE_SLOPE = 3 * CELLS, STATE = 4 * CELLS };
 
 typedef struct {
     int32_t bed[CELLS + 1];
     uint16_t friction[CELLS];
-    Cell now[CELLS], next[CELLS];
-    Cell before[CELLS], flood[CELLS]; /* for the drawing: when the flood comes, and in the midst of it */
+    int32_t now[STATE], next[STATE];
+    int32_t before[STATE], flood[STATE]; /* for the drawing: when the flood comes, and in the midst of it */
     int64_t at_first, came_in, went_out; /* water, as depth over one cell */
     int32_t time;
     const uint32_t *dt; /* the time step that is asked for, or null where each is chosen by itself */
@@ -85,8 +82,10 @@ static void fill(Leat *leat)
         leat->bed[i] = bed_height(i);
     for (int i = 0; i < CELLS; i++) {
         int32_t low = leat->bed[i + 1], high = leat->bed[i];
-        leat->now[i] = i < CREST ? (Cell){METRE * 112 / 100, 0, BASE_FLOW, 0}
-                                 : (Cell){(low + high) / 2 + METRE / 10, (low - high) / 2, BASE_FLOW, 0};
+        leat->now[LEVEL + i] = i < CREST ? METRE * 112 / 100 : (low + high) / 2 + METRE / 10;
+        leat->now[LEVEL_SLOPE + i] = i < CREST ? 0 : (low - high) / 2;
+        leat->now[DISCHARGE + i] = BASE_FLOW;
+        leat->now[DISCHARGE_SLOPE + i] = 0;
         leat->friction[i] = MANNING;
     }
 }
@@ -106,7 +105,7 @@ static int64_t sum_of_depths(const Leat *leat)
 {
     int64_t sum = 0;
     for (int i = 0; i < CELLS; i++)
-        sum += leat->now[i].level - (leat->bed[i] + leat->bed[i + 1]) / 2;
+        sum += leat->now[LEVEL + i] - (leat->bed[i] + leat->bed[i + 1]) / 2;
     return sum;
 }
 
@@ -133,10 +132,10 @@ static int64_t speed(int64_t discharge, int64_t depth) { return depth > DRY_DEPT
  * on both sides. */
 static int64_t top_speed(const Leat *leat)
 {
-    const Cell *first = &leat->now[0];
-    int64_t flux[4], top = speed(hydrograph(leat->time), first->level - first->level_slope - leat->bed[0]);
+    const int32_t *level = leat->now + LEVEL, *slope = leat->now + LEVEL_SLOPE, *discharge = leat->now + DISCHARGE;
+    int64_t flux[4], top = speed(hydrograph(leat->time), level[0] - slope[0] - leat->bed[0]);
     for (int i = 0; i < CELLS; i++) {
-        int64_t h = leat->now[i].level - (leat->bed[i] + leat->bed[i + 1]) / 2, u = speed(leat->now[i].discharge, h);
+        int64_t h = level[i] - (leat->bed[i] + leat->bed[i + 1]) / 2, u = speed(discharge[i], h);
         if (bassoonsun_face(h, u, h, u, flux) == 0 && flux[3] > top)
             top = flux[3];
     }
@@ -173,8 +172,8 @@ static uint32_t step(Leat *leat)
         .left_q = hydrograph(leat->time), /* another in each step */
         .right = OPEN,
     };
-    uint32_t refusal = bassoonsun_step_call(&leat->now[0].level, 4 * CELLS, &leat->next[0].level, 4 * CELLS, leat->bed,
-                                            CELLS + 1, leat->friction, CELLS, call, volumes);
+    uint32_t refusal = bassoonsun_step_call(leat->now, STATE, leat->next, STATE, leat->bed, CELLS + 1, leat->friction,
+                                            CELLS, call, volumes);
     if (refusal == 0) { /* only now do next and volumes hold anything */
         memcpy(leat->now, leat->next, sizeof leat->now);
         leat->came_in += volumes[0];
@@ -190,8 +189,8 @@ static int64_t balance(const Leat *leat)
     int64_t water = sum_of_depths(leat);
     int64_t missing = leat->at_first + leat->came_in - leat->went_out - water;
     printf("%6.2f %8.3f %8.3f %9.3f %10lld %9lld %9lld %8lld\n", (double)leat->time / SECOND,
-           (double)hydrograph(leat->time) / METRE, (double)leat->now[CELLS - 1].discharge / METRE,
-           (double)leat->now[GAUGE].level / METRE, (long long)water, (long long)leat->came_in,
+           (double)hydrograph(leat->time) / METRE, (double)leat->now[DISCHARGE + CELLS - 1] / METRE,
+           (double)leat->now[LEVEL + GAUGE] / METRE, (long long)water, (long long)leat->came_in,
            (long long)leat->went_out, (long long)missing);
     return missing;
 }
@@ -199,7 +198,7 @@ static int64_t balance(const Leat *leat)
 /* The sign at one place of the drawing: the bed hides what is in it. */
 static char sign(const Leat *leat, int line, int i)
 {
-    int before = leat->before[i].level / LINE_HEIGHT == line, flood = leat->flood[i].level / LINE_HEIGHT == line;
+    int before = leat->before[LEVEL + i] / LINE_HEIGHT == line, flood = leat->flood[LEVEL + i] / LINE_HEIGHT == line;
     if ((leat->bed[i] + leat->bed[i + 1]) / 2 > line * LINE_HEIGHT + LINE_HEIGHT / 2)
         return '#';
     return before && flood ? '=' : flood ? '~' : before ? '-' : ' ';
@@ -226,11 +225,12 @@ static void point(FILE *out, int face, int32_t height)
 }
 
 /* Each cell's level is a short straight line: the scheme knows its slope, so the picture shows it. */
-static void levels(FILE *out, const Cell *cells)
+static void levels(FILE *out, const int32_t *state)
 {
+    const int32_t *level = state + LEVEL, *slope = state + LEVEL_SLOPE;
     for (int i = 0; i < CELLS; i++) {
-        point(out, i, cells[i].level - cells[i].level_slope);
-        point(out, i + 1, cells[i].level + cells[i].level_slope);
+        point(out, i, level[i] - slope[i]);
+        point(out, i + 1, level[i] + slope[i]);
     }
 }
 

@@ -6,7 +6,7 @@ The steps are those of tests/model, which gives the library's own numbers, with 
 import sys
 from pathlib import Path
 
-from reach import State
+from reach import State, cells_of, table_of
 
 # Found here, and not among the files beside this one.
 sys.path.append(str(Path(__file__).resolve().parent.parent / "tests" / "model"))
@@ -19,7 +19,7 @@ def stepped_before_e2(reach, steps, every):
     """The states as reach.stepped gives them, and None, or the first refused step and its number.
 
     No end has an inflow, which came later."""
-    now = [number for cell in reach.cells for number in cell]
+    now = table_of(reach.cells)
     crossed, states = [0, 0], [State((0, 0), list(reach.cells))]
     with before.E2():
         for k in range(1, steps + 1):
@@ -30,5 +30,5 @@ def stepped_before_e2(reach, steps, every):
             _, now, first, last = answer
             crossed = [crossed[0] + first, crossed[1] + last]
             if k % every == 0:
-                states.append(State(tuple(crossed), [tuple(now[i:i + 4]) for i in range(0, len(now), 4)]))
+                states.append(State(tuple(crossed), cells_of(now)))
     return states, None

@@ -3,8 +3,8 @@
  *     reach STEPS EVERY
  *
  * Read, as whole numbers parted by blanks: n dx dt J dry left right, then n + 1 beds, n Manning values
- * and 4n numbers of the state, all in the library's units; then for each step left_q and right_q, of
- * which the last given are those of all later steps too. Written, at the start and after every
+ * and 4n numbers of the state, all in the library's units and in its order; then for each step left_q and
+ * right_q, of which the last given are those of all later steps too. Written, at the start and after every
  * EVERY steps: one line with what crossed face 0 and face n since the start, and the 4n numbers.
  *
  * The exit status is 0 when every step was accepted. */

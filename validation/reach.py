@@ -1,6 +1,6 @@
 """A reach of the library, stepped by the C program reach.
 
-Metres and seconds become the library's whole numbers here and nowhere else.
+Metres and seconds become the library's whole numbers here and nowhere else, and cells its columns.
 """
 
 import re
@@ -25,11 +25,19 @@ def units(metres):
     return round(metres * UNIT)
 
 
+def table_of(cells):
+    """The library's table of a state: its four columns, one for each number of a cell."""
+    return [number for column in zip(*cells) for number in column]
+
+
+def cells_of(table):
+    n = len(table) // 4
+    return [tuple(table[i::n]) for i in range(n)]
+
+
 def text_of(reach):
     numbers = [len(reach.cells), reach.dx, reach.dt, reach.jump, reach.dry, reach.left, reach.right]
-    numbers += reach.bed + reach.friction
-    for cell in reach.cells:
-        numbers += cell
+    numbers += reach.bed + reach.friction + table_of(reach.cells)
     for pair in reach.inflows:
         numbers += pair
     return " ".join(map(str, numbers)) + "\n"
@@ -65,9 +73,8 @@ def refusal_of(command, reach, steps):
 
 
 def state_of(line):
-    numbers = [int(word) for word in line.split()]
-    cells = [tuple(numbers[k:k + 4]) for k in range(2, len(numbers), 4)]
-    return State((numbers[0], numbers[1]), cells)
+    first, last, *table = [int(word) for word in line.split()]
+    return State((first, last), cells_of(table))
 
 
 def stepped(command, reach, steps, every):

@@ -29,14 +29,25 @@ typedef struct {
     int now_more, next_more, bed_more;      /* elements over what fits n */
     uint32_t dx, dt, jump, dry, left, right, left_q, right_q;
     int32_t last_bed;                       /* the last face's bed, */
-    uint16_t last_friction;                 /* the last cell's friction */
-    int32_t last_level, last_discharge;     /* and means */
+    uint16_t last_friction;                 /* the last cell's friction, */
+    int32_t last_level, last_discharge;     /* means */
+    int32_t last_level_slope, last_discharge_slope;
 } Call;
 
 typedef struct {
     Fenced now, next, bed, friction, volumes;
     size_t now_len, next_len, bed_len, n;
 } Lent;
+
+/* Number i of a state of n cells: level means, level slopes, discharge means, discharge slopes. */
+static int32_t number(size_t i, size_t n, const Call *c)
+{
+    const int32_t last[] = {c->last_level, c->last_level_slope, c->last_discharge, c->last_discharge_slope};
+    size_t column = i / n, cell = i % n;
+    if (column < 4 && cell + 1 == n)
+        return last[column];
+    return column > 0 ? 0 : cell < 4 ? 3 * METRE / 2 : 5 * METRE / 4;
+}
 
 /* Water over a bed that goes up and down, 0.8 m deep or more, with a wave at the left. */
 static void fill(const Lent *t, const Call *c)
@@ -46,11 +57,8 @@ static void fill(const Lent *t, const Call *c)
     int64_t *volumes = t->volumes.first;
     for (size_t i = 0; i < t->bed_len; i++)
         bed[i] = i == t->n ? c->last_bed : (int32_t)(i % 8) * 64;
-    for (size_t i = 0; i < t->now_len; i++) {
-        int last = i / 4 + 1 == t->n;
-        int32_t level = last ? c->last_level : i < 16 ? 3 * METRE / 2 : 5 * METRE / 4;
-        now[i] = i % 4 == 0 ? level : i % 4 == 2 && last ? c->last_discharge : 0;
-    }
+    for (size_t i = 0; i < t->now_len; i++)
+        now[i] = number(i, t->n, c);
     for (size_t i = 0; i < t->n; i++)
         friction[i] = i + 1 == t->n ? c->last_friction : 30;
     for (size_t i = 0; i < t->next_len; i++)
@@ -91,7 +99,7 @@ static int keeps_water(const Lent *t)
     const int64_t *volumes = t->volumes.first;
     int64_t sum = volumes[0] - volumes[1];
     for (size_t i = 0; i < t->n; i++)
-        sum += (int64_t)now[4 * i] - next[4 * i];
+        sum += (int64_t)now[i] - next[i];
     return sum == 0 && volumes[0] != MARK && volumes[1] != MARK;
 }
 
@@ -168,8 +176,11 @@ static const Call calls[] = {
     {GOOD, .what = "friction 201", .due = 4, .last_friction = 201},
     {GOOD, .what = "level below the bed", .due = 5, .last_level = -1},
     {GOOD, .what = "level too high", .due = 5, .last_level = 300000},
+    {GOOD, .what = "level too steep", .due = 5, .last_level_slope = 2 * METRE},
     {GOOD, .what = "discharge too large", .due = 5, .last_discharge = 8388609},
+    {GOOD, .what = "discharge too steep", .due = 5, .last_discharge_slope = 8388609},
     {GOOD, .what = "water too fast", .due = 6, .last_discharge = 8388608},
+    {GOOD, .what = "water too fast at a face", .due = 6, .last_discharge_slope = 8388608},
     {GOOD, .what = "left inflow too fast", .due = 6, .left = 2, .left_q = 8388608},
     {GOOD, .what = "right inflow too fast", .due = 6, .right = 2, .right_q = 8388608},
     {GOOD, .what = "time step too long", .due = 7, .dt = 4096},

@@ -120,6 +120,14 @@ def decided_by_e4(call, found):
         return worked(call) != found
 
 
+def decided_by_e7(call, found):
+    """Whether the answer would have been another if the lent states lay cell by cell."""
+    if len(call[3]) == 1:       # the columns of one cell are the cell
+        return False
+    with before.E7():
+        return worked(call) != found
+
+
 def dry_way(dry, number, decided):
     """How a dry depth at an edge of its list was answered, or None."""
     if number == 0 and dry in (m.LEAST_DRY, m.MOST_DRY):
@@ -180,10 +188,11 @@ def end_ways(call, number, given):
 def step_due(call):
     next_len, friction, dry = call[1], call[3], call[7]
     (number, given), by_e2 = worked_and_decided(call)
-    by_e3, by_e4 = decided_by_e3(call, (number, given)), decided_by_e4(call, (number, given))
+    by_e3, by_e4, by_e7 = (decided(call, (number, given)) for decided in (decided_by_e3, decided_by_e4, decided_by_e7))
     size = ", long tables" if len(friction) > SHORT else ""
     also = [way for way in (by_e2 and "decided by E2" + size, by_e3 and "decided by E3" + size, by_e4 and "decided by E4" + size,
-                            dry_way(dry, number, by_e3), *set(end_ways(call, number, given))) if way]
+                            by_e7 and "decided by E7" + size, dry_way(dry, number, by_e3),
+                            *set(end_ways(call, number, given))) if way]
     if number:
         return Due(number, "%d %s" % (number, given), MARK * (4 * next_len + 16), also)
     state, left, right = given
@@ -206,6 +215,7 @@ STEP_WAYS = {
     "decided by E2": 50, "decided by E2, long tables": 2500,
     "decided by E3": 25, "decided by E3, long tables": 2500,
     "decided by E4": 4, "decided by E4, long tables": 500,
+    "decided by E7": 4, "decided by E7, long tables": 300,
     "accepted, dry depth 1": 100, "accepted, dry depth 64": 100,
     **dict.fromkeys(["2 numbers, dry depth %d" % dry for dry in DRY_BEYOND], 2500),
     **dict.fromkeys(PAIRS, 50), **dict.fromkeys([pair + ", one cell" for pair in PAIRS], 200),

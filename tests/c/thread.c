@@ -54,10 +54,20 @@ static void run_thread(Trial *trial)
     unfence(stack);
 }
 
+/* A sloping pool that flows from its inflow toward its open end: the levels are the first column, the others are 0. */
+static void fill(size_t cells)
+{
+    for (size_t i = 0; i < 4 * cells; i++)
+        now[i] = i < cells ? 8192 - (int32_t)i : 0;
+    for (size_t i = 0; i < cells; i++)
+        friction[i] = 30;
+}
+
 /* Gives 1 where the step is accepted and takes less stack than the most. */
 static int try_reach(size_t cells, size_t most)
 {
     Trial trial = {.cells = cells};
+    fill(cells);
     next[0] = 0;
     run_thread(&trial);
     int passed = trial.refusal == 0 && next[0] != 0 && trial.taken < most;
@@ -68,10 +78,6 @@ static int try_reach(size_t cells, size_t most)
 
 int main(void)
 {
-    for (int i = 0; i < MOST_CELLS; i++) {
-        now[4 * i] = 8192 - i; /* a sloping pool that flows from its inflow toward its open end */
-        friction[i] = 30;
-    }
     /* The short reach comes first, so that what the linker does in a program's first call is counted with it. */
     int passed = try_reach(SHORT_CELLS, SHORT_MOST) + try_reach(MOST_CELLS, STACK);
     printf("%d passed, %d failed\n", passed, 2 - passed);

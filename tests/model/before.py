@@ -4,8 +4,9 @@
 depth.  `before.E3()` is one in which the model knows no dry depth: the argument is not looked at,
 and a fixed 4 stands in every place.  `before.E4()` is one in which it knows no inflow: the two Qs
 are not looked at, and an end is a wall or open.  `before.E6()` is one in which the papers'
-correction of a face level below the bed is made.  Each leaves the other requests as they stand.
-Where E2's and E3's are both wanted, E2's is the inner one.
+correction of a face level below the bed is made.  `before.E7()` is one in which a lent state lies
+cell by cell; `into_cells` and `into_columns` exchange the two ways.  Each leaves the other requests
+as they stand.  Where E2's and E3's are both wanted, E2's is the inner one.
 """
 
 import contextlib
@@ -144,3 +145,28 @@ def push(cell, zl, zr, left, right):
 def E6():
     """Depths at faces, and E, are of level and bed after any shortfall was taken from both."""
     return replaced(cell_faces=cell_faces, push=push)
+
+
+# ---- E7: a lent state cell by cell
+
+def cells_of(table):
+    return [m.Cell(*table[k:k + 4]) for k in range(0, len(table), 4)]
+
+
+def table_of(cells):
+    return [number for cell in cells for number in cell]
+
+
+def E7():
+    """The four numbers of a cell stand together, those of cell 0 first."""
+    return replaced(cells_of=cells_of, table_of=table_of)
+
+
+def into_columns(n, table):
+    """What lies cell by cell, in four columns of n; a table of another length is left as it is."""
+    return [table[4 * i + k] for k in range(4) for i in range(n)] if len(table) == 4 * n else table
+
+
+def into_cells(n, table):
+    """What lies in four columns of n, cell by cell; a table of another length is left as it is."""
+    return [table[k * n + i] for i in range(n) for k in range(4)] if len(table) == 4 * n else table

@@ -54,7 +54,7 @@ def rows():
 
 def still(n, level, z, dx, dt, dry=DRY, ends=(0, 0, 0, 0)):
     """n flat cells of one level on a flat bed, between walls or ends of other kinds, with their Qs."""
-    now = [level, 0, 0, 0] * n
+    now = [level] * n + [0] * (3 * n)
     return now, m.step(now, 4 * n, [z] * (n + 1), [0] * n, dx, dt, 0, dry, *ends)
 
 
@@ -436,11 +436,54 @@ def uncorrected_holds(seed, count):
          (4 * checks[None] >= count, sorted(CHECKS - set(checks))), (True, []))
 
 
+# ---- E7: the columns, their exchange with what lay cell by cell, and the step as it was on that
+
+def columns():
+    # the tens tell the cell, the ones which of its numbers
+    cells = [(11, 12, 13, 14), (21, 22, 23, 24), (31, 32, 33, 34)]
+    by_column = [11, 21, 31, 12, 22, 32, 13, 23, 33, 14, 24, 34]
+    by_cell = [11, 12, 13, 14, 21, 22, 23, 24, 31, 32, 33, 34]
+    case("E7: three cells in columns, read and written", (m.cells_of(by_column), m.table_of(cells)), (cells, by_column))
+    with before.E7():
+        case("E7: and cell by cell", (m.cells_of(by_cell), m.table_of(cells)), (cells, by_cell))
+    into_columns, into_cells = before.into_columns, before.into_cells
+    case("E7: one exchanged for the other", (into_columns(3, by_cell), into_cells(3, by_column)), (by_column, by_cell))
+    tables = [(n, list(range(4 * n))) for n in range(m.MOST_CELLS + 2)]
+    case("E7: exchanged there and back, tables of 0 to 1,025 cells",
+         [n for n, t in tables if not into_columns(n, into_cells(n, t)) == t == into_cells(n, into_columns(n, t))], [])
+    others = [(n, list(range(k))) for n in (0, 1, 2, 3, 16) for k in range(4 * n + 9) if k != 4 * n]
+    case("E7: %d tables of another length are left as they are" % len(others),
+         [(n, len(t)) for n, t in others if not into_columns(n, t) == t == into_cells(n, t)], [])
+
+
+def columns_hold(seed, count):
+    """On columns the step gives the columns of what it gave cell by cell, or the refusal of the same check."""
+    answers, otherwise, decided, exchanged = Counter(), 0, 0, 0
+    for now, *others in hard.calls(seed, count):
+        n = len(others[2])
+        found = told_apart((now, *others))
+        with before.E7():
+            check, given = told_apart((before.into_cells(n, now), *others))
+            decided += told_apart((now, *others)) != found      # the columns taken for what lay cell by cell
+        if given is not None:
+            state, W0, Wn = given
+            given = before.into_columns(n, state), W0, Wn
+            exchanged += given[0] != state
+        otherwise += (check, given) != found
+        answers[check[0] if check else 0] += 1
+    case("E7: the step on columns gives the columns of the former answer and the same refusals, in %d calls" % count,
+         otherwise, 0)
+    case("E7: of these %d accepted, and refused with 1 to 8: %s"
+         % (answers[0], ", ".join(str(answers[k]) for k in range(1, 9))), [k for k in range(9) if answers[k] == 0], [])
+    case("E7: the layout decides the answer of %d of them, and where %d put what they write" % (decided, exchanged),
+         decided >= count // 3 and exchanged >= count // 8, True)
+
+
 # ---- Demand 3 on random calls
 
 def depths(now, bed):
     """The mean depth of each cell."""
-    return [now[4 * i] - (bed[i] + bed[i + 1]) // 2 for i in range(len(bed) - 1)]
+    return [now[i] - (bed[i] + bed[i + 1]) // 2 for i in range(len(bed) - 1)]
 
 
 def water(now, bed):
@@ -481,7 +524,7 @@ def calls_hold(seed, count):
 
 def at_rest(rnd, n):
     """A state at rest: pools whose shores are exactly at faces, dry ground between them."""
-    bed, now = [0] * (n + 1), []
+    bed, levels = [0] * (n + 1), []
     at, wet = 0, rnd.randrange(2)
     while at < n:
         k = rnd.randint(1, n - at)
@@ -498,13 +541,11 @@ def at_rest(rnd, n):
             bed[at + k] = level
         elif wet and at == 0:
             level = min(level + rnd.randrange(2), min(bed) + m.DEEPEST)   # no shore: the level may be odd
-        now += [(level, wet)] * k
+        levels += [(level, wet)] * k
         at, wet = at + k, not wet
-    state = []
-    for i, (level, covered) in enumerate(now):
-        zl, zr = bed[i], bed[i + 1]
-        state += [level, 0, 0, 0] if covered else [(zl + zr) // 2, (zr - zl) // 2, 0, 0]
-    return state, bed
+    cells = [[level, 0, 0, 0] if covered else hard.dry_cell(zl, zr)
+             for (level, covered), zl, zr in zip(levels, bed, bed[1:])]
+    return m.table_of(cells), bed
 
 
 def rest_holds(seed, count):
@@ -538,11 +579,11 @@ def drawn_run(rnd, n):
     """A bed and a state over it: ordinary water, or water about as deep as the dry depths are."""
     bed = [2 * rnd.randrange(300) for _ in range(n + 1)]
     least, most, fast = rnd.choice(((600, 9000, 4000), (0, 90, 2000), (0, 90, 2000)))
-    now = []
+    cells = []
     for zl, zr in zip(bed, bed[1:]):
         h = rnd.randint(least, most)
-        now += hard.placed(zl, zr, *hard.flowing(rnd, h, rnd.randint(-h // 9, h // 9), fast))
-    return bed, now
+        cells.append(hard.placed(zl, zr, *hard.flowing(rnd, h, rnd.randint(-h // 9, h // 9), fast)))
+    return bed, m.table_of(cells)
 
 
 def stepped(rnd, now, bed, dx, seen):
@@ -599,6 +640,8 @@ def main():
     inflow_holds(10, 6000)
     correction()
     uncorrected_holds(11, 3000)
+    columns()
+    columns_hold(12, 4000)
     calls_hold(3, 3000)
     rest_holds(4, 800)
     runs_hold(5, 250)

@@ -151,17 +151,21 @@ def placed(zl, zr, h0, h1, q0, q1):
     return [h0 + (zl + zr) // 2, h1 + (zr - zl) // 2, q0, q1]
 
 
+def dry_cell(zl, zr):
+    return [(zl + zr) // 2, (zr - zl) // 2, 0, 0]
+
+
+# ---- States: the four columns of some cells
+
 def lake(rnd, bed):
     """One level over every cell it covers, dry ground elsewhere."""
     low, high = min(bed), max(bed)
     level = min(low + m.DEEPEST, rnd.choice((high, high + rnd.randrange(5000), rnd.randint(low, high))))
-    now = []
+    cells = []
     for zl, zr in zip(bed, bed[1:]):
-        if level >= max(zl, zr) and level - min(zl, zr) <= m.DEEPEST:
-            now += [level, 0, 0, 0]
-        else:
-            now += [(zl + zr) // 2, (zr - zl) // 2, 0, 0]
-    return now
+        covered = level >= max(zl, zr) and level - min(zl, zr) <= m.DEEPEST
+        cells.append([level, 0, 0, 0] if covered else dry_cell(zl, zr))
+    return m.table_of(cells)
 
 
 def states(rnd, bed, dry):
@@ -169,14 +173,11 @@ def states(rnd, bed, dry):
     if rnd.randrange(12) == 0:
         now = lake(rnd, bed)
         if rnd.randrange(2):
-            now[4 * rnd.randrange(n) + 2] += rnd.randint(-3, 3)
+            now[2 * n + rnd.randrange(n)] += rnd.randint(-3, 3)
         return now
     mix = rnd.choice(MIXES)
     fast = rnd.choice((0, 60, 2000, 2000, 9000, 30000, m.FASTEST))
-    now = []
-    for zl, zr in zip(bed, bed[1:]):
-        now += placed(zl, zr, *rnd.choice(mix)(rnd, fast, dry))
-    return now
+    return m.table_of(placed(zl, zr, *rnd.choice(mix)(rnd, fast, dry)) for zl, zr in zip(bed, bed[1:]))
 
 
 def gentle(rnd, n, dry):
@@ -184,11 +185,11 @@ def gentle(rnd, n, dry):
     bed = [2 * rnd.randrange(20000)]
     for _ in range(n):
         bed.append(max(0, bed[-1] + 2 * rnd.randint(-20, 20)))
-    deep_, fast, now = rnd.randint(300, 12000), rnd.choice((200, 3000)), []
+    deep_, fast, cells = rnd.randint(300, 12000), rnd.choice((200, 3000)), []
     for zl, zr in zip(bed, bed[1:]):
         h0 = deep_ + rnd.randint(-deep_ // 20, deep_ // 20)
-        now += placed(zl, zr, *flowing(rnd, h0, rnd.randint(-h0 // 30, h0 // 30), fast))
-    return bed, now
+        cells.append(placed(zl, zr, *flowing(rnd, h0, rnd.randint(-h0 // 30, h0 // 30), fast)))
+    return bed, m.table_of(cells)
 
 
 def shore(rnd, n, dry):
@@ -198,32 +199,41 @@ def shore(rnd, n, dry):
     for _ in range(n):
         bed.append(bed[-1] + 2 * rnd.randint(rise // 2, rise))
     edge, fast = rnd.randint(1, n), rnd.choice((0, 60, 2000))
-    level, fall, now = bed[edge] + rnd.choice((2, 20, 60, 300)), rnd.choice((0, 1, 5, 20)), []
+    level, fall, cells = bed[edge] + rnd.choice((2, 20, 60, 300)), rnd.choice((0, 1, 5, 20)), []
     for i, (zl, zr) in enumerate(zip(bed, bed[1:])):
         if i < edge:
             h0, h1 = level + fall * (2 * (edge - i) - 1) - (zl + zr) // 2, -fall - (zr - zl) // 2
         else:
             h0 = rnd.choice((0, about(rnd, dry)))
             h1 = rnd.randint(-h0, h0)
-        now.append(placed(zl, zr, *flowing(rnd, h0, h1, fast)))
+        cells.append(placed(zl, zr, *flowing(rnd, h0, h1, fast)))
     if rnd.randrange(2):        # the bank on the left
         bed.reverse()
-        now = [[e0, -e1, -q0, q1] for e0, e1, q0, q1 in reversed(now)]
-    return bed, [number for cell in now for number in cell]
+        cells = [[e0, -e1, -q0, q1] for e0, e1, q0, q1 in reversed(cells)]
+    return bed, m.table_of(cells)
+
+
+def with_cell(now, n, i, cell):
+    """The state with other numbers in cell i of its n."""
+    now = list(now)
+    now[i::n] = cell
+    return now
 
 
 # ---- Ends: their kinds and what is given there, left, right, left_q and right_q
 
 def thin_end(rnd, now, bed, dry):
     """The state with a cell at one end that is dry, or about as deep as the dry depth."""
-    i = rnd.choice((0, len(bed) - 2))
+    n = len(bed) - 1
+    i = rnd.choice((0, n - 1))
     h0 = rnd.choice((0, 1, about(rnd, dry), about(rnd, dry)))
-    return now[:4 * i] + placed(bed[i], bed[i + 1], h0, 0, 0, 0) + now[4 * i + 4:]
+    return with_cell(now, n, i, placed(bed[i], bed[i + 1], h0, 0, 0, 0))
 
 
 def inner_depths(now, bed):
     """The depths that the first and the last cell show at the ends of the reach."""
-    return now[0] - now[1] - bed[0], now[-4] + now[-3] - bed[-1]
+    n = len(bed) - 1
+    return now[0] - now[n] - bed[0], now[n - 1] + now[2 * n - 1] - bed[n]
 
 
 def fastest_inflow(h):
@@ -400,16 +410,16 @@ def fault_friction(rnd, c):
 
 def fault_range(rnd, c):
     """One face depth or discharge one beyond its range, or a number as wide as an i32."""
-    now, bed = list(c["now"]), c["bed"]
-    i = rnd.randrange(max(1, len(now) // 4))
-    if len(now) < 4 * i + 4 or len(bed) < i + 2:
-        return
+    now, bed = c["now"], c["bed"]
+    n = len(bed) - 1
+    i = rnd.randrange(n)
+    cell = now[i::n]
     how = rnd.randrange(6)
     if how == 0:
-        now[4 * i + rnd.randrange(4)] = rnd.choice((-I32, I32 - 1, -I32 + 1))
+        cell[rnd.randrange(4)] = rnd.choice((-I32, I32 - 1, -I32 + 1))
     else:
         z0, z1 = (bed[i] + bed[i + 1]) // 2, (bed[i + 1] - bed[i]) // 2
-        h0, h1, q0, q1 = now[4 * i] - z0, now[4 * i + 1] - z1, now[4 * i + 2], now[4 * i + 3]
+        h0, h1, q0, q1 = cell[0] - z0, cell[1] - z1, cell[2], cell[3]
         sign = rnd.choice((-1, 1))
         if how == 1:
             h1 = sign * (h0 + 1)
@@ -421,17 +431,15 @@ def fault_range(rnd, c):
             q0, q1 = sign * (m.GREATEST_Q + 1), 0
         else:
             q0, q1 = sign * (m.GREATEST_Q - 7), rnd.choice((-8, 8))
-        now[4 * i:4 * i + 4] = [h0 + z0, h1 + z1, q0, q1]
-    c["now"] = [max(-I32, min(I32 - 1, v)) for v in now]
+        cell = [h0 + z0, h1 + z1, q0, q1]
+    c["now"] = with_cell(now, n, i, [max(-I32, min(I32 - 1, v)) for v in cell])
 
 
 def fault_speed(rnd, c):
     """A mean, face or Gauss speed beyond the limit in a state that is in range."""
-    now, bed = list(c["now"]), c["bed"]
-    i = rnd.randrange(max(1, len(now) // 4))
-    if len(now) < 4 * i + 4 or len(bed) < i + 2:
-        return
-    dry = c["dry"]
+    bed, dry = c["bed"], c["dry"]
+    n = len(bed) - 1
+    i = rnd.randrange(n)
     h0 = rnd.randint(dry + 1, 3000)
     h1, q0, q1 = rnd.choice((
         (0, 32 * h0 + 1 + h0 // 4096, 0),       # mean
@@ -440,8 +448,7 @@ def fault_speed(rnd, c):
         (0, 16 * h0, 28 * h0),                  # face and Gauss point
         (h0 - dry, 31 * h0, 0),                 # the Gauss point alone: the face has no speed
     ))
-    now[4 * i:4 * i + 4] = placed(bed[i], bed[i + 1], h0, h1, q0, q1)
-    c["now"] = [max(-I32, min(I32 - 1, v)) for v in now]
+    c["now"] = with_cell(c["now"], n, i, placed(bed[i], bed[i + 1], h0, h1, q0, q1))
 
 
 def fault_inflow(rnd, c):
@@ -469,7 +476,7 @@ def spoiled(rnd, c):
 def flooded(rnd, c):
     """Dry ground, where S is 0 and nothing but check 8 bounds what comes in: 2^35 at most from each end."""
     bed = c["bed"]
-    c["now"] = [number for zl, zr in zip(bed, bed[1:]) for number in ((zl + zr) // 2, (zr - zl) // 2, 0, 0)]
+    c["now"] = m.table_of(dry_cell(zl, zr) for zl, zr in zip(bed, bed[1:]))
     c["dx"], c["dt"] = rnd.choice((1, 1, 2, 1000)), m.LONGEST_DT - rnd.choice((0, 0, 1))
     c["left"], c["right"] = rnd.choice(((m.INFLOW, m.WALL), (m.OPEN, m.INFLOW), (m.INFLOW, m.INFLOW)))
     for name in ("left", "right"):

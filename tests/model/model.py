@@ -4,8 +4,8 @@ compared with the library.
 Exact integers throughout, in 01's order and with 01's letters.  It shares nothing
 with the library, so an answer that both give was worked twice.  Where 01 has a depth
 of 4 the argument `dry` stands (E3), an end may be given a discharge Q into the reach (E4),
-and nothing is taken from a face level that lies below the bed (E6).  What a rule said before
-a request is in before.py.
+nothing is taken from a face level that lies below the bed (E6), and a lent state is four
+columns (E7).  What a rule said before a request is in before.py.
 
 Public rules answer None where 01 refuses them "with no number".  `step` answers
 ("refused", number) or ("accepted", next, W0, Wn).  Labels such as S7 are those of
@@ -441,11 +441,15 @@ def check_range(cells, call, number, check):
 
 
 def cells_of(table):
-    return [Cell(*table[k:k + 4]) for k in range(0, len(table), 4)]
+    """The n cells of a lent state: four columns of n, in the order of a cell's numbers (E7)."""
+    n = len(table) // 4
+    e0, e1, q0, q1 = table[:n], table[n:2 * n], table[2 * n:3 * n], table[3 * n:]
+    return [Cell(*numbers) for numbers in zip(e0, e1, q0, q1)]
 
 
 def table_of(cells):
-    return [number for cell in cells for number in cell]
+    """The level means, then the level slopes, the discharge means and the discharge slopes."""
+    return [number for column in zip(*cells) for number in column]
 
 
 def halves(cells, slow, two, W):

@@ -5,8 +5,9 @@
 
 The check that gave each refusal goes to standard error. Where a name says that one refusal comes
 before another, both are looked for here, and it is an error if either does not apply. So it is where
-a case is answered alike under a reading of E2, E3 or E4 that it is to tell from the rule.
+a case has the same line under a reading of E2, E3, E4 or E7 that it is to tell from the rule.
 """
+import collections
 import contextlib
 import itertools
 import os
@@ -49,7 +50,7 @@ BOTH = {
     "8 before inflow 6": ("stage one", "inflow speed, stage 2"),
 }
 
-# the readings of E2, E3 and E4 that a case tells from the rule
+# the readings of E2, E3, E4 and E7 that a case tells from the rule
 TOLD = {
     "bank on the right": ("none spared", "itself alone", "left and itself"),
     "bank on the left": ("none spared", "itself alone", "right and itself"),
@@ -145,6 +146,15 @@ TOLD = {
     "1024 cells, Q 900 700": ("F outward at the left", "F outward at the right", "A turned at the left", "A turned at the right"),
     "lake, Q 0": ("no K", "no inflow"),
     "moving, Q 0": ("a wall without Q", "water outside"),
+    "3 cells, columns": tuple(variants.COLUMNS),
+    "64 cells, columns": tuple(variants.COLUMNS),
+    "65 cells, columns": tuple(variants.COLUMNS),
+    "1024 cells, columns": tuple(variants.COLUMNS),
+    "1024 cells, sum": ("read cell by cell", "means before slopes", "columns n - 1 apart", "columns n + 1 apart"),
+    "5 by a level slope": ("level slopes every fourth", "slope columns exchanged", "cell by cell"),
+    "6 by a discharge mean": ("discharge means every fourth", "mean columns exchanged", "cell by cell"),
+    "7 by a discharge slope": ("discharge slopes every fourth", "slope columns exchanged"),
+    "8 by a level mean": ("level means every fourth", "mean columns exchanged", "cell by cell"),
 }
 
 
@@ -194,18 +204,6 @@ def applying(now, bed, friction, *given):
     return found
 
 
-def answered(name, now, next_table, bed, friction, lent, *given):
-    """The line up to `next`; the lent part of next_table is filled where the call is accepted."""
-    try:
-        table, w, v = model.worked(now, lent, bed, friction, *given)
-    except model.Refused as r:
-        print("%-30s %d %s" % (name, r.number, r.check), file=sys.stderr)
-        return "%s: refused %d" % (name, r.number)
-    print("%-30s accepted" % name, file=sys.stderr)
-    next_table[:lent] = table
-    return "%s: accepted %d %d" % (name, w, v)
-
-
 def numbers(text):
     return [int(x) for x in re.findall(r"-?\b\d+", text)]
 
@@ -215,12 +213,22 @@ def lent(values, count):
     return list(itertools.islice(itertools.cycle(values), count))
 
 
-def case(text):
-    """A line of the cases: its name, and the call that it asks for."""
+# A case: its name, the call that it asks for, and how many numbers of `next` are shown.
+Case = collections.namedtuple("Case", "name call shown")
+
+
+def case_of(text):
+    """A line of the cases. The columns of the state are as long as the friction; what is lent beyond them is 0."""
     name, rest = text.split(": ", 1)
-    state, bed, friction, given, lengths = map(numbers, rest.split(";"))
+    *columns, bed, friction, given, lengths = map(numbers, rest.split(";"))
     states, nexts, beds, frictions, shown = lengths
-    return name, lent(state, states), lent(bed, beds), lent(friction, frictions), given, nexts, shown
+    state = [number for column in columns for number in lent(column, frictions)] + [0] * states
+    return Case(name, (state[:states], nexts, lent(bed, beds), lent(friction, frictions), *given), shown)
+
+
+def cases():
+    with open(CASES, encoding="ascii") as lines:
+        return [case_of(text) for text in lines if not text.startswith("#")]
 
 
 def faults(name):
@@ -230,35 +238,55 @@ def faults(name):
     return [kinds[k] for k in found if k in kinds] if min(found) > 5 else []
 
 
-def line(text):
-    name, now, bed, friction, given, room, shown = case(text)
+def line(case, step):
+    """What the program writes to a case, if `step` answers it as model.step does."""
+    name, call, shown = case
+    room = call[1]
+    answer = step(*call)
+    table = [UNTOUCHED] * max(room, shown)
+    if answer[0] == "accepted":
+        _, table[:room], w, v = answer
+        said = "%s: accepted %d %d" % (name, w, v)
+    else:
+        said = "%s: refused %d" % (name, answer[1])
+    if shown > MOST_SHOWN:
+        return "%s, sum of next %d" % (said, sum(map(abs, table[:shown])))
+    return " ".join([said + ", next", *map(str, table[:shown])])
+
+
+def report(case):
+    """Which check gave the refusal, on standard error."""
+    try:
+        model.worked(*case.call)
+        print("%-30s accepted" % case.name, file=sys.stderr)
+    except model.Refused as r:
+        print("%-30s %d %s" % (case.name, r.number, r.check), file=sys.stderr)
+
+
+def hold(case):
+    """An error where the case does not show what its name says, or does not tell what it is to tell."""
+    name, (now, _, bed, friction, *given), _ = case
     wanted = list(BOTH.get(name, ())) + faults(name)
     if wanted:
         found = applying(now, bed, friction, *given)
         for check in wanted:
             assert check in found, (name, check, found)
     if name in TOLD:
-        told = variants.otherwise_under((now, room, bed, friction, *given))
+        told = variants.otherwise_under(lambda: line(case, model.step))
         assert set(TOLD[name]) <= set(told), (name, TOLD[name], told)
-    next_table = [UNTOUCHED] * shown
-    said = answered(name, now, next_table, bed, friction, room, *given)
-    if shown > MOST_SHOWN:
-        print(said + ", sum of next", sum(map(abs, next_table)))
-    else:
-        print(said + ", next", *next_table)
 
 
 def main():
-    with open(CASES, encoding="ascii") as cases:
-        names = [case(text)[0] for text in cases if not text.startswith("#")]
-        claimed = set(BOTH) | set(TOLD)
-        assert claimed <= set(names), claimed - set(names)
-        untold = set(variants.READINGS).difference(*TOLD.values())
-        assert not untold, untold
-        cases.seek(0)
-        for text in cases:
-            if not text.startswith("#"):
-                line(text)
+    names = [case.name for case in cases()]
+    assert len(names) == len(set(names)), "two cases of one name"
+    claimed = set(BOTH) | set(TOLD)
+    assert claimed <= set(names), claimed - set(names)
+    untold = set(variants.READINGS).difference(*TOLD.values())
+    assert not untold, untold
+    for case in cases():
+        report(case)
+        hold(case)
+        print(line(case, model.step))
 
 
 if __name__ == "__main__":

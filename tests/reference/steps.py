@@ -195,11 +195,16 @@ def fill_friction(friction, r):
         friction[i] = pick(x, r.rough) if x % 2 else r.rough
 
 
+def put_cell(state, n, i, cell):
+    """Cell i of n: a number in each of the four columns."""
+    state[i:4 * n:n] = cell
+
+
 def fill_state(state, halves, r):
     x = following(r.seed ^ 2)
     for i in range(r.n):
         x = following(x)
-        state[4 * i:4 * i + 4] = drawn_cell(r, halves[i], halves[i + 1], x)
+        put_cell(state, r.n, i, drawn_cell(r, halves[i], halves[i + 1], x))
 
 
 # ---- Ends
@@ -212,13 +217,12 @@ def shown_depth(h):
     return h if 0 <= h <= 262144 else 262144
 
 
-def depth_at_left(state, bed):
-    return shown_depth(at(state, 0) - at(state, 1) - at(bed, 0))
+def depth_at_left(state, bed, n):
+    return shown_depth(at(state, 0) - at(state, n) - at(bed, 0))
 
 
 def depth_at_right(state, bed, n):
-    k = 4 * n - 4
-    return shown_depth(at(state, k) + at(state, k + 1) - at(bed, n))
+    return shown_depth(at(state, n - 1) + at(state, 2 * n - 1) - at(bed, n))
 
 
 def inflow(h, x):
@@ -245,7 +249,7 @@ def ends(state, bed, n, x):
     a = following(x)
     b = following(a)
     left, right = (x >> 8) % 3, (x >> 16) % 3
-    return (left, right, inflow(depth_at_left(state, bed), a) if left == 2 else 0,
+    return (left, right, inflow(depth_at_left(state, bed, n), a) if left == 2 else 0,
             inflow(depth_at_right(state, bed, n), b) if right == 2 else 0)
 
 
@@ -373,7 +377,7 @@ class Tables:
         if f & STATE:
             k = place(n - 1, x >> 3)
             zl, zr = self.halves[k], self.halves[k + 1]
-            self.state[4 * k:4 * k + 4] = racing_cell(dry, zl, zr, x) if (x >> 32) % 2 else wrong_cell(zl, zr, x)
+            put_cell(self.state, n, k, racing_cell(dry, zl, zr, x) if (x >> 32) % 2 else wrong_cell(zl, zr, x))
 
 
 # ---- Calls
@@ -420,23 +424,22 @@ sizes = collections.Counter()
 pairs = collections.Counter()
 
 
-def answered(t, l, g):
-    """The number, the model's table or None, and the volumes."""
-    now, bed, friction = t.state[:l.state], t.bed[:l.bed], t.friction[:l.friction]
+def counted_step(now, next_len, bed, friction, *given):
+    """What model.step gives, counted."""
+    g, n = Given(*given), len(friction)
     try:
-        table, w, v = model.worked(now, l.next, bed, friction, *g)
-        number, check = 0, "accepted"
+        answer, check = ("accepted", *model.worked(now, next_len, bed, friction, *given)), "accepted"
     except model.Refused as r:
-        table, w, v, number, check = None, 0, 0, r.number, "%d %s" % (r.number, r.check)
+        answer, check = ("refused", r.number), "%d %s" % (r.number, r.check)
     checks[check] += 1
-    pairs[g.left, g.right, l.friction == 1] += number == 0
+    pairs[g.left, g.right, n == 1] += answer[0] == "accepted"
     if model.INFLOW in (g.left, g.right):
         checks[INFLOW + check] += 1
-    sizes[l.friction, "accepted" if number == 0 else "refused"] += 1
-    return number, table, w, v
+    sizes[n, answer[0]] += 1
+    return answer
 
 
-def one(t, s, total, x):
+def one(t, s, total, x, step):
     """One call: its number, and the sum after it."""
     a = following(x)
     b = following(a)
@@ -445,17 +448,20 @@ def one(t, s, total, x):
     t.spoil(f, s.n, s.dry, b)
     l = lent(s.n, f, c)
     after_call = [(b >> 34) + i for i in range(min(l.next + 8, 4104))]
-    number, table, w, v = answered(t, l, given(s, f, t.state[:l.state], t.bed[:l.bed], c))
-    total = mixed(total, number)
-    if number == 0:
-        total = mixed(mixed(total, w), v)
-        after_call[:l.next] = table
+    now, bed, friction = t.state[:l.state], t.bed[:l.bed], t.friction[:l.friction]
+    answer = step(now, l.next, bed, friction, *given(s, f, now, bed, c))
+    if answer[0] == "accepted":
+        _, after_call[:l.next], w, v = answer
+        number, total = 0, mixed(mixed(mixed(total, 0), w), v)
+    else:
+        number, total = answer[1], mixed(total, answer[1])
     for y in after_call:
         total = mixed(total, y)
     return number, total
 
 
-def main():
+def lines(step):
+    """What the program writes, a line at a time, if `step` answers each call as model.step does."""
     t = Tables()
     for block in range(BLOCKS):
         x = 88172645463325252 ^ block << 32
@@ -466,10 +472,15 @@ def main():
                 r = drawn(x)
                 t.fill(r)
                 s = begun(r.n, r.dry, r.seed)
-            number, total = one(t, s, total, x)
+            number, total = one(t, s, total, x, step)
             counts[number] += 1
             s = after(s, number)
-        print("steps", block, *counts, "%016x" % total)
+        yield " ".join(map(str, ["steps", block, *counts, "%016x" % total]))
+
+
+def main():
+    for line in lines(counted_step):
+        print(line)
     seen = {check for check in checks if not check.startswith(INFLOW)}
     assert all(INFLOW + check in checks for check in seen), seen
     assert all(pairs[left, right, True] for left, right in PAIRS), pairs

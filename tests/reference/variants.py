@@ -1,6 +1,6 @@
-"""Readings of E2, E3 and E4 that are not their own, each a context in which the model follows it.
+"""Readings of E2, E3, E4 and E7 that are not their own, each a context in which the model follows it.
 
-A case that answers otherwise under one of them tells that reading from the rule.
+A case whose line is another under one of them tells that reading from the rule.
 """
 import contextlib
 import itertools
@@ -239,6 +239,67 @@ def kinds_to(most):
     return replaced(kind_in_list=lambda kind: kind <= most)
 
 
+# ---- Where number k of cell i stands in a lent state of n cells
+
+def by_cells(k, i, n):
+    return 4 * i + k
+
+
+def read(place):
+    """Numbers of the present state are read at other places; beyond the table's end 0 is found."""
+    def cells_of(table):
+        n = len(table) // 4
+        places = [[place(k, i, n) for k in range(4)] for i in range(n)]
+        return [m.Cell(*(table[p] if p < 4 * n else 0 for p in four)) for four in places]
+    return {"cells_of": cells_of}
+
+
+def written(place):
+    """The next state is written to other places, each number to one of its own."""
+    def table_of(cells):
+        n = len(cells)
+        found = {place(k, i, n): number for i, cell in enumerate(cells) for k, number in enumerate(cell)}
+        return [found[p] for p in range(4 * n)]
+    return {"table_of": table_of}
+
+
+def ordered(*columns):
+    """The columns stand in another order, both in the present state and in the next."""
+    def place(k, i, n):
+        return columns.index(k) * n + i
+    return replaced(**read(place), **written(place))
+
+
+def old_stride(column):
+    """One column is still read at every fourth place."""
+    return replaced(**read(lambda k, i, n: 4 * i + k if k == column else k * n + i))
+
+
+def columns_apart(more):
+    """Each column is read from so many places more than n after the one before it."""
+    return replaced(**read(lambda k, i, n: k * (n + more) + i))
+
+
+COLUMNS = {
+    "cell by cell": before.E7,
+    "read cell by cell": lambda: replaced(**read(by_cells)),
+    "written cell by cell": lambda: replaced(**written(by_cells)),
+    "level columns exchanged": lambda: ordered(1, 0, 2, 3),
+    "discharge columns exchanged": lambda: ordered(0, 1, 3, 2),
+    "mean columns exchanged": lambda: ordered(2, 1, 0, 3),
+    "slope columns exchanged": lambda: ordered(0, 3, 2, 1),
+    "outer columns exchanged": lambda: ordered(3, 1, 2, 0),
+    "means before slopes": lambda: ordered(0, 2, 1, 3),
+    "slopes before means": lambda: ordered(1, 0, 3, 2),
+    "discharges before levels": lambda: ordered(2, 3, 0, 1),
+    "level means every fourth": lambda: old_stride(0),
+    "level slopes every fourth": lambda: old_stride(1),
+    "discharge means every fourth": lambda: old_stride(2),
+    "discharge slopes every fourth": lambda: old_stride(3),
+    "columns n - 1 apart": lambda: columns_apart(-1),
+    "columns n + 1 apart": lambda: columns_apart(1),
+}
+
 READINGS = {
     "none spared": before.E2,
     "itself alone": lambda: sparing(places=(0,)),
@@ -303,14 +364,15 @@ READINGS = {
     "kinds to 3": lambda: kinds_to(3),
     "kinds without end": lambda: kinds_to(2 ** 32),
     "no inflow": before.E4,
+    **COLUMNS,
 }
 
 
-def otherwise_under(call):
-    """The readings under which the model answers a call otherwise."""
-    answer, found = m.step(*call), []
+def otherwise_under(line):
+    """The readings under which the model gives another line."""
+    own, found = line(), []
     for name, reading in READINGS.items():
         with reading():
-            if m.step(*call) != answer:
+            if line() != own:
                 found.append(name)
     return found

@@ -9,6 +9,7 @@ mod show;
 
 use read::fill;
 use read::fill_friction;
+use read::fill_state;
 use read::given;
 use read::lent;
 use read::take_line;
@@ -39,22 +40,22 @@ fn called(line: &[u8], state: &[i32], next: &mut [i32], bed: &[i32], friction: &
 
 // The answer to a case, with as much of each table lent as it says.
 fn answer(line: &[u8], next: &mut [i32]) -> Answer {
-    let mut state = [0i32; 4100];
-    fill(&mut state, line, 1);
-    let mut bed = [0i32; 1026];
-    fill(&mut bed, line, 2);
-    let mut friction = [0u16; 1025];
-    fill_friction(&mut friction, line);
     let a = lent(line, 0, 4100);
     let b = lent(line, 1, next.len());
     let c = lent(line, 2, 1026);
-    let d = lent(line, 3, 1025);
+    let n = lent(line, 3, 1025);
+    let mut state = [0i32; 4100];
+    fill_state(&mut state, line, n);
+    let mut bed = [0i32; 1026];
+    fill(&mut bed, line, 5);
+    let mut friction = [0u16; 1025];
+    fill_friction(&mut friction, line);
     called(
         line,
         &state[0..a],
         &mut next[0..b],
         &bed[0..c],
-        &friction[0..d],
+        &friction[0..n],
     )
 }
 
@@ -67,7 +68,7 @@ fn case(line: &[u8]) {
 
 // The next line of the cases; a remark has no case.
 fn one() {
-    let mut line = [0u8; 160];
+    let mut line = [0u8; 192];
     let n = take_line(&mut line);
     if 0 < n && line[0] != b'#' {
         case(&line[0..n]);

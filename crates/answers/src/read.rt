@@ -2,7 +2,7 @@
 //
 // A field of a line begins after a colon or a semicolon, and a number in it after a blank. A number
 // with a sign is kept as its 64 bits.
-ghost use Prim.Native.Nat.{_≤_};
+ghost use Prim.Native.Nat.{_≤_, _*_};
 ghost use lib.ListN.{length};
 use libc::STDIN_FILENO;
 use std::num::wrapping_add_usize;
@@ -102,7 +102,7 @@ fn over_again(first: [u64; 24], n: usize) -> [u64; 24] {
 }
 
 // The numbers of field k, again and again. That goes on beyond 24 where 24 is a multiple of how many
-// there are, as of one, two or three cells.
+// there are, as of one to four.
 pub fn list(line: &[u8], k: u64) -> [u64; 24] {
     let mut l = [0u64; 24];
     let mut n: usize = 0;
@@ -130,7 +130,7 @@ fn narrow(x: u64) -> i32 {
     }
 }
 
-// A table of the numbers of field k.
+// A table, or a column of one, of the numbers of field k.
 pub fn fill(t: &mut [i32], line: &[u8], k: u64) {
     let l = list(line, k);
     let mut i: usize = 0;
@@ -140,8 +140,18 @@ pub fn fill(t: &mut [i32], line: &[u8], k: u64) {
     }
 }
 
+// The state of n cells: four columns, each from a field of its own. Behind them the table is as it was.
+pub fn fill_state(state: &mut [i32], line: &[u8], n: usize)
+    requires { ⌜ 4 * n ≤ length (now state) ⌝ }
+{
+    fill(&mut state[0..n], line, 1);
+    fill(&mut state[n..2 * n], line, 2);
+    fill(&mut state[2 * n..3 * n], line, 3);
+    fill(&mut state[3 * n..4 * n], line, 4);
+}
+
 pub fn fill_friction(t: &mut [u16], line: &[u8]) {
-    let l = list(line, 3);
+    let l = list(line, 6);
     let mut i: usize = 0;
     while i < t.len() {
         t[i] = (l[i % 24] % 0x1_0000) as u16;
@@ -151,7 +161,7 @@ pub fn fill_friction(t: &mut [u16], line: &[u8]) {
 
 // Number j beside the tables: dx, dt, J, the dry depth, the kinds of the two ends and the Q of each.
 pub fn given(line: &[u8], j: usize) -> u32 {
-    let l = list(line, 4);
+    let l = list(line, 7);
     (l[j % 24] % 0x1_0000_0000) as u32
 }
 
@@ -159,7 +169,7 @@ pub fn given(line: &[u8], j: usize) -> u32 {
 pub fn lent(line: &[u8], j: usize, m: usize) -> usize
     ensures { λ r. ⌜ r ≤ m ⌝ }
 {
-    let l = list(line, 5);
+    let l = list(line, 8);
     let x = l[j % 24];
     if x < m as u64 { x as usize } else { m }
 }

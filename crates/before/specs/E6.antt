@@ -1,5 +1,5 @@
 -- The step before E6: where the level at a face lay below the bed, the shortfall was taken from both, and the depth was nought.
--- All else is as in the rules in force.
+-- All else is as before E7.
 use mathlib.Core.List.{List}
 use lib.IntN.{ℤ, pos, negℤ, _+ℤ_, _-ℤ_, _*ℤ_}
 use lib.Signed.{quotZ}
@@ -10,7 +10,8 @@ use Rattle.rules.specs.Ends.{leftEnd, rightEnd}
 use Rattle.rules.specs.Reach.{State, Bed, ql, qr, hl, hr}
 use Rattle.rules.specs.Stage as rules
 use Rattle.rules.specs.Refusals.{badCall, fastInflow, Check}
-use Rattle.rules.specs.Lent.{Lent, reachOf, callOf, stateOf, Outcome}
+use Rattle.rules.specs.Lent.{Lent, reachOf, callOf, Outcome}
+use Rattle.before.specs.E7.{stateOf}
 use Rattle.before.specs.Parts as before
 use Rattle.before.specs.Parts.{Parts, stepBy}
 

@@ -1,4 +1,4 @@
--- The step over what requests changed of it: its check 2, and parts of a stage. All else is as in the rules in force.
+-- The step over what requests changed of it: its check 2, and parts of a stage. All else is as before E7.
 use mathlib.Core.Bool.{Bool, cond, _||_}
 use mathlib.Core.List.{List, [], _∷_, _++_}
 use Prim.Native.Nat.{ℕ, zero, suc}
@@ -7,7 +7,7 @@ use lib.IntN.{ℤ, pos, _*ℤ_}
 use lib.Signed.{ltZ}
 use Rattle.tables.specs.Some.{some}
 use Rattle.tables.specs.Rows.{row}
-use Rattle.tables.specs.Cells.{Cell, flat}
+use Rattle.tables.specs.Cells.{Cell}
 use Rattle.rules.specs.Face.{Side, Flux}
 use Rattle.rules.specs.Shown.{Shown, crossRight, crossAt, volume}
 use Rattle.rules.specs.Ends.{End}
@@ -15,7 +15,8 @@ use Rattle.rules.specs.Reach.{Reach, Call, State, Bed, under}
 use Rattle.rules.specs.Finishing.{finish}
 use Rattle.rules.specs.Step.{rubbed, half, joinedCell}
 use Rattle.rules.specs.Refusals.{badBed, badRough, off, fastFriction, fastSide, fastGauss, Check, chk, verdict}
-use Rattle.rules.specs.Lent.{Lent, cellsOf, reachOf, callOf, stateOf, misfits, Outcome, refused, accepted}
+use Rattle.rules.specs.Lent.{Lent, cellsOf, reachOf, callOf, misfits, Outcome, refused, accepted}
+use Rattle.before.specs.E7.{flat, stateOf}
 
 pub record Parts : Type 0 where
   -- the sides that a cell shows to its two faces, at a dry depth

@@ -4,7 +4,7 @@ use mathlib.Core.Path.{_≡_, refl, sym, _∙_, ap, subst}
 use mathlib.Core.Bool.{Bool, true, false}
 use mathlib.Core.List.{List, _∷_}
 use mathlib.Core.Logic.{_⊎_, inl, inr}
-use Prim.Native.Nat.{ℕ, zero, suc, _+_, _*_, _<_}
+use Prim.Native.Nat.{ℕ, zero, suc, _*_, _<_}
 use native.Mathlib.Omega.{arith}
 use borrow.Author.Tests.{eq-eqb, ne-eqb, eqb-false}
 use lib.Dec.{eqb, eqb→eq}
@@ -12,8 +12,7 @@ use lib.ListN.{length, getD}
 use lib.IntN.{ℤ, pos, negℤ, _+ℤ_}
 use lib.Signed.{_≤ℤ_}
 use Rattle.whole.specs.Flags.{by, held, clash}
-use Rattle.tables.specs.Rows.{row}
-use Rattle.tables.specs.Cells.{Cell, cellAt, flat, length-flat, cellAt-flat}
+use Rattle.tables.specs.Cells.{Cell, cellIn, tableOf, length-table, cellIn-table}
 use Rattle.rules.specs.Face.{face}
 use Rattle.rules.specs.Reach.{Reach, Call, State, under, z0, z1, h0, h1, hl, hr}
 use Rattle.rules.specs.Step.{carry, joined, next}
@@ -34,8 +33,9 @@ use Rattle.before.specs.Laws.E6 as before-E6
 use Rattle.step.specs.Gives.{lend, code, atLeft, atRight, Gives, answer, leaves}
 use Rattle.step.specs.declared.Answer.{Answer}
 use Rattle.step.specs.declared.Answer.the-variants.{Refused, Accepted}
-use Rattle.promises.specs.Seen.{at, meanBed, bedSlope, meanDepth, leftDepth, rightDepth}
-use Rattle.promises.specs.Seen.{NoneBelow, Excess, NoShortfall, water, Listed, brought, Lake, Called, Calls, none, more}
+use Rattle.promises.specs.Seen.{at, level, levelSlope, discharge, dischargeSlope, meanBed, bedSlope, meanDepth, leftDepth}
+use Rattle.promises.specs.Seen.{rightDepth, NoneBelow, Excess, NoShortfall, total, water, Listed, brought, Lake}
+use Rattle.promises.specs.Seen.{Called, Calls, none, more}
 
 -- ---- an outcome by its number
 -- all the checks of a call, in their order
@@ -115,50 +115,50 @@ abbrev pub reachAt : List ℤ → ℕ → ℕ → Reach
 reachAt bed n dx = record { n = n; dx = pos dx; bed = λ i. getD bed i (pos 0); face = face }
 
 module _ (bed t : List ℤ) (dx : ℕ) where
-  pub none-below : (n : ℕ) → Depths (reachAt bed n dx) (cellAt t) → NoneBelow bed t n
+  pub none-below : (n : ℕ) → Depths (reachAt bed n dx) (cellIn n t) → NoneBelow bed t n
   unfolding meanDepth leftDepth rightDepth meanBed bedSlope h0 h1 hl hr z0 z1
   none-below n d = record { mean = d .mean; left = λ i l. d .faces i l .left; right = λ i l. d .faces i l .right }
 
-  pub wet : (n : ℕ) → NoneBelow bed t n → Wet (reachAt bed n dx) (cellAt t)
+  pub wet : (n : ℕ) → NoneBelow bed t n → Wet (reachAt bed n dx) (cellIn n t)
   unfolding meanDepth leftDepth rightDepth meanBed bedSlope h0 h1 hl hr z0 z1
   wet n d i l = record { left = d .left i l; right = d .right i l }
 
-  pub water-is : (n : ℕ) → water bed t n ≡ balance.water (reachAt bed n dx) (cellAt t)
-  unfolding balance.water water balance.sum meanDepth meanBed h0 z0
+  pub water-is : (n : ℕ) → water bed t n ≡ balance.water (reachAt bed n dx) (cellIn n t)
+  unfolding balance.water water total balance.sum meanDepth meanBed h0 z0
   water-is n = go n
     where
-      go : (m : ℕ) → water bed t m ≡ balance.sum (λ i. h0 (under (reachAt bed n dx) i) (cellAt t i)) m
+      go : (m : ℕ) → total (meanDepth bed t n) m ≡ balance.sum (λ i. h0 (under (reachAt bed n dx) i) (cellIn n t i)) m
       go zero = refl
-      go (suc m) = ap (λ (x : ℤ). x +ℤ meanDepth bed t m) (go m)
+      go (suc m) = ap (λ (x : ℤ). x +ℤ meanDepth bed t n m) (go m)
 
-  pub at-rest : (n : ℕ) → Lake bed t n → AtRest (reachAt bed n dx) (cellAt t)
+  pub at-rest : (n : ℕ) → Lake bed t n → AtRest (reachAt bed n dx) (cellIn n t)
   unfolding meanBed bedSlope z0 z1
   at-rest n k =
-      record { calm = λ i l. record { q0 = k .mean i l; q1 = k .slope i l }; cell = λ i l. kind i (k .cell i l); level = k .level }
+      record { calm = λ i l. record { q0 = k .mean i l; q1 = k .slope i l }; cell = λ i l. kind i (k .cell i l); level = k .meet }
     where
       kind : (i : ℕ)
-          → ((at t (4 * i) ≡ meanBed bed i) × (at t (4 * i + 1) ≡ bedSlope bed i))
-          ⊎ ((at t (4 * i + 1) ≡ pos 0) × (at bed i ≤ℤ at t (4 * i)) × (at bed (suc i) ≤ℤ at t (4 * i)))
-          → Dry (under (reachAt bed n dx) i) (cellAt t i) ⊎ Flat (under (reachAt bed n dx) i) (cellAt t i)
+          → ((level t n i ≡ meanBed bed i) × (levelSlope t n i ≡ bedSlope bed i))
+          ⊎ ((levelSlope t n i ≡ pos 0) × (at bed i ≤ℤ level t n i) × (at bed (suc i) ≤ℤ level t n i))
+          → Dry (under (reachAt bed n dx) i) (cellIn n t i) ⊎ Flat (under (reachAt bed n dx) i) (cellIn n t i)
       kind i (inl d) = inl (record { mean = d .0; slope = d .1 })
       kind i (inr f) = inr (record { slope = f .0; left = f .1; right = f .2 })
 
 -- ---- states written as tables
 module _ (bed : List ℤ) (n dx : ℕ) (s : State) where
   abbrev table : List ℤ
-  table = flat (row n s)
+  table = tableOf n s
 
-  wet-table : Wet (reachAt bed n dx) s → Wet (reachAt bed n dx) (cellAt table)
-  wet-table w i l = subst (Nonneg (under (reachAt bed n dx) i)) (sym (cellAt-flat n s i l)) (w i l)
+  wet-table : Wet (reachAt bed n dx) s → Wet (reachAt bed n dx) (cellIn n table)
+  wet-table w i l = subst (Nonneg (under (reachAt bed n dx) i)) (sym (cellIn-table n s i l)) (w i l)
 
   pub none-below-table : Wet (reachAt bed n dx) s → NoneBelow bed table n
-  none-below-table w = none-below bed table dx n (depths (reachAt bed n dx) (cellAt table) (wet-table w))
+  none-below-table w = none-below bed table dx n (depths (reachAt bed n dx) (cellIn n table) (wet-table w))
 
   pub none-short-table : ((i : ℕ) → i < n → before-E6.NoShortfall (under (reachAt bed n dx) i) (s i)) → NoShortfall bed table n
   unfolding leftDepth rightDepth meanDepth meanBed bedSlope h0 h1 hl hr z0 z1
   none-short-table f =
-      let at : (i : ℕ) (l : i < n) → before-E6.NoShortfall (under (reachAt bed n dx) i) (cellAt table i) = λ i l.
-      subst (before-E6.NoShortfall (under (reachAt bed n dx) i)) (sym (cellAt-flat n s i l)) (f i l) in
+      let at : (i : ℕ) (l : i < n) → before-E6.NoShortfall (under (reachAt bed n dx) i) (cellIn n table i) = λ i l.
+      subst (before-E6.NoShortfall (under (reachAt bed n dx) i)) (sym (cellIn-table n s i l)) (f i l) in
       record { left = λ i l. at i l .left; right = λ i l. at i l .right }
 
   pub excess-table : (k : Large (reachAt bed n dx) s) → Excess bed table n
@@ -166,16 +166,18 @@ module _ (bed : List ℤ) (n dx : ℕ) (s : State) where
   excess-table k = record {
     cell = k .place;
     below = k .below;
-    large = subst (TooLarge (under (reachAt bed n dx) (k .place))) (sym (cellAt-flat n s (k .place) (k .below))) (k .large);
+    large = subst (TooLarge (under (reachAt bed n dx) (k .place))) (sym (cellIn-table n s (k .place) (k .below))) (k .large);
   }
 
 -- a table that an accepted call wrote has no discharge in a cell no deeper than its dry depth
-pub written-calm : (l : Lent) {new : List ℤ} → new ≡ filled l → (i : ℕ) → i < cellsOf l → meanDepth (l .bed) new i ≤ℤ pos (l .dry)
-    → (at new (4 * i + 2) ≡ pos 0) × (at new (4 * i + 3) ≡ pos 0)
+pub written-calm : (l : Lent) {new : List ℤ} → new ≡ filled l → (i : ℕ) → i < cellsOf l
+    → meanDepth (l .bed) new (cellsOf l) i ≤ℤ pos (l .dry)
+    → (discharge new (cellsOf l) i ≡ pos 0) × (dischargeSlope new (cellsOf l) i ≡ pos 0)
 unfolding filled next meanDepth meanBed h0 z0
 written-calm l {new} e i m d =
     let r = reachOf l in let c = callOf l in let s = stateOf l in
-    let is : cellAt new i ≡ next r c s i = ap (λ (t : List ℤ). cellAt t i) e ∙ cellAt-flat (cellsOf l) (next r c s) i m in
+    let n = cellsOf l in
+    let is : cellIn n new i ≡ next r c s i = ap (λ (t : List ℤ). cellIn n t i) e ∙ cellIn-table n (next r c s) i m in
     let calm = finished-calm r c (joined r c s) i (subst (λ (x : Cell). h0 (under r i) x ≤ℤ c .dry) is d) in
     (ap (λ (x : Cell). x .q0) is ∙ calm .0, ap (λ (x : Cell). x .q1) is ∙ calm .1)
 
@@ -213,10 +215,10 @@ pub record One (bed : List ℤ) (n dx : ℕ) (c : Call) (s m : List ℤ) (w v : 
   pub some : 0 < n
   pub now : length s ≡ 4 * n
   pub size : length m ≡ 4 * n
-  pub unstopped : refusal (reachAt bed n dx) c (cellAt s) ≡ 0
-  pub same : Same (reachAt bed n dx) (cellAt m) (next (reachAt bed n dx) c (cellAt s))
-  pub left : w ≡ carry (reachAt bed n dx) c (cellAt s) 0
-  pub right : v ≡ carry (reachAt bed n dx) c (cellAt s) n
+  pub unstopped : refusal (reachAt bed n dx) c (cellIn n s) ≡ 0
+  pub same : Same (reachAt bed n dx) (cellIn n m) (next (reachAt bed n dx) c (cellIn n s))
+  pub left : w ≡ carry (reachAt bed n dx) c (cellIn n s) 0
+  pub right : v ≡ carry (reachAt bed n dx) c (cellIn n s) n
 
 module _ {bed : List ℤ} {n dx : ℕ} {s : List ℤ} {a : Answer} {old m : List ℤ} (c : Called bed n dx s a old m) where
   -- what was lent to a call, and what it may change
@@ -235,20 +237,21 @@ one bed n dx s w v old m c = subst (λ (k : ℕ). One bed k dx (call c) s m w v)
     whole =
         let t = taken (lent c) w v old m (c .gave) in
         let f = fitted (length s) (length old) (length bed) (length (c .friction)) (fits (lent c) (t .number)) in
-        let y = next (reachOf (lent c)) (call c) (cellAt s) in let k = length (c .friction) in
+        let k = length (c .friction) in let y = next (reachOf (lent c)) (call c) (cellIn k s) in
         record {
           some = f .some;
           now = f .now;
-          size = ap length (t .table) ∙ length-flat k y;
+          size = ap length (t .table) ∙ length-table k y;
           unstopped = unrefused (lent c) (t .number);
-          same = λ i l. ap (λ (x : List ℤ). cellAt x i) (t .table) ∙ cellAt-flat k y i l;
+          same = λ i l. ap (λ (x : List ℤ). cellIn k x i) (t .table) ∙ cellIn-table k y i l;
           left = t .left;
           right = t .right;
         }
 
 -- ---- calls as a run
-pub run : (bed : List ℤ) (n dx : ℕ) {s t : List ℤ} {a b : ℤ} → Calls bed n dx s t a b → Run (reachAt bed n dx) (cellAt s) (cellAt t) a b
-run bed n dx (none t) = stop (cellAt t)
+pub run : (bed : List ℤ) (n dx : ℕ) {s t : List ℤ} {a b : ℤ} → Calls bed n dx s t a b
+    → Run (reachAt bed n dx) (cellIn n s) (cellIn n t) a b
+run bed n dx (none t) = stop (cellIn n t)
 run bed n dx (more s m t old w v a b c k) =
     let o = one bed n dx s w v old m c in
-    rw (o .left, o .right) (step (call c) (cellAt s) (cellAt m) (cellAt t) a b (o .unstopped) (o .same) (run bed n dx k))
+    rw (o .left, o .right) (step (call c) (cellIn n s) (cellIn n m) (cellIn n t) a b (o .unstopped) (o .same) (run bed n dx k))

@@ -17,8 +17,7 @@ use lib.IntN.{ℤ, pos, negℤ, _+ℤ_, _-ℤ_}
 use lib.Signed.{_≤ℤ_, _<ℤ_}
 use lib.Ieee.{Float}
 use Rattle.rules.specs.Face.{Side}
-use Rattle.tables.specs.Cells.{cellAt, flat, flat-is, flat-cells}
-use Rattle.tables.specs.Rows.{row}
+use Rattle.tables.specs.Cells.{cellIn, tableOf, table-is, table-cells}
 use Rattle.rules.specs.Reach.{Reach, Call, State, under, h0}
 use Rattle.rules.specs.Finishing.{spared, cut, dried, finish}
 use Rattle.rules.specs.Laws.Limiter.{spared-finish}
@@ -31,6 +30,9 @@ use Rattle.before.specs.E4.{with-no-inflow}
 use Rattle.before.specs.Laws.E4.{no-inflow}
 use Rattle.before.specs.E6 as before-E6
 use Rattle.before.specs.Laws.E6.{none-short-one, none-short-two, uncorrected}
+use Rattle.before.specs.E7 as before-E7
+use Rattle.before.specs.E7.{ColumnsOfOne, lentInColumns, lentInCells, givenInColumns}
+use Rattle.before.specs.Laws.E7.{of-one, in-columns, from-cells}
 use Rattle.rules.specs.Laws.Lengths.{unrefused}
 use Rattle.rules.specs.Step.{rubbed, stageOne, next}
 use Rattle.rules.specs.Refusals.{checks, early, stageChecks}
@@ -63,8 +65,8 @@ use Rattle.stage.specs.declared.worked.Worked.{Worked}
 use Rattle.step.specs.Gives.{Gives, one-answer, one-table}
 use Rattle.step.specs.declared.Answer.{Answer}
 use Rattle.step.specs.declared.Answer.the-variants.{Refused, Accepted}
-use Rattle.promises.specs.Seen.{at, meanDepth, NoneBelow, Excess, stageTable, frictionTable, correctedStageTable, NoShortfall}
-use Rattle.promises.specs.Seen.{water, Listed, brought, Lake}
+use Rattle.promises.specs.Seen.{discharge, dischargeSlope, meanDepth, NoneBelow, Excess, stageTable, frictionTable}
+use Rattle.promises.specs.Seen.{correctedStageTable, NoShortfall, water, Listed, brought, Lake}
 use Rattle.promises.specs.Seen.{Called, Calls, none, more, NoInflow}
 use Rattle.promises.specs.First.{FirstMet, first-verdict, verdict-first, first-listed}
 use Rattle.promises.specs.Outcomes.{allChecks, number-is, refuses-with, refused-number, refused-some}
@@ -149,21 +151,23 @@ pub deep-as-before : (r : Reach) (c : Call) (s : State) → ((i : ℕ) → i < r
 deep-as-before r c s d i l = deep-finish r c s d i l
 
 -- ---- what E3 changed: the dry depth is each call's own
--- given 4, and no inflow, a call is answered as before, when it gave neither: the same number, or the same table and volumes
-pub four-as-before : (l : before-E3.Lent) → (l .left ≡ 2 → ⊥) → (l .right ≡ 2 → ⊥)
-    → stepOf (with-no-inflow (before-E3.given 4 l)) ≡ before-E3.stepOf l
-four-as-before l f g = given-four l f g
+-- given 4, and no inflow, a call is answered as before, when it gave neither: the same number, or the same table and volumes (a table
+-- was cell by cell then, and is put into columns here: E7, below)
+pub four-as-before : (l : before-E3.Lent) → (l .left ≡ 2 → ⊥) → (l .right ≡ 2 → ⊥) → let m = with-no-inflow (before-E3.given 4 l) in
+    stepOf (lentInColumns m) ≡ givenInColumns (cellsOf m) (before-E3.stepOf l)
+four-as-before l f g = let m = with-no-inflow (before-E3.given 4 l) in in-columns m ∙ ap (givenInColumns (cellsOf m)) (given-four l f g)
 
 -- whichever it is, what an accepted call writes has no discharge where it is no deeper
 pub shallow-calm : (l : Lent) (w v : ℤ) (old new : List ℤ) → Gives (stepOf l) (Accepted w v) old new → (i : ℕ) → i < cellsOf l
-    → meanDepth (l .bed) new i ≤ℤ pos (l .dry) → (at new (4 * i + 2) ≡ pos 0) × (at new (4 * i + 3) ≡ pos 0)
+    → meanDepth (l .bed) new (cellsOf l) i ≤ℤ pos (l .dry)
+    → (discharge new (cellsOf l) i ≡ pos 0) × (dischargeSlope new (cellsOf l) i ≡ pos 0)
 shallow-calm l w v old new g i m d = written-calm l (taken l w v old new g .table) i m d
 
 -- ---- what E4 changed: an end may be an inflow, which brings in a given discharge Q
 -- where neither is one, a call is answered as before, when an end had a kind alone: the same number, or the same table and volumes
-pub no-inflow-as-before : (l : before-E4.Lent) → (l .left ≡ 2 → ⊥) → (l .right ≡ 2 → ⊥)
-    → stepOf (with-no-inflow l) ≡ before-E4.stepOf l
-no-inflow-as-before l f g = no-inflow l f g
+pub no-inflow-as-before : (l : before-E4.Lent) → (l .left ≡ 2 → ⊥) → (l .right ≡ 2 → ⊥) → let m = with-no-inflow l in
+    stepOf (lentInColumns m) ≡ givenInColumns (cellsOf m) (before-E4.stepOf l)
+no-inflow-as-before l f g = let m = with-no-inflow l in in-columns m ∙ ap (givenInColumns (cellsOf m)) (no-inflow l f g)
 
 module _ (l : Lent) (w v : ℤ) (old new : List ℤ) (g : Gives (stepOf l) (Accepted w v) old new) where
   abbrev went : Taken l w v new
@@ -191,15 +195,29 @@ module _ (l : Lent) (w v : ℤ) (old new : List ℤ) (g : Gives (stepOf l) (Acce
 pub no-shortfall-one : (l : Lent) → Clear (before-E6.checksToFive l) → NoShortfall (l .bed) (frictionTable l) (cellsOf l)
 unfolding frictionTable
 no-shortfall-one l q =
-    none-short-table (l .bed) (cellsOf l) (l .dx) (rubbed (reachOf l) (callOf l) (stateOf l)) (none-short-one l q)
+    none-short-table (l .bed) (cellsOf l) (l .dx) (rubbed (reachOf l) (callOf l) (before-E7.stateOf l)) (none-short-one l q)
 
 pub no-shortfall-two : (l : Lent) → Clear (before-E6.checksOfOne l) → NoShortfall (l .bed) (correctedStageTable l) (cellsOf l)
 unfolding correctedStageTable
 no-shortfall-two l q = none-short-table (l .bed) (cellsOf l) (l .dx) (before-E6.stageOne l) (none-short-two l q)
 
 -- so every call, whatever it is lent, is answered as it was with the correction: the same number, or the same table and volumes
-pub uncorrected-as-before : (l : Lent) → stepOf l ≡ before-E6.stepOf l
-uncorrected-as-before l = uncorrected l
+pub uncorrected-as-before : (l : Lent) → stepOf (lentInColumns l) ≡ givenInColumns (cellsOf l) (before-E6.stepOf l)
+uncorrected-as-before l = in-columns l ∙ ap (givenInColumns (cellsOf l)) (uncorrected l)
+
+-- ---- what E7 changed: a state is lent in four columns, where its cells stood one after another
+-- a call that is lent the columns of a table of cells is answered as before: the same number, or the columns of the same table, and the
+-- same volumes;
+pub columns-as-before : (l : Lent) → stepOf (lentInColumns l) ≡ givenInColumns (cellsOf l) (before-E7.stepOf l)
+columns-as-before l = in-columns l
+
+-- and this is every call: a table of 4n numbers is the columns of one table of cells, and of no other (one of another length is lent as it
+-- is in both, and refused)
+pub columns-of-one : (n : ℕ) (t : List ℤ) → length t ≡ 4 * n → ColumnsOfOne n t
+columns-of-one n t e = of-one n t e
+
+pub every-call-as-before : (l : Lent) → stepOf l ≡ givenInColumns (cellsOf l) (before-E7.stepOf (lentInCells l))
+every-call-as-before l = from-cells l
 
 -- ---- demand 3, over any number of accepted calls on one bed with n cells of length dx; all else that they are given may differ
 module _ (bed : List ℤ) (n dx : ℕ) where
@@ -213,19 +231,19 @@ module _ (bed : List ℤ) (n dx : ℕ) where
   pub none-below-now : (s : List ℤ) (w v : ℤ) (old m : List ℤ) → Called bed n dx s (Accepted w v) old m → NoneBelow bed s n
   none-below-now s w v old m c =
       let o = one bed n dx s w v old m c in
-      none-below bed s dx n (accepted-depths (reachAt bed n dx) lawful (call c) (cellAt s) (o .unstopped) .0)
+      none-below bed s dx n (accepted-depths (reachAt bed n dx) lawful (call c) (cellIn n s) (o .unstopped) .0)
 
   pub none-below-stage : (s : List ℤ) (w v : ℤ) (old m : List ℤ) (c : Called bed n dx s (Accepted w v) old m)
       → NoneBelow bed (stageTable (lent c)) n
   unfolding stageTable
   none-below-stage s w v old m c = let l = lent c in
       subst (λ (k : ℕ). NoneBelow bed (stageTable l) k) (c .cells)
-      (none-below-table bed (length (c .friction)) dx (stageOne (reachOf l) (call c) (cellAt s))
-      (accepted-depths (reachOf l) lawful (call c) (cellAt s) (unrefused l (taken l w v old m (c .gave) .number)) .1 .faces))
+      (none-below-table bed (length (c .friction)) dx (stageOne (reachOf l) (call c) (stateOf l))
+      (accepted-depths (reachOf l) lawful (call c) (stateOf l) (unrefused l (taken l w v old m (c .gave) .number)) .1 .faces))
 
   pub none-below-next : {s t : List ℤ} {a b : ℤ} → Calls bed n dx s t a b → NoneBelow bed s n → NoneBelow bed t n
   none-below-next {s} {t} k d =
-      none-below bed t dx n (depths (reachAt bed n dx) (cellAt t) (run-wet (reachAt bed n dx) lawful (run bed n dx k) (wet bed s dx n d)))
+      none-below bed t dx n (depths (reachAt bed n dx) (cellIn n t) (run-wet (reachAt bed n dx) lawful (run bed n dx k) (wet bed s dx n d)))
 
   pub none-below-written : (s : List ℤ) (w v : ℤ) (old m : List ℤ) → Called bed n dx s (Accepted w v) old m → NoneBelow bed m n
   none-below-written s w v old m c = none-below-next (more s m m old w v (pos 0) (pos 0) c (none m)) (none-below-now s w v old m c)
@@ -240,11 +258,11 @@ module _ (bed : List ℤ) (n dx : ℕ) where
   unfolding stageTable filled
   eight-too-large s old new c = let l = lent c in
       subst (λ (k : ℕ). Over (stageTable l) k ⊎ Over (filled l) k) (c .cells) (⊎-elim
-      (λ h. inl (both (stageOne (reachOf l) (call c) (cellAt s)) h))
-      (λ h. inr (both (next (reachOf l) (call c) (cellAt s)) h))
-      (eight (reachOf l) lawful (call c) (cellAt s) (refused-later l 8 old new (c .gave) refl)))
+      (λ h. inl (both (stageOne (reachOf l) (call c) (stateOf l)) h))
+      (λ h. inr (both (next (reachOf l) (call c) (stateOf l)) h))
+      (eight (reachOf l) lawful (call c) (stateOf l) (refused-later l 8 old new (c .gave) refl)))
     where
-      both : (t : State) → Large (reachOf (lent c)) t → let k = length (c .friction) in Over (flat (row k t)) k
+      both : (t : State) → Large (reachOf (lent c)) t → let k = length (c .friction) in Over (tableOf k t) k
       both t h = (none-below-table bed (length (c .friction)) dx t (h .wet), excess-table bed (length (c .friction)) dx t h)
 
   -- a lake at rest into which no water is brought keeps every number of its table, and nothing crosses its ends
@@ -253,8 +271,8 @@ module _ (bed : List ℤ) (n dx : ℕ) where
   lake-rests (none s) d k = (refl, refl, refl)
   lake-rests (more s m t old w v a b c q) d k =
       let o = one bed n dx s w v old m c in let r = reachAt bed n dx in
-      let z = accepted-rest r lawful (o .some) (call c) (cellAt s) (o .unstopped) (record { left = d .0; right = d .1 })
+      let z = accepted-rest r lawful (o .some) (call c) (cellIn n s) (o .unstopped) (record { left = d .0; right = d .1 })
       (at-rest bed s dx n k) in
-      let e : m ≡ s = flat-is n m (cellAt s) (o .size) (λ i l. o .same i l ∙ z .0 i l) ∙ flat-cells n s (o .now) in
+      let e : m ≡ s = table-is n m (cellIn n s) (o .size) (λ i l. o .same i l ∙ z .0 i l) ∙ table-cells n s (o .now) in
       let rest = lake-rests q (d .2) (subst (λ (x : List ℤ). Lake bed x n) (sym e) k) in
       (rest .0 ∙ e, ap₂ _+ℤ_ (o .left ∙ z .1) (rest .1), ap₂ _+ℤ_ (o .right ∙ z .2) (rest .2))

@@ -2,18 +2,19 @@
 use mathlib.Core.Path.{_≡_}
 use mathlib.Core.List.{List}
 use mathlib.Core.Logic.{_⊎_}
-use Prim.Native.Nat.{ℕ, zero, suc, _+_, _*_, _≤_, _<_}
+use Prim.Native.Nat.{ℕ, zero, suc, _*_, _≤_, _<_}
 use lib.ListN.{length, getD}
 use lib.IntN.{ℤ, pos, _+ℤ_, _-ℤ_, _*ℤ_}
 use lib.Signed.{quotZ, _≤ℤ_, _<ℤ_}
 use Rattle.whole.specs.Choice.{sizeZ}
-use Rattle.tables.specs.Rows.{row}
-use Rattle.tables.specs.Cells.{flat}
+use Rattle.tables.specs.Columns.{inColumn}
+use Rattle.tables.specs.Cells.{tableOf}
 use Rattle.rules.specs.Limits.{deepest, fullest, largestInflow}
 use Rattle.rules.specs.Ends.{End, inflowKind}
 use Rattle.rules.specs.Step.{rubbed, stageOne}
 use Rattle.rules.specs.Lent.{Lent, cellsOf, reachOf, callOf, stateOf, stepOf}
 use Rattle.before.specs.E6 as before-E6
+use Rattle.before.specs.E7 as before-E7
 use Rattle.step.specs.Gives.{lend, Gives}
 use Rattle.step.specs.declared.Answer.{Answer}
 use Rattle.step.specs.declared.Answer.the-variants.{Accepted}
@@ -22,57 +23,74 @@ use Rattle.step.specs.declared.Answer.the-variants.{Accepted}
 abbrev pub at : List ℤ → ℕ → ℤ
 at t j = getD t j (pos 0)
 
--- ---- depths over the bed, of cell i of a state
+-- ---- cell i of a state of n cells: its table has a column each of level means, level slopes, discharge means and discharge slopes
+abbrev pub level : List ℤ → ℕ → ℕ → ℤ
+level t n i = inColumn n t 0 i
+
+abbrev pub levelSlope : List ℤ → ℕ → ℕ → ℤ
+levelSlope t n i = inColumn n t 1 i
+
+abbrev pub discharge : List ℤ → ℕ → ℕ → ℤ
+discharge t n i = inColumn n t 2 i
+
+abbrev pub dischargeSlope : List ℤ → ℕ → ℕ → ℤ
+dischargeSlope t n i = inColumn n t 3 i
+
+-- its depths over the bed
 unfoldable pub meanBed : List ℤ → ℕ → ℤ
 meanBed bed i = quotZ (at bed i +ℤ at bed (suc i)) (pos 2)
 
 unfoldable pub bedSlope : List ℤ → ℕ → ℤ
 bedSlope bed i = quotZ (at bed (suc i) -ℤ at bed i) (pos 2)
 
-unfoldable pub meanDepth : List ℤ → List ℤ → ℕ → ℤ
-meanDepth bed t i = at t (4 * i) -ℤ meanBed bed i
+unfoldable pub meanDepth : List ℤ → List ℤ → ℕ → ℕ → ℤ
+meanDepth bed t n i = level t n i -ℤ meanBed bed i
 
-unfoldable pub leftDepth : List ℤ → List ℤ → ℕ → ℤ
-leftDepth bed t i = meanDepth bed t i -ℤ (at t (4 * i + 1) -ℤ bedSlope bed i)
+unfoldable pub leftDepth : List ℤ → List ℤ → ℕ → ℕ → ℤ
+leftDepth bed t n i = meanDepth bed t n i -ℤ (levelSlope t n i -ℤ bedSlope bed i)
 
-unfoldable pub rightDepth : List ℤ → List ℤ → ℕ → ℤ
-rightDepth bed t i = meanDepth bed t i +ℤ (at t (4 * i + 1) -ℤ bedSlope bed i)
+unfoldable pub rightDepth : List ℤ → List ℤ → ℕ → ℕ → ℤ
+rightDepth bed t n i = meanDepth bed t n i +ℤ (levelSlope t n i -ℤ bedSlope bed i)
 
 -- no depth, mean or face, is below nought
 pub record NoneBelow (bed t : List ℤ) (n : ℕ) : Type 0 where
-  pub mean : (i : ℕ) → i < n → pos 0 ≤ℤ meanDepth bed t i
-  pub left : (i : ℕ) → i < n → pos 0 ≤ℤ leftDepth bed t i
-  pub right : (i : ℕ) → i < n → pos 0 ≤ℤ rightDepth bed t i
+  pub mean : (i : ℕ) → i < n → pos 0 ≤ℤ meanDepth bed t n i
+  pub left : (i : ℕ) → i < n → pos 0 ≤ℤ leftDepth bed t n i
+  pub right : (i : ℕ) → i < n → pos 0 ≤ℤ rightDepth bed t n i
 
 -- some value is too large: a depth at a face is over 262,144, or a discharge there over 8,388,608 either way
 pub record Excess (bed t : List ℤ) (n : ℕ) : Type 0 where
   pub cell : ℕ
   pub below : cell < n
-  pub large : (deepest <ℤ leftDepth bed t cell)
-      ⊎ ((deepest <ℤ rightDepth bed t cell)
-      ⊎ ((fullest <ℤ sizeZ (at t (4 * cell + 2) -ℤ at t (4 * cell + 3)))
-      ⊎ (fullest <ℤ sizeZ (at t (4 * cell + 2) +ℤ at t (4 * cell + 3)))))
+  pub large : (deepest <ℤ leftDepth bed t n cell)
+      ⊎ ((deepest <ℤ rightDepth bed t n cell)
+      ⊎ ((fullest <ℤ sizeZ (discharge t n cell -ℤ dischargeSlope t n cell))
+      ⊎ (fullest <ℤ sizeZ (discharge t n cell +ℤ dischargeSlope t n cell))))
 
 -- the finished stage one of a call, written as a table
 unfoldable pub stageTable : Lent → List ℤ
-stageTable l = flat (row (cellsOf l) (stageOne (reachOf l) (callOf l) (stateOf l)))
+stageTable l = tableOf (cellsOf l) (stageOne (reachOf l) (callOf l) (stateOf l))
 
--- the states that its two stages started from before E6: that after friction, which E6 left alone, and the finished stage one
+-- the states that its two stages started from before E6, when it was lent cells: that after friction, which E6 left alone, and the
+-- finished stage one
 unfoldable pub frictionTable : Lent → List ℤ
-frictionTable l = flat (row (cellsOf l) (rubbed (reachOf l) (callOf l) (stateOf l)))
+frictionTable l = tableOf (cellsOf l) (rubbed (reachOf l) (callOf l) (before-E7.stateOf l))
 
 unfoldable pub correctedStageTable : Lent → List ℤ
-correctedStageTable l = flat (row (cellsOf l) (before-E6.stageOne l))
+correctedStageTable l = tableOf (cellsOf l) (before-E6.stageOne l)
 
 -- at no face does a level fall short of the bed
 pub record NoShortfall (bed t : List ℤ) (n : ℕ) : Type 0 where
-  pub left : (i : ℕ) → i < n → before-E6.short (leftDepth bed t i) ≡ pos 0
-  pub right : (i : ℕ) → i < n → before-E6.short (rightDepth bed t i) ≡ pos 0
+  pub left : (i : ℕ) → i < n → before-E6.short (leftDepth bed t n i) ≡ pos 0
+  pub right : (i : ℕ) → i < n → before-E6.short (rightDepth bed t n i) ≡ pos 0
 
 -- the water: the sum of the mean depths
+unfoldable pub total : (ℕ → ℤ) → ℕ → ℤ
+total f zero = pos 0
+total f (suc k) = total f k +ℤ f k
+
 unfoldable pub water : List ℤ → List ℤ → ℕ → ℤ
-water bed t zero = pos 0
-water bed t (suc n) = water bed t n +ℤ meanDepth bed t n
+water bed t n = total (meanDepth bed t n) n
 
 -- ---- an end: its kind and its Q in their lists, and Q nought at an end of another kind than an inflow
 pub record Listed (e : End) : Type 0 where
@@ -86,12 +104,12 @@ brought l e = quotZ (pos (e .q) *ℤ pos (l .dt)) (pos (l .dx))
 
 -- ---- a lake at rest: no discharge; each cell dry, or flat with its level at least both its face beds; one level at each inner face
 pub record Lake (bed t : List ℤ) (n : ℕ) : Type 0 where
-  pub mean : (i : ℕ) → i < n → at t (4 * i + 2) ≡ pos 0
-  pub slope : (i : ℕ) → i < n → at t (4 * i + 3) ≡ pos 0
+  pub mean : (i : ℕ) → i < n → discharge t n i ≡ pos 0
+  pub slope : (i : ℕ) → i < n → dischargeSlope t n i ≡ pos 0
   pub cell : (i : ℕ) → i < n
-      → ((at t (4 * i) ≡ meanBed bed i) × (at t (4 * i + 1) ≡ bedSlope bed i))
-      ⊎ ((at t (4 * i + 1) ≡ pos 0) × (at bed i ≤ℤ at t (4 * i)) × (at bed (suc i) ≤ℤ at t (4 * i)))
-  pub level : (i : ℕ) → suc i < n → (at t (4 * i) +ℤ at t (4 * i + 1)) ≡ (at t (4 * suc i) -ℤ at t (4 * suc i + 1))
+      → ((level t n i ≡ meanBed bed i) × (levelSlope t n i ≡ bedSlope bed i))
+      ⊎ ((levelSlope t n i ≡ pos 0) × (at bed i ≤ℤ level t n i) × (at bed (suc i) ≤ℤ level t n i))
+  pub meet : (i : ℕ) → suc i < n → (level t n i +ℤ levelSlope t n i) ≡ (level t n (suc i) -ℤ levelSlope t n (suc i))
 
 -- ---- calls
 -- one call on a bed with n cells of length dx: what was lent and given besides, its own dry depth and ends too, and that the answer and the

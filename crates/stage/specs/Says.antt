@@ -6,7 +6,7 @@ use lib.ListN.{getD}
 use lib.IntN.{ℤ, pos}
 use Rattle.tables.specs.Some.{some}
 use Rattle.tables.specs.Rows.{Written, Filled}
-use Rattle.tables.specs.Cells.{asList, cellAt, seen, Holds}
+use Rattle.tables.specs.Cells.{asList, cellIn, seen, Holds}
 use Rattle.rules.specs.Reach.{Reach, Call, State}
 use Rattle.rules.specs.Stage.{faceAt, stage}
 use Rattle.rules.specs.Finishing.{finish}
@@ -39,7 +39,7 @@ bothChecks r c s = halfChecks r c (rubbed r c s) (stageOne r c s) ++ halfChecks 
 
 -- the cells of a lent state, in the first n places of a table; they are no wider than its numbers
 pub record LoadSays (n : ℕ) (state : List ℤ) (old new : List (List ℤ)) : Type 0 where
-  pub cells : Filled [] old new n (λ i. asList (cellAt state i))
+  pub cells : Filled [] old new n (λ i. asList (cellIn n state i))
   pub wide : Wides n (seen new)
 
 -- a table shows a state in the reach

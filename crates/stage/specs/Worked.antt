@@ -4,8 +4,7 @@ use mathlib.Core.List.{List, _++_}
 use Prim.Native.Nat.{ℕ, _<_}
 use lib.ListN.{getD}
 use lib.IntN.{ℤ, pos}
-use Rattle.tables.specs.Rows.{row}
-use Rattle.tables.specs.Cells.{flat, cellAt}
+use Rattle.tables.specs.Cells.{cellIn, tableOf}
 use Rattle.rules.specs.Reach.{Reach, Call, State}
 use Rattle.rules.specs.Step.{carry, next}
 use Rattle.rules.specs.Refusals.{verdict}
@@ -34,7 +33,7 @@ pub record Went (r : Reach) (c : Call) (s : State) (k : ℕ) (w v : ℤ) (new : 
   pub none : k ≡ 0
   pub left : w ≡ carry r c s 0
   pub right : v ≡ carry r c s (r .n)
-  pub cells : new ≡ flat (row (r .n) (next r c s))
+  pub cells : new ≡ tableOf (r .n) (next r c s)
   pub left-in : Volume w
   pub right-in : Volume v
 
@@ -45,7 +44,7 @@ Says r c s k (Done w v) old new = Went r c s k w v new
 -- the checks after 2, and the step on tables
 abbrev pub TablesSay : ToldReach → ToldCall → List ℤ → List ℕ → List ℤ → Worked → List ℤ → List ℤ → Type 0
 TablesSay reach call bed friction state w old new =
-    let r : Reach = reachIn reach bed in let c : Call = callOn call (λ i. pos (getD friction i 0)) in let s : State = cellAt state in
+    let r : Reach = reachIn reach bed in let c : Call = callOn call (λ i. pos (getD friction i 0)) in let s : State = cellIn (reach .n) state in
     Says r c s (verdict (readyChecks (call .dry) (reach .n) bed friction s ++ bothChecks r c s)) w old new
 
 -- what is lent and given

@@ -6,11 +6,19 @@ ghost use mathlib.Core.Path.{_≡_};
 ghost use Prim.Native.Nat.{_+_, _*_, _≤_, _<_};
 ghost use lib.ListN.{getD, length};
 ghost use lib.IntN.{pos};
-ghost use Rattle.tables.specs.Cells.{asList, cellAt};
+ghost use Rattle.tables.specs.Cells.{asList, cellIn};
 ghost use Rattle.rules.specs.Limits.{mostCells};
 ghost use Rattle.reach.specs.Ranges.{UpTo, widest, Wide};
 ghost use Rattle.stage.specs.Ranges.{Room};
 ghost use Rattle.stage.specs.Says.{LoadSays};
+
+// Where number m of cell i stands in a lent state of n cells: in column m.
+pub fn place(n: usize, m: usize, i: usize) -> usize
+    requires { ⌜ (n ≤ mostCells) × (m < 4) × (i < n) ⌝ }
+    ensures { λ r. ⌜ (r ≡ m * n + i) × (r < 4 * n) ⌝ }
+{
+    m * n + i
+}
 
 // The number at place j.
 fn lent_number(s: &[i32], j: usize) -> i64
@@ -20,16 +28,15 @@ fn lent_number(s: &[i32], j: usize) -> i64
     s[j] as i64
 }
 
-// Cell i of a lent state.
-fn cell_of(s: &[i32], i: usize) -> Cell
-    requires { ⌜ (i < mostCells) × (4 * i + 3 < length (now s)) ⌝ }
-    ensures { λ r. ⌜ (r ≡ asList (cellAt (now (s .entry)) i)) × Wide (cellAt (now (s .entry)) i) ⌝ }
+// Cell i of a lent state of n cells.
+fn cell_of(s: &[i32], n: usize, i: usize) -> Cell
+    requires { ⌜ (n ≤ mostCells) × (i < n) × (length (now s) ≡ 4 * n) ⌝ }
+    ensures { λ r. ⌜ (r ≡ asList (cellIn n (now (s .entry)) i)) × Wide (cellIn n (now (s .entry)) i) ⌝ }
 {
-    let at = 4 * i;
-    let e0 = lent_number(s, at);
-    let e1 = lent_number(s, at + 1);
-    let q0 = lent_number(s, at + 2);
-    let q1 = lent_number(s, at + 3);
+    let e0 = lent_number(s, place(n, 0, i));
+    let e1 = lent_number(s, place(n, 1, i));
+    let q0 = lent_number(s, place(n, 2, i));
+    let q1 = lent_number(s, place(n, 3, i));
     [e0, e1, q0, q1]
 }
 
@@ -41,7 +48,7 @@ pub fn load(state: &[i32], reach: Reach, t: &mut [Cell])
     let n = reach.n;
     let mut i: usize = 0;
     while i < n {
-        t[i] = cell_of(state, i);
+        t[i] = cell_of(state, n, i);
         i += 1;
     }
 }

@@ -16,8 +16,8 @@ pub enum Answer {
     Accepted(i64, i64),
 }
 
-// The step of 01: `state` is now, `next` where the new state goes, four numbers to a cell; n is the
-// length of `friction`, and `bed` has n + 1 values.
+// The step of 01: `state` is now, `next` where the new state goes, each in four columns of n: level means,
+// level slopes, discharge means, discharge slopes; n is the length of `friction`, and `bed` has n + 1 values.
 pub fn step(state: &[i32], next: &mut [i32], bed: &[i32], friction: &[u16], call: Given) -> Answer
     ensures { λ r. ⌜ Gives
         (stepOf (lentBy (now (state .entry)) (length (now (next .entry))) (now (bed .entry)) (now (friction .entry)) call))

@@ -5,7 +5,6 @@ use crate::draw::following;
 use crate::draw::least;
 use crate::draw::pick;
 use crate::fill::at;
-use crate::fill::upto;
 use crate::spoil::given;
 use crate::spoil::third;
 use std::num::wrapping_add_u64;
@@ -19,16 +18,16 @@ fn fourth(x: u64) -> u64 {
     following(third(x))
 }
 
-// The depth that the first cell shows at the left end; the greatest where that is out of range.
-fn depth_at_left(state: &[i32], bed: &[i32]) -> u64 {
-    let level = wrapping_sub_u64(at(state, 0), at(state, 1));
+// The depth that the first of n cells shows at the left end; the greatest where that is out of range.
+fn depth_at_left(state: &[i32], bed: &[i32], n: usize) -> u64 {
+    let level = wrapping_sub_u64(at(state, 0), at(state, n));
     least(wrapping_sub_u64(level, at(bed, 0)), 262144)
 }
 
-// The same of the last of n cells at the right end.
+// The same of the last cell at the right end.
 fn depth_at_right(state: &[i32], bed: &[i32], n: usize) -> u64 {
-    let k = 4 * upto(wrapping_sub_usize(n, 1), 1024);
-    let level = wrapping_add_u64(at(state, k), at(state, wrapping_add_usize(k, 1)));
+    let k = wrapping_sub_usize(n, 1);
+    let level = wrapping_add_u64(at(state, k), at(state, wrapping_add_usize(n, k)));
     least(wrapping_sub_u64(level, at(bed, n)), 262144)
 }
 
@@ -55,10 +54,10 @@ fn q_at(kind: u64, h: u64, x: u64) -> u64 {
     }
 }
 
-pub fn left_end(x: u64, state: &[i32], bed: &[i32]) -> End {
+pub fn left_end(x: u64, n: usize, state: &[i32], bed: &[i32]) -> End {
     let y = fourth(x);
     let kind = (y >> 8) % 3;
-    let q = q_at(kind, depth_at_left(state, bed), following(y));
+    let q = q_at(kind, depth_at_left(state, bed, n), following(y));
     End {
         kind: given(4, kind, x),
         q: given(6, q, x),

@@ -44,12 +44,15 @@ pub fn found(bed: &[i32], i: usize) -> u64 {
     at(bed, i) >> 1
 }
 
-pub fn put_cell(t: &mut [i32], i: usize, c: Cell) {
-    let at = 4 * upto(i, 1028);
+// Cell i of n, a number in each of the four columns. An i beyond the table is so in every column, and
+// nothing of its cell is put.
+pub fn put_cell(t: &mut [i32], n: usize, i: usize, c: Cell) {
+    let m = upto(n, 1024);
+    let at = upto(i, 4112);
     put(t, at, c.e0);
-    put(t, at + 1, c.e1);
-    put(t, at + 2, c.q0);
-    put(t, at + 3, c.q1);
+    put(t, m + at, c.e1);
+    put(t, 2 * m + at, c.q0);
+    put(t, 3 * m + at, c.q1);
 }
 
 pub fn fill_bed(bed: &mut [i32], r: u64) {
@@ -95,7 +98,7 @@ pub fn fill_over(state: &mut [i32], bed: &[i32], r: u64, tries: u64) {
     let mut i: usize = 0;
     while i < n {
         x = following(x);
-        put_cell(state, i, drawn_at(r, bed, i, x));
+        put_cell(state, n, i, drawn_at(r, bed, i, x));
         i += 1;
     }
 }

@@ -145,7 +145,7 @@ fn made(
     bed: &[i32],
     friction: &[u16],
 ) -> Answer {
-    let left = left_end(x, state, bed);
+    let left = left_end(x, cells(r), state, bed);
     let right = right_end(x, cells(r), state, bed);
     let call = Given {
         dx: given(0, dx(r), x),

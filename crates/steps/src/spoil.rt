@@ -243,10 +243,11 @@ fn spoilt_cell(dry: u64, zl: u64, zr: u64, x: u64) -> Cell {
 }
 
 fn spoil_over(state: &mut [i32], bed: &[i32], r: u64, x: u64) {
-    let k = place(STATE, wrapping_sub_usize(cells(r), 1), x);
+    let n = cells(r);
+    let k = place(STATE, wrapping_sub_usize(n, 1), x);
     let zl = found(bed, k);
     let zr = found(bed, wrapping_add_usize(k, 1));
-    put_cell(state, k, spoilt_cell(dry(r), zl, zr, second(x)));
+    put_cell(state, n, k, spoilt_cell(dry(r), zl, zr, second(x)));
 }
 
 // The state of a call: of another reach where no tries are left, and with its fault.

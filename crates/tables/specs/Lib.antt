@@ -1,6 +1,7 @@
--- Lists as tables: some entry with a property, rows made from an index, four numbers to a cell and back, what a loop has written so far.
+-- Lists as tables: some entry with a property, rows made from an index, columns of numbers, cells and back, what a loop has written so far.
 pub mod Some
 pub mod Scan
 pub mod Rows
 pub mod Filling
+pub mod Columns
 pub mod Cells

@@ -3,8 +3,8 @@
 use mathlib.Core.Path.{_≡_, refl, _∙_}
 use Rattle.rules.specs.Refusals.{any}
 use Rattle.rules.specs.Reach.{Reach, Call}
-use Rattle.rules.specs.Lent as lent
 use Rattle.rules.specs.Lent.{reachOf, callOf}
+use Rattle.before.specs.E7 as E7
 use Rattle.before.specs.E4 as E4
 use Rattle.before.specs.E4.{with-no-inflow}
 use Rattle.before.specs.E3.{Lent, given, badCall, stepOf}
@@ -24,6 +24,6 @@ module _ (a : Lent) (f : a .left ≡ 2 → ⊥) (g : a .right ≡ 2 → ⊥) whe
   four-listed = refl
 
   -- the same number, or the same table and volumes
-  pub given-four : lent.stepOf (with-no-inflow (given 4 a)) ≡ stepOf a
+  pub given-four : E7.stepOf (with-no-inflow (given 4 a)) ≡ stepOf a
   given-four = let b = given 4 a in
       as-before badCall E4.parts (with-no-inflow b) (four-listed ∙ bad-kinds b f g) (as-in-force b f g)

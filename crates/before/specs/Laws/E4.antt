@@ -12,8 +12,8 @@ use Rattle.rules.specs.Limits.{longestCell, longestStep, largestJump}
 use Rattle.rules.specs.Ends as ends
 use Rattle.rules.specs.Refusals.{any, outside, badDry, badEnd, fastInflow}
 use Rattle.rules.specs.Refusals as checks
-use Rattle.rules.specs.Lent as lent
 use Rattle.rules.specs.Lent.{reachOf, callOf}
+use Rattle.before.specs.E7 as E7
 use Rattle.before.specs.E4.{leftEnd, rightEnd, badCall, parts, Lent, with-no-inflow, stepOf}
 use Rattle.before.specs.Laws.Parts.{AsInForce, as-before}
 use Rattle.before.specs.Laws.E6 as E6
@@ -52,5 +52,5 @@ module _ (a : Lent) (f : a .left ≡ 2 → ⊥) (g : a .right ≡ 2 → ⊥) whe
       }
 
   -- the same number, or the same table and volumes
-  pub no-inflow : lent.stepOf (with-no-inflow a) ≡ stepOf a
+  pub no-inflow : E7.stepOf (with-no-inflow a) ≡ stepOf a
   no-inflow = as-before badCall parts (with-no-inflow a) bad-kinds as-in-force

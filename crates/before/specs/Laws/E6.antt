@@ -13,10 +13,11 @@ use Rattle.rules.specs.Reach.{Reach, Call, Bed, under, ql, qr, hl, hr}
 use Rattle.rules.specs.Stage as rules
 use Rattle.rules.specs.Step.{rubbed}
 use Rattle.rules.specs.Refusals.{badCall}
-use Rattle.rules.specs.Lent as lent
-use Rattle.rules.specs.Lent.{Lent, cellsOf, reachOf, callOf, stateOf}
+use Rattle.rules.specs.Lent.{Lent, cellsOf, reachOf, callOf}
 use Rattle.rules.specs.Laws.Accept.{Clear}
 use Rattle.rules.specs.Laws.Positive.{Nonneg, rubbed-wet}
+use Rattle.before.specs.E7 as E7
+use Rattle.before.specs.E7.{stateOf}
 use Rattle.before.specs.E6.{short, depth, ground, sideL, sideR, push, update, parts, stepOf, checksToFive, checksOfOne, stageOne}
 use Rattle.before.specs.Laws.Parts.{AsInForce, wet-now, wet-one, as-before}
 
@@ -75,5 +76,5 @@ as-in-force r c = record {
 }
 
 -- ---- and every call is answered as it was with it: the same number, or the same table and volumes
-pub uncorrected : (a : Lent) → lent.stepOf a ≡ stepOf a
+pub uncorrected : (a : Lent) → E7.stepOf a ≡ stepOf a
 uncorrected a = as-before badCall parts a refl (as-in-force (reachOf a) (callOf a))

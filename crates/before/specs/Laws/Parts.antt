@@ -1,4 +1,4 @@
--- Parts that do in a call what the rules in force do, on every cell whose face depths are not below nought, make the step in force:
+-- Parts that do in a call what the rules in force do, on every cell whose face depths are not below nought, make the step before E7:
 -- each stage starts from a state that passed check 5 or 8, so no other cell is met.
 -- Assumes nothing.
 use mathlib.Core.Path.{_≡_, sym, _∙_, ap, ap₂}
@@ -14,7 +14,7 @@ use lib.Signed.{ltZ}
 use Rattle.whole.specs.Flags.{by}
 use Rattle.tables.specs.Some.{some, some-same}
 use Rattle.tables.specs.Rows.{row-same}
-use Rattle.tables.specs.Cells.{Cell, flat}
+use Rattle.tables.specs.Cells.{Cell}
 use Rattle.rules.specs.Face.{Side, Flux}
 use Rattle.rules.specs.Shown.{crossRight, crossAt, volume}
 use Rattle.rules.specs.Ends.{leftEnd, rightEnd}
@@ -23,7 +23,7 @@ use Rattle.rules.specs.Stage.{atLeft, atRight, faceAt, update, stage}
 use Rattle.rules.specs.Step.{rubbed, stageOne, half, carry, joinedCell, joined, next}
 use Rattle.rules.specs.Refusals.{badCall, badBed, badRough, off, fastFriction, fastSide, fastInflow, fastFace, fastGauss}
 use Rattle.rules.specs.Refusals.{tooLong, Check, chk, verdict, stageChecks, early, checks, refusal}
-use Rattle.rules.specs.Lent.{Lent, cellsOf, reachOf, callOf, stateOf, misfits, number, filled, crossed, Outcome, refused, accepted, stepOf}
+use Rattle.rules.specs.Lent.{Lent, cellsOf, reachOf, callOf, misfits, Outcome, refused, accepted}
 use Rattle.rules.specs.Laws.Shown.{last, at-same}
 use Rattle.rules.specs.Laws.Agree.{Same, faceAt-same, stage-same, finish-same, off-same, stageChecks-same}
 use Rattle.rules.specs.Laws.Accept.{Clear, passed}
@@ -31,6 +31,7 @@ use Rattle.rules.specs.Laws.Verdicts.{clear-at, verdict-after}
 use Rattle.rules.specs.Laws.Lengths.{fitted}
 use Rattle.rules.specs.Laws.Positive.{Nonneg, Wet, rubbed-wet}
 use Rattle.rules.specs.Laws.Runs.{in-range}
+use Rattle.before.specs.E7.{flat, stateOf, number, stepOf}
 use Rattle.before.specs.Parts.{Parts}
 use Rattle.before.specs.Parts as before
 
@@ -186,7 +187,7 @@ module _ (bad : Reach → Call → Bool) (p : Parts) (a : Lent) (call : bad (rea
       ∷ one r c s ++ two r c s))
 
   pub as-before : stepOf a ≡ before.stepBy bad p a
-  unfolding before.stepBy stepOf filled crossed before.number before.checksToFive before.checksOfOne before.stageChecks
+  unfolding before.stepBy stepOf before.number before.checksToFive before.checksOfOne before.stageChecks
   as-before = sym (either (before.number bad p a) (number a) _ _ number-same (λ z.
       let five = passed 0 (before.checksToFive bad a) (before.checksOfOne p r c s ++ before.checksOfTwo p r c s) tt z in
       let eight = passed 0 (before.checksOfOne p r c s) (before.checksOfTwo p r c s) tt (five .1) in

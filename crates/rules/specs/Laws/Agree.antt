@@ -2,7 +2,7 @@
 -- Assumes nothing.
 use mathlib.Core.Path.{_≡_, refl, _∙_, ap, ap₂}
 use mathlib.Core.Bool.{not, cond, _&&_, _||_}
-use mathlib.Core.List.{[], _∷_}
+use mathlib.Core.List.{[], _∷_, _++_}
 use Prim.Native.Nat.{ℕ, zero, suc, _<_}
 use native.Mathlib.Omega.{arith}
 use lib.Dec.{eqb}
@@ -14,10 +14,13 @@ use Rattle.tables.specs.Some.{some, some-same}
 use Rattle.tables.specs.Cells.{Cell}
 use Rattle.rules.specs.Face.{Side, Flux}
 use Rattle.rules.specs.Reach.{Reach, Call, State, el, er, under, shallow, sideL, sideR}
+use Rattle.rules.specs.Shown.{volume}
 use Rattle.rules.specs.Stage.{atLeft, atRight, shown, faceRight, faceAt, update, stage}
 use Rattle.rules.specs.Finishing.{parted, marked, shallowAt, shallowLeft, shallowRight, spared, isLimited}
 use Rattle.rules.specs.Finishing.{minmod, withRight, withLeft, limited, limit, cut, dried, finish}
-use Rattle.rules.specs.Refusals.{offCell, off, fastSide, fastInflow, fastFace, fastPoints, fastGauss, tooLong, chk, stageChecks}
+use Rattle.rules.specs.Step.{rubbed, stageOne, half, carry, joinedCell, joined, next}
+use Rattle.rules.specs.Refusals.{badCall, badBed, badRough, offCell, off, fastFriction, fastSide, fastInflow, fastFace}
+use Rattle.rules.specs.Refusals.{fastPoints, fastGauss, tooLong, chk, verdict, stageChecks, early, checks, refusal}
 use Rattle.rules.specs.Laws.Shown.{inside, last, right-same, at-same}
 
 abbrev pub Same : Reach → State → State → Type 0
@@ -134,3 +137,48 @@ module _ (r : Reach) (c : Call) (o : 0 < r .n) (s t : State) (e : Same r s t) wh
   pub stageChecks-same : stageChecks r c s ≡ stageChecks r c t
   unfolding stageChecks
   stageChecks-same = λ k. chk 6 (fastFace-same k) ∷ chk 6 (fastGauss-same k) ∷ chk 7 (tooLong-same k) ∷ []
+
+-- ---- the step
+module _ (r : Reach) (c : Call) (s t : State) (e : Same r s t) where
+  rubbed-same : Same r (rubbed r c s) (rubbed r c t)
+  unfolding rubbed
+  rubbed-same i l = ap (λ (x : Cell). rubbed r c (λ j. x) i) (e i l)
+
+  one-same : Same r (stageOne r c s) (stageOne r c t)
+  unfolding stageOne
+  one-same = finish-same r c (stage r c (rubbed r c s)) (stage r c (rubbed r c t))
+      (stage-same r c (rubbed r c s) (rubbed r c t) rubbed-same)
+
+  pub carry-same : 0 < r .n → (i : ℕ) → i < suc (r .n) → carry r c s i ≡ carry r c t i
+  unfolding carry
+  carry-same o i l = ap₂ (λ (f g : Flux). half (volume (r .dx) (c .dt) f) (volume (r .dx) (c .dt) g))
+      (faceAt-same r c (rubbed r c s) (rubbed r c t) rubbed-same o i l)
+      (faceAt-same r c (stageOne r c s) (stageOne r c t) one-same o i l)
+
+  joined-same : Same r (joined r c s) (joined r c t)
+  unfolding joined
+  joined-same i l = let o : 0 < r .n = omega arith in λ k.
+      joinedCell (rubbed-same i l k) (stage-same r c (stageOne r c s) (stageOne r c t) one-same i l k)
+      (carry-same o i (omega arith) k) (carry-same o (suc i) (omega arith) k)
+
+  pub next-same : Same r (next r c s) (next r c t)
+  unfolding next
+  next-same = finish-same r c (joined r c s) (joined r c t) joined-same
+
+  fastFriction-same : some (fastFriction r c s) (r .n) ≡ some (fastFriction r c t) (r .n)
+  unfolding fastFriction
+  fastFriction-same = some-same (fastFriction r c s) (fastFriction r c t) (r .n)
+      (λ i l. ap (λ (x : Cell). fastFriction r c (λ j. x) i) (e i l))
+
+  pub refusal-same : 0 < r .n → refusal r c s ≡ refusal r c t
+  unfolding refusal checks early
+  refusal-same o = λ k. verdict (
+      (chk 2 (badCall r c)
+      ∷ chk 3 (some (λ i. badBed (r .bed i)) (suc (r .n)))
+      ∷ chk 4 (some (λ i. badRough (c .rough i)) (r .n))
+      ∷ chk 5 (off-same r c o s t e k)
+      ∷ chk 6 (fastFriction-same k)
+      ∷ stageChecks-same r c o (rubbed r c s) (rubbed r c t) rubbed-same k)
+      ++ chk 8 (off-same r c o (stageOne r c s) (stageOne r c t) one-same k)
+      ∷ stageChecks-same r c o (stageOne r c s) (stageOne r c t) one-same k
+      ++ chk 8 (off-same r c o (next r c s) (next r c t) next-same k) ∷ [])

@@ -10,8 +10,8 @@ use lib.IntN.{ℤ, pos}
 use lib.Signed.{_≤ℤ_}
 use Rattle.whole.specs.Parts.{b-up}
 use Rattle.tables.specs.Some.{some, some-none}
-use Rattle.tables.specs.Rows.{Filled, row, row-same}
-use Rattle.tables.specs.Cells.{asCell, asList, cellAt, flat, seen, Holds}
+use Rattle.tables.specs.Rows.{Filled}
+use Rattle.tables.specs.Cells.{asCell, asList, cellIn, tableOf, table-same, seen, Holds}
 use Rattle.rules.specs.Limits.{leastDry}
 use Rattle.rules.specs.Reach.{Reach, Call, State}
 use Rattle.rules.specs.Step.{rubbedCell, rubbed, next}
@@ -38,7 +38,7 @@ end = 7
 -- the state lent for a step, as the table a has it, and the number k of the checks before the stages
 pub record Loaded (reach : ToldReach) (call : ToldCall) (bed : List ℤ) (friction : List ℕ) (state : List ℤ) (a : List (List ℤ))
     (k : ℕ) : Type 0 where
-  pub cells : Holds a (reach .n) (cellAt state)
+  pub cells : Holds a (reach .n) (cellIn (reach .n) state)
   pub number : k ≡ verdict (readyChecks (call .dry) (reach .n) bed friction (seen a))
 
 module _
@@ -57,7 +57,7 @@ module _
   c = callOn call rough
 
   abbrev s : State
-  s = cellAt state
+  s = cellIn n state
 
   number : k ≡ verdict (readyChecks (call .dry) n bed friction s)
   number = lent .number ∙ ap verdict (ready-same (call .dry) n bed friction (seen a) s (λ i l. ap asCell (lent .cells i l)))
@@ -113,13 +113,13 @@ module _
             let k = cell-sizes (record { ground = loaded-ranged i l .ground; range = some-none (off r (next r c s)) n in-range i l }) in
             subst Fits (sym (shown i l)) (record { e0 = k .e0; e1 = b-up 1310720 (k .e1) tt; q0 = k .q0; q1 = k .q1 })
 
-        pub both-done : (old : List ℤ) {new : List ℤ} {w v : ℤ} → new ≡ flat (row n (seen b)) → w ≡ volumeAt f x 0 → v ≡ volumeAt f x n
+        pub both-done : (old : List ℤ) {new : List ℤ} {w v : ℤ} → new ≡ tableOf n (seen b) → w ≡ volumeAt f x 0 → v ≡ volumeAt f x n
             → TablesSay reach call bed friction state (Done w v) old new
         both-done old e p q = let d = both .done y in record {
           none = sym both-number ∙ y;
           left = p ∙ volume-is d 0 (omega arith);
           right = q ∙ volume-is d n (omega arith);
-          cells = e ∙ ap flat (row-same n (seen b) (next r c s) shown);
+          cells = e ∙ table-same n (seen b) (next r c s) shown;
           left-in = subst Volume (sym p) (volume-in 0 (omega arith));
           right-in = subst Volume (sym q) (volume-in n (omega arith));
         }

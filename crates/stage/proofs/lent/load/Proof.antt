@@ -10,13 +10,13 @@ use denote.Ref.{now}
 use lib.ListN.{length}
 use lib.IntN.{ℤ}
 use Rattle.tables.specs.Rows.{Filled, filled-none, filled-more, filled-all}
-use Rattle.tables.specs.Cells.{asCell, asList, cellAt}
+use Rattle.tables.specs.Cells.{asCell, asList, cellIn}
 use Rattle.reach.specs.Ranges.{Wide, Wides}
 use Rattle.stage.proofs.lent.load.Statement.{statement}
 use Rattle.stage.proofs.lent.load.Tie as tie
 
 abbrev Inv-loop : tie.InvT-loop
-Inv-loop state t₀ n i₀ t i = (i ≤ n) × Filled [] t₀ t i (λ k. asList (cellAt state k)) × Wides i (cellAt state)
+Inv-loop state t₀ n i₀ t i = (i ≤ n) × Filled [] t₀ t i (λ k. asList (cellIn n state k)) × Wides i (cellIn n state)
 
 abbrev μ-loop : tie.MeasureT-loop
 μ-loop state t₀ n i₀ t i = n - i
@@ -30,7 +30,7 @@ loop-again c =
     let room : i < length (l .loop .t) = omega (arith, l .loop .inv .1 .size) in (
       omega arith,
       filled-more [] (now (s .args .t)) (l .loop .t) i _ _ room (l .loop .inv .1) (c .cell-of .ensures .0),
-      below-more (λ k. Wide (cellAt (now (s .args .state)) k)) i (l .loop .inv .2) (c .cell-of .ensures .1),
+      below-more (λ k. Wide (cellIn (s .args .reach .n) (now (s .args .state)) k)) i (l .loop .inv .2) (c .cell-of .ensures .1),
     )
 
 returns : tie.Need-returns Inv-loop μ-loop

@@ -1,24 +1,24 @@
-use mathlib.Core.Path.{_≡_, refl, sym, ap, subst, _∙_}
+use mathlib.Core.Path.{_≡_, sym, ap, subst, _∙_}
 use mathlib.Core.List.{List}
-use Prim.Native.Nat.{_+_, _-_, _*_, _≤_, _<_}
-use native.Mathlib.Nat.{not-suc-le-zero}
+use Prim.Native.Nat.{_+_, _-_, _*_, _≤_}
 use native.Mathlib.Omega.{arith}
 use lib.ListN.{length}
 use lib.IntN.{ℤ}
 use denote.Ref.{now}
-use Rattle.tables.specs.Cells.{seen, putCell, length-put, Stores, stores-more, flat-is}
+use Rattle.tables.specs.Columns.{Stores, stores-none}
+use Rattle.tables.specs.Cells.{seen, columnsOf, putCell, length-put-cell, cells-more, cells-all}
 use borrow.Author.Needs.{needs}
 use Rattle.stage.proofs.store.store.Statement.{statement}
 use Rattle.stage.proofs.store.store.Tie as tie
 
 abbrev Inv-loop : tie.InvT-loop
-Inv-loop y n s₀ i₀ s i = (i ≤ n) × (length s ≡ 4 * n) × Stores s i (seen y)
+Inv-loop y n s₀ i₀ s i = (i ≤ n) × (length s ≡ 4 * n) × Stores n (columnsOf (seen y)) s i
 
 abbrev μ-loop : tie.MeasureT-loop
 μ-loop y n s₀ i₀ s i = n - i
 
 loop-holds : tie.Need-loop-holds Inv-loop μ-loop
-loop-holds c = (omega arith, c .pre .2, (λ k h. absurd (not-suc-le-zero h)))
+loop-holds c = (omega arith, c .pre .2, stores-none (c .args .n) (columnsOf (seen (now (c .args .y)))) (now (c .args .next)))
 
 mul-put-cell : tie.Need-mul-put-cell Inv-loop μ-loop
 mul-put-cell c = search needs
@@ -30,7 +30,7 @@ put-cell-requires : tie.Need-put-cell-requires Inv-loop μ-loop
 put-cell-requires c κs =
     let l = c .before .before .before .loop in
     let s = c .before .before .before .before in
-    (omega arith, omega arith, s .pre .3 (l .i) (omega arith))
+    (s .pre .1, omega arith, l .inv .1, s .pre .3 (l .i) (omega arith))
 
 add-i : tie.Need-add-i Inv-loop μ-loop
 add-i c = search needs
@@ -41,13 +41,12 @@ loop-less c = search needs
 loop-again : tie.Need-loop-again Inv-loop μ-loop
 loop-again c =
     let b = c .before in let l = b .before .before .before .before .loop in let s = b .before .before .before .before .before in
-    let room : 4 * (l .i) + 3 < length (l .next) = omega arith in
-    let x = seen (now (s .args .y)) (l .i) in
-    let e : b .put-cell .last .0 ≡ putCell (l .next) (l .i) x = b .put-cell .ensures in (
+    let n = s .args .n in let y = seen (now (s .args .y)) in
+    let e : b .put-cell .last .0 ≡ putCell n (l .next) (l .i) (y (l .i)) = b .put-cell .ensures in (
       omega arith,
-      ap length e ∙ length-put (l .next) (l .i) x ∙ l .inv .1,
-      subst (λ (t : List ℤ). Stores t (l .i + 1) (seen (now (s .args .y)))) (sym e)
-          (stores-more (l .next) (l .i) (seen (now (s .args .y))) x room (l .inv .2) refl),
+      ap length e ∙ length-put-cell n (l .next) (l .i) (y (l .i)) ∙ l .inv .1,
+      subst (λ (t : List ℤ). Stores n (columnsOf y) t (l .i + 1)) (sym e)
+          (cells-more n y (l .next) (l .i) (omega arith) (l .inv .1) (l .inv .2)),
     )
 
 same-length : tie.Need-same-length Inv-loop μ-loop
@@ -57,7 +56,7 @@ returns : tie.Need-returns Inv-loop μ-loop
 returns c =
     let l = c .before .loop in
     let s = c .before .before in
-    flat-is (s .args .n) (l .next) (seen (now (s .args .y))) (l .inv .1) (λ k h. l .inv .2 k (omega arith))
+    cells-all (s .args .n) (seen (now (s .args .y))) (l .next) (l .inv .1) (λ m k h b. l .inv .2 m k h (omega arith))
 
 pub store-spec : {M : Type 1} → statement M
 store-spec =

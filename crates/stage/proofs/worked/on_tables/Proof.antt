@@ -6,7 +6,7 @@ use lib.ListN.{getD}
 use lib.IntN.{ℤ, pos}
 use Prim.Native.Nat.{ℕ}
 use Rattle.whole.specs.Machine.{back64}
-use Rattle.tables.specs.Cells.{cellAt}
+use Rattle.tables.specs.Cells.{cellIn}
 use Rattle.rules.specs.Reach.{Reach, Call, State}
 use Rattle.reach.specs.Told.{reachIn, callOn}
 use Rattle.stage.specs.Says.{StepSays}
@@ -82,7 +82,7 @@ module _ (m : tie.After-both-stages) where
   call = callOn (start .args .call) rough
 
   abbrev state : State
-  state = cellAt (now (start .args .state))
+  state = cellIn (start .args .reach .n) (now (start .args .state))
 
   -- of the tables that both stages are lent, those of the faces and of the end state
   both : let tables = m .both-stages .last .1 .1 .1 in let faces = tables .1 .1 .1 in let end = faces .1 .1 .1 in
