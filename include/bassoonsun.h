@@ -35,11 +35,13 @@ extern "C" {
  *
  * The number of cells n is friction_len, 1 to 1024. Cell i lies between faces i and i + 1.
  *
- *   now       4n numbers, the present state. Cell i has at 4i the mean of the level, then its
- *             slope, the mean of the discharge, and its slope. A cell shows mean - slope at its
- *             left face and mean + slope at its right face. The depth at a face is the level
- *             there less the bed. Face depths are 0 to 262144 (64 m), face discharges within
- *             8388608 of nought (2048 m2/s).
+ *   now       4n numbers, the present state, in four columns of n: the means of the level, now[0]
+ *             to now[n - 1]; its slopes, from now[n] on; the means of the discharge, from now[2n]
+ *             on; and its slopes, from now[3n] on. So now is the curve of the levels and now + 2n
+ *             that of the discharges, a value for each cell. Cell i, which has now[i], now[n + i],
+ *             now[2n + i] and now[3n + i], shows mean - slope at its left face and mean + slope at
+ *             its right face. The depth at a face is the level there less the bed. Face depths are
+ *             0 to 262144 (64 m), face discharges within 8388608 of nought (2048 m2/s).
  *   next      4n numbers, where the new state goes, laid out like now
  *   bed       n + 1 numbers, the bed at the faces: 0 to 1048576 (256 m), each even
  *   friction  n Manning values in 1/1000, 0 to 200

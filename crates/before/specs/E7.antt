@@ -1,4 +1,5 @@
--- The step before E7: a lent state had its cells one after another, the four numbers of each together. All else is as in the rules in force.
+-- The step before E7: a lent state had its cells one after another, the four numbers of each together.
+-- All else is as in the rules in force.
 use mathlib.Core.Path.{_≡_}
 use mathlib.Core.Bool.{cond}
 use mathlib.Core.List.{List, [], _∷_}

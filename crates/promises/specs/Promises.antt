@@ -151,8 +151,8 @@ pub deep-as-before : (r : Reach) (c : Call) (s : State) → ((i : ℕ) → i < r
 deep-as-before r c s d i l = deep-finish r c s d i l
 
 -- ---- what E3 changed: the dry depth is each call's own
--- given 4, and no inflow, a call is answered as before, when it gave neither: the same number, or the same table and volumes (a table
--- was cell by cell then, and is put into columns here: E7, below)
+-- given 4, and no inflow, a call is answered as before, when it gave neither: the same number, or the same table, in columns, and the same
+-- volumes (before E7, below, a table was cell by cell)
 pub four-as-before : (l : before-E3.Lent) → (l .left ≡ 2 → ⊥) → (l .right ≡ 2 → ⊥) → let m = with-no-inflow (before-E3.given 4 l) in
     stepOf (lentInColumns m) ≡ givenInColumns (cellsOf m) (before-E3.stepOf l)
 four-as-before l f g = let m = with-no-inflow (before-E3.given 4 l) in in-columns m ∙ ap (givenInColumns (cellsOf m)) (given-four l f g)
@@ -164,7 +164,8 @@ pub shallow-calm : (l : Lent) (w v : ℤ) (old new : List ℤ) → Gives (stepOf
 shallow-calm l w v old new g i m d = written-calm l (taken l w v old new g .table) i m d
 
 -- ---- what E4 changed: an end may be an inflow, which brings in a given discharge Q
--- where neither is one, a call is answered as before, when an end had a kind alone: the same number, or the same table and volumes
+-- where neither is one, a call is answered as before, when an end had a kind alone: the same number, or the same table, in columns, and
+-- volumes
 pub no-inflow-as-before : (l : before-E4.Lent) → (l .left ≡ 2 → ⊥) → (l .right ≡ 2 → ⊥) → let m = with-no-inflow l in
     stepOf (lentInColumns m) ≡ givenInColumns (cellsOf m) (before-E4.stepOf l)
 no-inflow-as-before l f g = let m = with-no-inflow l in in-columns m ∙ ap (givenInColumns (cellsOf m)) (no-inflow l f g)
@@ -201,7 +202,8 @@ pub no-shortfall-two : (l : Lent) → Clear (before-E6.checksOfOne l) → NoShor
 unfolding correctedStageTable
 no-shortfall-two l q = none-short-table (l .bed) (cellsOf l) (l .dx) (before-E6.stageOne l) (none-short-two l q)
 
--- so every call, whatever it is lent, is answered as it was with the correction: the same number, or the same table and volumes
+-- so every call, whatever it is lent, is answered as it was with the correction: the same number, or the same table, in columns, and
+-- volumes
 pub uncorrected-as-before : (l : Lent) → stepOf (lentInColumns l) ≡ givenInColumns (cellsOf l) (before-E6.stepOf l)
 uncorrected-as-before l = in-columns l ∙ ap (givenInColumns (cellsOf l)) (uncorrected l)
 

@@ -44,7 +44,8 @@ Says r c s k (Done w v) old new = Went r c s k w v new
 -- the checks after 2, and the step on tables
 abbrev pub TablesSay : ToldReach → ToldCall → List ℤ → List ℕ → List ℤ → Worked → List ℤ → List ℤ → Type 0
 TablesSay reach call bed friction state w old new =
-    let r : Reach = reachIn reach bed in let c : Call = callOn call (λ i. pos (getD friction i 0)) in let s : State = cellIn (reach .n) state in
+    let r : Reach = reachIn reach bed in let c : Call = callOn call (λ i. pos (getD friction i 0)) in
+    let s : State = cellIn (reach .n) state in
     Says r c s (verdict (readyChecks (call .dry) (reach .n) bed friction s ++ bothChecks r c s)) w old new
 
 -- what is lent and given

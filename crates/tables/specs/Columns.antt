@@ -29,8 +29,8 @@ module _ (n : ℕ) where
   unfolding columns
   length-columns [] = let e : 0 ≡ 0 * n = omega arith in e
   length-columns (f ∷ fs) =
-      length-append (row n f) (columns n fs)
-      ∙ (let a = length-row n f in let b = length-columns fs in let e : suc (length fs) * n ≡ n + length fs * n = omega arith in omega arith)
+      let e : suc (length fs) * n ≡ n + length fs * n = omega arith in
+      length-append (row n f) (columns n fs) ∙ omega (arith, length-row n f, length-columns fs)
 
   -- the table shows its columns again
   pub columns-show : (fs : List (ℕ → ℤ)) (m k : ℕ) → m < length fs → k < n → inColumn (columns n fs) m k ≡ column fs m k
@@ -110,10 +110,9 @@ module _ (n : ℕ) where
         ∙ kept (suc m) (set t (m * n + i) v) vs m i inside (λ y. omega arith)
         ∙ getD-set-same t (m * n + i) v (pos 0) (let s : (suc (length vs) + m) * n ≡ n + m * n + length vs * n = omega arith in omega arith)
     put-same m t (v ∷ vs) r (suc a) h =
-        let e : suc a + m ≡ a + suc m = omega arith in
+        let e : suc a + m ≡ a + suc m = omega arith in let w : (suc (length vs) + m) * n ≡ (length vs + suc m) * n = omega arith in
         ap (λ (b : ℕ). inColumn (putFrom (suc m) (set t (m * n + i) v) i vs) b i) e
-        ∙ put-same (suc m) (set t (m * n + i) v) vs
-        (let s : (suc (length vs) + m) * n ≡ (length vs + suc m) * n = omega arith in omega (arith, length-set t (m * n + i) v)) a (omega arith)
+        ∙ put-same (suc m) (set t (m * n + i) v) vs (omega (arith, length-set t (m * n + i) v)) a (omega arith)
 
 -- ---- what a loop has stored so far: below i the table t has the numbers of some columns
 abbrev pub Stores : ℕ → List (ℕ → ℤ) → List ℤ → ℕ → Type 0

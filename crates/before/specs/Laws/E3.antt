@@ -1,4 +1,4 @@
--- Given the dry depth 4, and no inflow, a call is answered as it was before E3, when it gave neither.
+-- Given the dry depth 4, and no inflow, a call is answered before E7 as it was before E3, when it gave neither.
 -- Assumes nothing.
 use mathlib.Core.Path.{_≡_, refl, _∙_}
 use Rattle.rules.specs.Refusals.{any}

@@ -1,4 +1,4 @@
--- Where neither end is an inflow, a call is answered as it was before E4, when an end had no Q.
+-- Where neither end is an inflow, a call is answered before E7 as it was before E4, when an end had no Q.
 -- Assumes nothing.
 use mathlib.Core.Path.{_≡_, refl, sym}
 use mathlib.Core.Bool.{false, _||_}

@@ -75,6 +75,6 @@ as-in-force r c = record {
   };
 }
 
--- ---- and every call is answered as it was with it: the same number, or the same table and volumes
+-- ---- and every call is answered before E7 as it was with it: the same number, or the same table and volumes
 pub uncorrected : (a : Lent) → E7.stepOf a ≡ stepOf a
 uncorrected a = as-before badCall parts a refl (as-in-force (reachOf a) (callOf a))
