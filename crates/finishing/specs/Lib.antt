@@ -4,6 +4,6 @@ pub mod Unfit
 pub mod FinishedCell
 pub mod FinishSays
 pub mod InTable
-pub mod Column
+pub mod NumberOf
 pub mod Depths
 pub mod Laws

@@ -17,7 +17,7 @@ ghost use Rattle.rules.specs.Refusals as refusals;
 ghost use Rattle.reach.specs.Told.{reachIn, callOn};
 ghost use Rattle.reach.specs.Ranges.{Wide};
 ghost use Rattle.finishing.specs.InTable.{InTable, InReach, Neighbours};
-ghost use Rattle.finishing.specs.Column.{column};
+ghost use Rattle.finishing.specs.NumberOf.{numberOf};
 
 // The one nearest nought if both are above or both below nought, else 0.
 fn nearest(a: i64, b: i64) -> i64
@@ -81,7 +81,7 @@ fn marked(u: &[Cell], reach: Reach, call: Call, i: usize) -> bool
 // discharges.
 fn against(u: &[Cell], m: usize, i: usize, slope: i64) -> i64
     requires { ⌜ Neighbours (now u) i × (m < 4) ⌝ }
-    ensures { λ r. ⌜ r ≡ rules.minmod slope (column (now (u .entry)) m (suc i) -ℤ column (now (u .entry)) m i) ⌝ }
+    ensures { λ r. ⌜ r ≡ rules.minmod slope (numberOf (now (u .entry)) m (suc i) -ℤ numberOf (now (u .entry)) m i) ⌝ }
 {
     nearest(slope, u[i + 1][m] - u[i][m])
 }
@@ -89,7 +89,7 @@ fn against(u: &[Cell], m: usize, i: usize, slope: i64) -> i64
 // A slope of cell i against its right neighbour, which the last cell lacks.
 fn with_right(u: &[Cell], reach: Reach, m: usize, i: usize, slope: i64) -> i64
     requires { ⌜ InTable (reach .n) (now u) i × (m < 4) ⌝ }
-    ensures { λ r. ⌜ ((bed : List ℤ) → r ≡ rules.withRight (reachIn reach bed) (column (now (u .entry)) m) i slope) ⌝ }
+    ensures { λ r. ⌜ ((bed : List ℤ) → r ≡ rules.withRight (reachIn reach bed) (numberOf (now (u .entry)) m) i slope) ⌝ }
 {
     if i + 1 == reach.n {
         return slope;
@@ -100,7 +100,7 @@ fn with_right(u: &[Cell], reach: Reach, m: usize, i: usize, slope: i64) -> i64
 // And its left neighbour, which the first cell lacks.
 fn with_left(u: &[Cell], reach: Reach, m: usize, i: usize, slope: i64) -> i64
     requires { ⌜ InTable (reach .n) (now u) i × (m < 4) ⌝ }
-    ensures { λ r. ⌜ r ≡ rules.withLeft (column (now (u .entry)) m) i slope ⌝ }
+    ensures { λ r. ⌜ r ≡ rules.withLeft (numberOf (now (u .entry)) m) i slope ⌝ }
 {
     if i == 0 {
         return slope;
@@ -111,7 +111,8 @@ fn with_left(u: &[Cell], reach: Reach, m: usize, i: usize, slope: i64) -> i64
 // A slope of cell i, which is set against the means of the neighbours it has where the cell is limited.
 fn limited(u: &[Cell], reach: Reach, limiting: bool, m: usize, i: usize, slope: i64) -> i64
     requires { ⌜ InTable (reach .n) (now u) i × (m < 4) ⌝ }
-    ensures { λ r. ⌜ ((bed : List ℤ) → r ≡ cond limiting (rules.limited (reachIn reach bed) (column (now (u .entry)) m) i slope) slope) ⌝ }
+    ensures { λ r. ⌜ ((bed : List ℤ) →
+        r ≡ cond limiting (rules.limited (reachIn reach bed) (numberOf (now (u .entry)) m) i slope) slope) ⌝ }
 {
     if !limiting {
         return slope;

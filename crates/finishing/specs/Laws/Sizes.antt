@@ -17,11 +17,11 @@ use Rattle.rules.specs.Limits.{highestBed}
 use Rattle.rules.specs.Reach.{Reach, Call, State, Bed, z0, z1, h0, h1}
 use Rattle.rules.specs.Finishing.{minmod, withRight, withLeft, limited, isLimited, limit, clipped}
 use Rattle.reach.specs.Ranges.{UpTo, widest, Ground, Wide, Unfinished}
-use Rattle.finishing.specs.Column.{column}
+use Rattle.finishing.specs.NumberOf.{numberOf}
 use Rattle.finishing.specs.Depths.{widestDepth}
 
 -- a number of a wide cell
-pub wide-at : (u : List (List ℤ)) (m i : ℕ) → m < 4 → Wide (seen u i) → UpTo widest (column u m i)
+pub wide-at : (u : List (List ℤ)) (m i : ℕ) → m < 4 → Wide (seen u i) → UpTo widest (numberOf u m i)
 wide-at u zero i h w = w .e0
 wide-at u (suc zero) i h w = w .e1
 wide-at u (suc (suc zero)) i h w = w .q0

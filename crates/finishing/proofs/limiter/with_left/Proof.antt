@@ -7,7 +7,7 @@ use lib.IntN.{ℤ, _-ℤ_}
 use mir.Facts.{toZ-ofZ}
 use Rattle.whole.specs.Machine.{back64}
 use Rattle.rules.specs.Finishing.{minmod}
-use Rattle.finishing.specs.Column.{column}
+use Rattle.finishing.specs.NumberOf.{numberOf}
 use Rattle.finishing.specs.Laws.Ends.{neighbours, left-first, left-next}
 use Rattle.finishing.proofs.limiter.with_left.Statement.{statement}
 use Rattle.finishing.proofs.limiter.with_left.Tie as tie
@@ -25,7 +25,7 @@ against-requires c κs =
 
 returns-2 : tie.Need-returns-2
 returns-2 c =
-    let e = c .before in let s = e .before in let i = s .args .i in let mean = column (now (s .args .u)) (s .args .m) in
+    let e = c .before in let s = e .before in let i = s .args .i in let mean = numberOf (now (s .args .u)) (s .args .m) in
     let slope = ap (λ (x : ℤ). minmod x (mean (suc (i - 1)) -ℤ mean (i - 1))) (toZ-ofZ (s .fits .slope)) in
     back64 (c .against .ok) (c .against .ensures ∙ slope) ∙ sym (left-next mean i (s .args .slope) (e .if1 .left))
 

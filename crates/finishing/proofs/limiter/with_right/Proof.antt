@@ -7,7 +7,7 @@ use lib.IntN.{ℤ, _-ℤ_}
 use mir.Facts.{toZ-ofZ}
 use Rattle.whole.specs.Machine.{back64}
 use Rattle.rules.specs.Finishing.{minmod, withRight}
-use Rattle.finishing.specs.Column.{column}
+use Rattle.finishing.specs.NumberOf.{numberOf}
 use Rattle.finishing.specs.Laws.Ends.{is-last, not-last, neighbours}
 use Rattle.finishing.proofs.limiter.with_right.Statement.{statement}
 use Rattle.finishing.proofs.limiter.with_right.Tie as tie
@@ -27,7 +27,7 @@ against-requires c κs =
 returns-2 : tie.Need-returns-2
 unfolding withRight
 returns-2 c =
-    let e = c .before in let s = e .before .before in let i = s .args .i in let mean = column (now (s .args .u)) (s .args .m) in
+    let e = c .before in let s = e .before .before in let i = s .args .i in let mean = numberOf (now (s .args .u)) (s .args .m) in
     let slope = ap (λ (x : ℤ). minmod x (mean (suc i) -ℤ mean i)) (toZ-ofZ (s .fits .slope)) in
     λ bed. rw (not-last i (e .if1 .left)) (back64 (c .against .ok) (c .against .ensures ∙ slope))
 

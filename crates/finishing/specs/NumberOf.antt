@@ -5,5 +5,5 @@ use lib.ListN.{getD}
 use lib.IntN.{ℤ, pos}
 
 -- number m of cell i: 0 is the level mean, 2 the discharge mean
-abbrev pub column : List (List ℤ) → ℕ → ℕ → ℤ
-column u m i = getD (getD u i []) m (pos 0)
+abbrev pub numberOf : List (List ℤ) → ℕ → ℕ → ℤ
+numberOf u m i = getD (getD u i []) m (pos 0)
