@@ -6,6 +6,7 @@ ghost use mathlib.Core.Path.{_≡_};
 ghost use Prim.Native.Nat.{_+_, _*_, _≤_, _<_};
 ghost use lib.ListN.{getD, length};
 ghost use lib.IntN.{pos};
+ghost use Rattle.tables.specs.Columns.{inColumn};
 ghost use Rattle.tables.specs.Cells.{asList, cellIn};
 ghost use Rattle.rules.specs.Limits.{mostCells};
 ghost use Rattle.reach.specs.Ranges.{UpTo, widest, Wide};
@@ -20,12 +21,12 @@ pub fn place(n: usize, m: usize, i: usize) -> usize
     m * n + i
 }
 
-// The number at place j.
-fn lent_number(s: &[i32], j: usize) -> i64
-    requires { ⌜ j < length (now s) ⌝ }
-    ensures { λ r. ⌜ (r ≡ getD (now (s .entry)) j (pos 0)) × UpTo widest (getD (now (s .entry)) j (pos 0)) ⌝ }
+// Number m of cell i.
+fn lent_number(s: &[i32], n: usize, m: usize, i: usize) -> i64
+    requires { ⌜ (n ≤ mostCells) × (m < 4) × (i < n) × (length (now s) ≡ 4 * n) ⌝ }
+    ensures { λ r. ⌜ (r ≡ inColumn n (now (s .entry)) m i) × UpTo widest (inColumn n (now (s .entry)) m i) ⌝ }
 {
-    s[j] as i64
+    s[place(n, m, i)] as i64
 }
 
 // Cell i of a lent state of n cells.
@@ -33,10 +34,10 @@ fn cell_of(s: &[i32], n: usize, i: usize) -> Cell
     requires { ⌜ (n ≤ mostCells) × (i < n) × (length (now s) ≡ 4 * n) ⌝ }
     ensures { λ r. ⌜ (r ≡ asList (cellIn n (now (s .entry)) i)) × Wide (cellIn n (now (s .entry)) i) ⌝ }
 {
-    let e0 = lent_number(s, place(n, 0, i));
-    let e1 = lent_number(s, place(n, 1, i));
-    let q0 = lent_number(s, place(n, 2, i));
-    let q1 = lent_number(s, place(n, 3, i));
+    let e0 = lent_number(s, n, 0, i);
+    let e1 = lent_number(s, n, 1, i);
+    let q0 = lent_number(s, n, 2, i);
+    let q1 = lent_number(s, n, 3, i);
     [e0, e1, q0, q1]
 }
 

@@ -2,20 +2,19 @@
 use crate::lent::place;
 use reach::Cell;
 ghost use mathlib.Core.Path.{_≡_};
-ghost use Prim.Native.Nat.{_*_, _≤_, _<_};
+ghost use Prim.Native.Nat.{_+_, _*_, _≤_, _<_};
 ghost use lib.ListN.{getD, set, length};
 ghost use lib.IntN.{pos};
 ghost use Rattle.tables.specs.Cells.{asCell, putCell, tableOf, seen};
-ghost use Rattle.rules.specs.Limits.{mostCells, fullest};
-ghost use Rattle.reach.specs.Ranges.{UpTo};
+ghost use Rattle.rules.specs.Limits.{mostCells};
 ghost use Rattle.stage.specs.Stored.{Fits, AllFit};
 
-// Number m of a cell, into place j.
-fn put(next: &mut [i32], j: usize, x: Cell, m: usize)
-    requires { ⌜ (j < length (now next)) × (m < 4) × UpTo fullest (getD x m (pos 0)) ⌝ }
-    ensures { λ _. ⌜ now (next .exit) ≡ set (now (next .entry)) j (getD x m (pos 0)) ⌝ }
+// Number m of cell i of n, which is x.
+fn put(next: &mut [i32], n: usize, m: usize, i: usize, x: Cell)
+    requires { ⌜ (n ≤ mostCells) × (m < 4) × (i < n) × (length (now next) ≡ 4 * n) × Fits (asCell x) ⌝ }
+    ensures { λ _. ⌜ now (next .exit) ≡ set (now (next .entry)) (m * n + i) (getD x m (pos 0)) ⌝ }
 {
-    next[j] = x[m] as i32;
+    next[place(n, m, i)] = x[m] as i32;
 }
 
 // Cell i of n: the others are as they were.
@@ -23,10 +22,10 @@ fn put_cell(next: &mut [i32], n: usize, i: usize, x: Cell)
     requires { ⌜ (n ≤ mostCells) × (i < n) × (length (now next) ≡ 4 * n) × Fits (asCell x) ⌝ }
     ensures { λ _. ⌜ now (next .exit) ≡ putCell n (now (next .entry)) i (asCell x) ⌝ }
 {
-    put(next, place(n, 0, i), x, 0);
-    put(next, place(n, 1, i), x, 1);
-    put(next, place(n, 2, i), x, 2);
-    put(next, place(n, 3, i), x, 3);
+    put(next, n, 0, i, x);
+    put(next, n, 1, i, x);
+    put(next, n, 2, i, x);
+    put(next, n, 3, i, x);
 }
 
 // The first n cells of y, as the whole lent table.

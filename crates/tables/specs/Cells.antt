@@ -45,14 +45,15 @@ tableOf n s = columns n (columnsOf s)
 abbrev pub cellIn : ℕ → List ℤ → ℕ → Cell
 cellIn n t i = record { e0 = inColumn n t 0 i; e1 = inColumn n t 1 i; q0 = inColumn n t 2 i; q1 = inColumn n t 3 i }
 
--- number m of a cell is in column m
-of-each : (P : ℕ → Type 0) → P 0 → P 1 → P 2 → P 3 → (m : ℕ) → m < 4 → P m
+-- what is so of 0, 1, 2 and 3 is so of each number below 4
+pub of-each : (P : ℕ → Type 0) → P 0 → P 1 → P 2 → P 3 → (m : ℕ) → m < 4 → P m
 of-each P a b c d zero h = a
 of-each P a b c d (suc zero) h = b
 of-each P a b c d (suc (suc zero)) h = c
 of-each P a b c d (suc (suc (suc zero))) h = d
 of-each P a b c d (suc (suc (suc (suc m)))) h = let z : ⊥ = omega arith in absurd z
 
+-- number m of a cell is in column m, and is found there
 in-its-column : (s : ℕ → Cell) (i m : ℕ) → m < 4 → getD (asList (s i)) m (pos 0) ≡ column (columnsOf s) m i
 in-its-column s i = of-each (λ m. getD (asList (s i)) m (pos 0) ≡ column (columnsOf s) m i) refl refl refl refl
 

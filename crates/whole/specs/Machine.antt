@@ -208,9 +208,12 @@ widened {z} h = let f : SFits w32 z = record { sfits = h } in rw (toZ-ofZ w32 z 
 pub read32 : (z : ℤ) → mag z < 2 ^ 31 → toZ w32 (ofZ w32 z) ≡ z
 read32 z h = toZ-ofZ w32 z (record { sfits = h })
 
--- and the cast's result, among the numbers that the code computes with
+-- how large it is; and the cast's result, among the numbers that the code computes with
+pub within32 : {z : ℤ} → mag z < 2 ^ 31 → Within 2147483648 z
+within32 {z} h = record { abs = natAbs-le z h }
+
 pub wide-in : (z : ℤ) → mag z < 2 ^ 31 → Within 2147483648 (toZ w32 (ofZ w32 z))
-wide-in z h = rw (toZ-ofZ w32 z (record { sfits = h })) (record { abs = natAbs-le z h })
+wide-in z h = rw (toZ-ofZ w32 z (record { sfits = h })) (within32 h)
 
 abbrev pub cast32 : (z : ℤ) → mag z < 2 ^ 31 → Entry
 cast32 z h = entry (widens z h) (wide-in z h)

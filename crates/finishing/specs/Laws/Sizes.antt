@@ -12,7 +12,7 @@ use Rattle.whole.specs.Parts.{Within, b-add, b-sub, b-neg, b-nonneg, b-range, r
 use Rattle.whole.specs.Quotient.{b-quot-by}
 use Rattle.whole.specs.Choice.{minZ, maxZ}
 use Rattle.whole.specs.Tests.{le-yes, le-no, lt-yes}
-use Rattle.tables.specs.Cells.{Cell, seen}
+use Rattle.tables.specs.Cells.{Cell, seen, of-each}
 use Rattle.rules.specs.Limits.{highestBed}
 use Rattle.rules.specs.Reach.{Reach, Call, State, Bed, z0, z1, h0, h1}
 use Rattle.rules.specs.Finishing.{minmod, withRight, withLeft, limited, isLimited, limit, clipped}
@@ -22,11 +22,7 @@ use Rattle.finishing.specs.Depths.{widestDepth}
 
 -- a number of a wide cell
 pub wide-at : (u : List (List ℤ)) (m i : ℕ) → m < 4 → Wide (seen u i) → UpTo widest (numberOf u m i)
-wide-at u zero i h w = w .e0
-wide-at u (suc zero) i h w = w .e1
-wide-at u (suc (suc zero)) i h w = w .q0
-wide-at u (suc (suc (suc zero))) i h w = w .q1
-wide-at u (suc (suc (suc (suc m)))) i h w = let z : ⊥ = omega arith in absurd z
+wide-at u m i h w = of-each (λ k. UpTo widest (numberOf u k i)) (w .e0) (w .e1) (w .q0) (w .q1) m h
 
 -- ---- what is nearest nought is no larger than the first
 minmod-size : {A : ℕ} (a b : ℤ) → Within A a → Within A (minmod a b)

@@ -13,10 +13,10 @@ mul-result : tie.Need-mul-result
 mul-result c = record { fits = omega (arith, before-fourth (c .args .n) (c .args .m) (c .pre .1)) }
 
 add-result : tie.Need-add-result
-add-result c = let s = c in record { fits = omega (arith, before-fourth (s .args .n) (s .args .m) (s .pre .1)) }
+add-result c = record { fits = omega (arith, before-fourth (c .args .n) (c .args .m) (c .pre .1)) }
 
 returns : tie.Need-returns
-returns c = let s = c in (refl, omega (arith, before-fourth (s .args .n) (s .args .m) (s .pre .1)))
+returns c = (refl, omega (arith, before-fourth (c .args .n) (c .args .m) (c .pre .1)))
 
 pub place-spec : {M : Type 1} → statement M
 place-spec = tie.close (tie.spec mul-result add-result returns)
