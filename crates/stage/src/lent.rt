@@ -21,7 +21,7 @@ pub fn place(n: usize, m: usize, i: usize) -> usize
     m * n + i
 }
 
-// Number m of cell i.
+// Number m of cell i of a lent state of n cells, from its place in column m.
 fn lent_number(s: &[i32], n: usize, m: usize, i: usize) -> i64
     requires { ⌜ (n ≤ mostCells) × (m < 4) × (i < n) × (length (now s) ≡ 4 * n) ⌝ }
     ensures { λ r. ⌜ (r ≡ inColumn n (now (s .entry)) m i) × UpTo widest (inColumn n (now (s .entry)) m i) ⌝ }

@@ -9,7 +9,7 @@ ghost use Rattle.tables.specs.Cells.{asCell, putCell, tableOf, seen};
 ghost use Rattle.rules.specs.Limits.{mostCells};
 ghost use Rattle.stage.specs.Stored.{Fits, AllFit};
 
-// Number m of cell i of n, which is x.
+// Number m of x, which is cell i of n, to its place in column m.
 fn put(next: &mut [i32], n: usize, m: usize, i: usize, x: Cell)
     requires { ⌜ (n ≤ mostCells) × (m < 4) × (i < n) × (length (now next) ≡ 4 * n) × Fits (asCell x) ⌝ }
     ensures { λ _. ⌜ now (next .exit) ≡ set (now (next .entry)) (m * n + i) (getD x m (pos 0)) ⌝ }
