@@ -7,7 +7,7 @@ use lib.IntN.{ℤ, pos}
 use Rattle.rules.specs.Limits.{longestCell, longestStep, largestJump}
 use Rattle.rules.specs.Reach.{Reach, Call}
 use Rattle.rules.specs.Refusals.{any, outside}
-use Rattle.rules.specs.Lent.{Outcome}
+use Rattle.before.specs.E13.{Outcome}
 use Rattle.before.specs.Parts.{stepBy}
 use Rattle.before.specs.E4 as E4
 

@@ -11,7 +11,7 @@ use Rattle.rules.specs.Ends.{End, outer}
 use Rattle.rules.specs.Reach.{Reach, Call}
 use Rattle.rules.specs.Refusals.{any, outside, badDry}
 use Rattle.rules.specs.Lent as lent
-use Rattle.rules.specs.Lent.{Outcome}
+use Rattle.before.specs.E13.{Outcome}
 use Rattle.before.specs.Parts.{Parts, stepBy}
 use Rattle.before.specs.E6 as E6
 

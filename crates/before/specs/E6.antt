@@ -10,7 +10,8 @@ use Rattle.rules.specs.Ends.{leftEnd, rightEnd}
 use Rattle.rules.specs.Reach.{State, Bed, ql, qr, hl, hr}
 use Rattle.rules.specs.Stage as rules
 use Rattle.rules.specs.Refusals.{badCall, fastInflow, Check}
-use Rattle.rules.specs.Lent.{Lent, reachOf, callOf, Outcome}
+use Rattle.rules.specs.Lent.{Lent, reachOf, callOf}
+use Rattle.before.specs.E13.{Outcome}
 use Rattle.before.specs.E7.{stateOf}
 use Rattle.before.specs.Parts as before
 use Rattle.before.specs.Parts.{Parts, stepBy}

@@ -1,5 +1,5 @@
 -- The step before E7: a lent state had its cells one after another, the four numbers of each together.
--- All else is as in the rules in force.
+-- All else is as before E13.
 use mathlib.Core.Path.{_≡_}
 use mathlib.Core.Bool.{cond}
 use mathlib.Core.List.{List, [], _∷_}
@@ -12,7 +12,8 @@ use Rattle.tables.specs.Cells.{Cell, cellIn, tableOf}
 use Rattle.rules.specs.Reach.{State}
 use Rattle.rules.specs.Step.{carry, next}
 use Rattle.rules.specs.Refusals.{refusal}
-use Rattle.rules.specs.Lent.{Lent, cellsOf, reachOf, callOf, misfits, Outcome, refused, accepted}
+use Rattle.rules.specs.Lent.{Lent, cellsOf, reachOf, callOf, misfits}
+use Rattle.before.specs.E13.{Outcome, refused, accepted}
 
 -- cell k in such a table
 abbrev pub cellAt : List ℤ → ℕ → Cell

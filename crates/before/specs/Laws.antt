@@ -1,5 +1,6 @@
 -- How the rules in force differ from those before.
 pub mod E2
+pub mod E13
 pub mod E7
 pub mod Parts
 pub mod E6

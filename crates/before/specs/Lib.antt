@@ -1,5 +1,6 @@
 -- What rules said before requests amended them, by request; then how those in force differ.
 pub mod E2
+pub mod E13
 pub mod E7
 pub mod Parts
 pub mod E6

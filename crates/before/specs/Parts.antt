@@ -5,7 +5,6 @@ use Prim.Native.Nat.{ℕ, zero, suc}
 use lib.Dec.{eqb}
 use lib.IntN.{ℤ, pos, _*ℤ_}
 use lib.Signed.{ltZ}
-use Rattle.tables.specs.Some.{some}
 use Rattle.tables.specs.Rows.{row}
 use Rattle.tables.specs.Cells.{Cell}
 use Rattle.rules.specs.Face.{Side, Flux}
@@ -14,8 +13,9 @@ use Rattle.rules.specs.Ends.{End}
 use Rattle.rules.specs.Reach.{Reach, Call, State, Bed, under}
 use Rattle.rules.specs.Finishing.{finish}
 use Rattle.rules.specs.Step.{rubbed, half, joinedCell}
-use Rattle.rules.specs.Refusals.{badBed, badRough, off, fastFriction, fastSide, fastGauss, Check, chk, verdict}
-use Rattle.rules.specs.Lent.{Lent, cellsOf, reachOf, callOf, misfits, Outcome, refused, accepted}
+use Rattle.rules.specs.Refusals.{badBed, badRough, off, fastFriction, fastSide, fastGauss, Check, each, ofCall, verdict}
+use Rattle.rules.specs.Lent.{Lent, cellsOf, reachOf, callOf, misfits}
+use Rattle.before.specs.E13.{Outcome, refused, accepted}
 use Rattle.before.specs.E7.{flat, stateOf}
 
 pub record Parts : Type 0 where
@@ -66,27 +66,24 @@ module _ (p : Parts) (r : Reach) (c : Call) where
 
   unfoldable pub stageChecks : State → List Check
   stageChecks s =
-      chk 6 (some (fastFace s) (suc (r .n)))
-      ∷ chk 6 (some (fastGauss r c s) (r .n))
-      ∷ chk 7 (some (tooLong s) (suc (r .n)))
-      ∷ []
+      each 6 (suc (r .n)) (fastFace s) ∷ each 6 (r .n) (fastGauss r c s) ∷ each 7 (suc (r .n)) (tooLong s) ∷ []
 
   -- the friction speeds, and stage one with its 8; stage two with the end state's
   unfoldable pub checksOfOne : State → List Check
   checksOfOne s =
-      chk 6 (some (fastFriction r c s) (r .n)) ∷ stageChecks (rubbed r c s) ++ chk 8 (some (off r (stageOne s)) (r .n)) ∷ []
+      each 6 (r .n) (fastFriction r c s) ∷ stageChecks (rubbed r c s) ++ each 8 (r .n) (off r (stageOne s)) ∷ []
 
   unfoldable pub checksOfTwo : State → List Check
-  checksOfTwo s = stageChecks (stageOne s) ++ chk 8 (some (off r (next s)) (r .n)) ∷ []
+  checksOfTwo s = stageChecks (stageOne s) ++ each 8 (r .n) (off r (next s)) ∷ []
 
 -- ---- the call; its check 2 is given, as `bad`
 unfoldable pub checksToFive : (Reach → Call → Bool) → Lent → List Check
 checksToFive bad a = let n = cellsOf a in
-    chk 1 (misfits a)
-    ∷ chk 2 (bad (reachOf a) (callOf a))
-    ∷ chk 3 (some (λ i. badBed (reachOf a .bed i)) (suc n))
-    ∷ chk 4 (some (λ i. badRough (callOf a .rough i)) n)
-    ∷ chk 5 (some (off (reachOf a) (stateOf a)) n)
+    ofCall 1 (misfits a)
+    ∷ ofCall 2 (bad (reachOf a) (callOf a))
+    ∷ each 3 (suc n) (λ i. badBed (reachOf a .bed i))
+    ∷ each 4 n (λ i. badRough (callOf a .rough i))
+    ∷ each 5 n (off (reachOf a) (stateOf a))
     ∷ []
 
 module _ (bad : Reach → Call → Bool) (p : Parts) (a : Lent) where

@@ -13,7 +13,7 @@ ghost use Rattle.step.specs.Gives.{end, lend};
 ghost use Rattle.editor.specs.Told.{StepTold, FaceTold, DoubleTold, RootTold};
 
 // 0 when the step is accepted, else the refusal's number; `volumes`, W at face 0 and at face n, is
-// written only when it is accepted.
+// written only when it is accepted, `place` in either case: 0, or the refusal's place.
 #[no_mangle]
 pub extern "C" fn bassoonsun_step(
     state: &[i32],
@@ -29,11 +29,13 @@ pub extern "C" fn bassoonsun_step(
     left_q: u32,
     right_q: u32,
     volumes: &mut [i64; 2],
+    place: &mut [u32; 1],
 ) -> u32
     ensures { λ r. ⌜ StepTold
         (stepOf (lend (now (state .entry)) (length (now (next .entry))) (now (bed .entry)) (now (friction .entry))
         dx dt jump dry (end left «left_q») (end right «right_q»)))
-        r (now (next .entry)) (now (next .exit)) (now (volumes .entry)) (now (volumes .exit)) ⌝ }
+        r (now (next .entry)) (now (next .exit)) (now (volumes .entry)) (now (volumes .exit))
+        (now (place .entry)) (now (place .exit)) ⌝ }
 {
     let first = End {
         kind: left,
@@ -53,10 +55,14 @@ pub extern "C" fn bassoonsun_step(
     };
     let a = step::step(state, next, bed, friction, call);
     match a {
-        Answer::Refused(k) => k,
+        Answer::Refused(k, p) => {
+            place[0] = p as u32;
+            k
+        }
         Answer::Accepted(w, v) => {
             volumes[0] = w;
             volumes[1] = v;
+            place[0] = 0;
             0
         }
     }

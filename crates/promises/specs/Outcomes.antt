@@ -17,12 +17,15 @@ use Rattle.rules.specs.Face.{face}
 use Rattle.rules.specs.Reach.{Reach, Call, State, under, z0, z1, h0, h1, hl, hr}
 use Rattle.rules.specs.Step.{carry, joined, next}
 use Rattle.rules.specs.Ends.{End, inflowKind}
-use Rattle.rules.specs.Refusals.{badEnd, Check, chk, verdict, checks, refusal}
-use Rattle.rules.specs.Lent.{Lent, reachOf, callOf, stateOf, cellsOf, misfits, number, filled, crossed, Outcome, refused, accepted, stepOf}
+use Rattle.tables.specs.Some.{some, lowest}
+use Rattle.rules.specs.Refusals.{badEnd, Check, ofCall, verdict, spot, checks, refusal, refusedAt}
+use Rattle.rules.specs.Lent.{Lent, reachOf, callOf, stateOf, cellsOf, misfits, number, place, filled, crossed}
+use Rattle.rules.specs.Lent.{Outcome, refused, accepted, stepOf}
 use Rattle.rules.specs.AtRest.{Dry, Flat, AtRest}
 use Rattle.rules.specs.Laws.Agree.{Same}
 use Rattle.rules.specs.Laws.DryDepth.{finished-calm}
-use Rattle.rules.specs.Laws.Lengths.{fitted, first-number, later-number, fits, unrefused}
+use Rattle.rules.specs.Laws.Verdicts.{Found, found}
+use Rattle.rules.specs.Laws.Lengths.{fitted, foundOf, first-number, later-number, fits, unrefused}
 use Rattle.rules.specs.Laws.Positive.{Nonneg, Wet}
 use Rattle.rules.specs.Laws.Balance as balance
 use Rattle.rules.specs.Laws.Face.{lawful}
@@ -30,7 +33,7 @@ use Rattle.rules.specs.Laws.EndChecks.{kind-in, inflow-in, inflow-only}
 use Rattle.rules.specs.Laws.EndVolumes.{left-shut, right-shut, left-brought, right-brought}
 use Rattle.rules.specs.Laws.Runs.{Run, stop, step, accepted-ends, Depths, depths, TooLarge, Large}
 use Rattle.before.specs.Laws.E6 as before-E6
-use Rattle.step.specs.Gives.{lend, code, atLeft, atRight, Gives, answer, leaves}
+use Rattle.step.specs.Gives.{lend, code, placed, atLeft, atRight, Gives, answer, leaves}
 use Rattle.step.specs.declared.Answer.{Answer}
 use Rattle.step.specs.declared.Answer.the-variants.{Refused, Accepted}
 use Rattle.promises.specs.Seen.{at, level, levelSlope, discharge, dischargeSlope, meanBed, bedSlope, meanDepth, leftDepth}
@@ -40,18 +43,21 @@ use Rattle.promises.specs.Seen.{Called, Calls, none, more}
 -- ---- an outcome by its number
 -- all the checks of a call, in their order
 unfoldable pub allChecks : Lent → List Check
-allChecks l = chk 1 (misfits l) ∷ checks (reachOf l) (callOf l) (stateOf l)
+allChecks l = ofCall 1 (misfits l) ∷ checks (reachOf l) (callOf l) (stateOf l)
 
 module _ (l : Lent) where
+  pub found-is : foundOf l ≡ found (allChecks l)
+  unfolding number place refusal refusedAt allChecks verdict spot some lowest
+  found-is = by (misfits l) (λ e. rw e) (λ e. rw e)
+
   pub number-is : number l ≡ verdict (allChecks l)
-  unfolding number refusal allChecks verdict
-  number-is = refl
+  number-is = ap (λ (f : Found). f .no) found-is
 
   pub accepts : number l ≡ 0 → stepOf l ≡ accepted (filled l) (crossed l 0) (crossed l (cellsOf l))
   unfolding stepOf
   accepts e = rw (eq-eqb (number l) 0 e)
 
-  pub refuses : (number l ≡ 0 → ⊥) → stepOf l ≡ refused (number l)
+  pub refuses : (number l ≡ 0 → ⊥) → stepOf l ≡ refused (number l) (place l)
   unfolding stepOf
   refuses f = rw (ne-eqb (number l) 0 f)
 
@@ -65,8 +71,8 @@ module _ (l : Lent) where
     pub coded : code a ≡ number l
     coded = ap code (g .says) ∙ code-number
 
--- a refused call: its number, which is not nought, and its table
-module _ (l : Lent) (k : ℕ) (old new : List ℤ) (g : Gives (stepOf l) (Refused k) old new) where
+-- a refused call: its number, which is not nought, its place, and its table
+module _ (l : Lent) (k p : ℕ) (old new : List ℤ) (g : Gives (stepOf l) (Refused k p) old new) where
   pub refused-number : number l ≡ k
   unfolding code
   refused-number = sym (coded l g)
@@ -76,11 +82,15 @@ module _ (l : Lent) (k : ℕ) (old new : List ℤ) (g : Gives (stepOf l) (Refuse
   met e = clash (ap taking (g .says ∙ ap answer (accepts l e)))
     where
       taking : Answer → Bool
-      taking (Refused k) = false
+      taking (Refused k p) = false
       taking (Accepted w v) = true
 
   pub refused-some : 0 < k
   refused-some = omega (arith, met, refused-number)
+
+  pub refused-place : place l ≡ p
+  unfolding answer placed
+  refused-place = sym (ap placed (g .says ∙ ap answer (refuses l met)))
 
   pub refused-table : new ≡ old
   unfolding leaves
@@ -92,9 +102,11 @@ module _ (l : Lent) (k : ℕ) (old new : List ℤ) (g : Gives (stepOf l) (Refuse
       (λ b. sym (later-number l b) ∙ refused-number ∙ e)
 
 -- and one whose number is not nought
-pub refuses-with : (l : Lent) (k : ℕ) (a : Answer) (old new : List ℤ) → number l ≡ k → 0 < k → Gives (stepOf l) a old new → a ≡ Refused k
+pub refuses-with : (l : Lent) (k : ℕ) (a : Answer) (old new : List ℤ) → number l ≡ k → 0 < k → Gives (stepOf l) a old new
+    → a ≡ Refused k (place l)
 unfolding answer
-refuses-with l k a old new e p g = g .says ∙ ap answer (refuses l (λ z. let w : ⊥ = omega arith in w)) ∙ ap Refused e
+refuses-with l k a old new e p g =
+    g .says ∙ ap answer (refuses l (λ z. let w : ⊥ = omega arith in w)) ∙ ap (λ (m : ℕ). Refused m (place l)) e
 
 -- an accepted call: its number, its volumes and its table
 pub record Taken (l : Lent) (w v : ℤ) (new : List ℤ) : Type 0 where
@@ -164,9 +176,9 @@ module _ (bed : List ℤ) (n dx : ℕ) (s : State) where
   pub excess-table : (k : Large (reachAt bed n dx) s) → Excess bed table n
   unfolding leftDepth rightDepth meanDepth meanBed bedSlope h0 h1 hl hr z0 z1
   excess-table k = record {
-    cell = k .place;
+    cell = k .cell;
     below = k .below;
-    large = subst (TooLarge (under (reachAt bed n dx) (k .place))) (sym (cellIn-table n s (k .place) (k .below))) (k .large);
+    large = subst (TooLarge (under (reachAt bed n dx) (k .cell))) (sym (cellIn-table n s (k .cell) (k .below))) (k .large);
   }
 
 -- a table that an accepted call wrote has no discharge in a cell no deeper than its dry depth

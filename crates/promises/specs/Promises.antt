@@ -11,7 +11,7 @@ use mathlib.Core.Path.{_≡_, refl, sym, _∙_, ap, ap₂, subst}
 use mathlib.Core.Bool.{Bool, true, false}
 use mathlib.Core.List.{List}
 use mathlib.Core.Logic.{_⊎_, inl, inr, ⊎-elim}
-use Prim.Native.Nat.{ℕ, _+_, _*_, _<_}
+use Prim.Native.Nat.{ℕ, _+_, _*_, _≤_, _<_}
 use lib.ListN.{length}
 use lib.IntN.{ℤ, pos, negℤ, _+ℤ_, _-ℤ_}
 use lib.Signed.{_≤ℤ_, _<ℤ_}
@@ -30,15 +30,19 @@ use Rattle.before.specs.E4.{with-no-inflow}
 use Rattle.before.specs.Laws.E4.{no-inflow}
 use Rattle.before.specs.E6 as before-E6
 use Rattle.before.specs.Laws.E6.{none-short-one, none-short-two, uncorrected}
+use Rattle.before.specs.E13 as before-E13
+use Rattle.before.specs.E13.{unplaced}
+use Rattle.before.specs.Laws.E13.{without-place}
 use Rattle.before.specs.E7 as before-E7
 use Rattle.before.specs.E7.{ColumnsOfOne, lentInColumns, lentInCells, givenInColumns}
 use Rattle.before.specs.Laws.E7.{of-one, in-columns, from-cells}
-use Rattle.rules.specs.Laws.Lengths.{unrefused}
+use Rattle.rules.specs.Laws.Lengths.{foundOf, unrefused}
+use Rattle.rules.specs.Laws.Within.{place-within}
 use Rattle.rules.specs.Step.{rubbed, stageOne, next}
 use Rattle.rules.specs.Refusals.{checks, early, stageChecks}
-use Rattle.rules.specs.Lent.{Lent, cellsOf, reachOf, callOf, stateOf, number, filled, crossed, stepOf}
+use Rattle.rules.specs.Lent.{Lent, cellsOf, reachOf, callOf, stateOf, place, filled, crossed, stepOf}
 use Rattle.rules.specs.Laws.Accept.{Clear}
-use Rattle.rules.specs.Laws.Verdicts.{cleared}
+use Rattle.rules.specs.Laws.Verdicts.{at, cleared}
 use Rattle.rules.specs.Laws.Face.{lawful}
 use Rattle.rules.specs.Laws.Runs.{Large, depths, eight, accepted-depths, run-balanced, run-wet, accepted-rest}
 use Rattle.speeds.specs.Given.{speedGiven, waveGiven, cubeGiven}
@@ -68,8 +72,8 @@ use Rattle.step.specs.declared.Answer.the-variants.{Refused, Accepted}
 use Rattle.promises.specs.Seen.{discharge, dischargeSlope, meanDepth, NoneBelow, Excess, stageTable, frictionTable}
 use Rattle.promises.specs.Seen.{correctedStageTable, NoShortfall, water, Listed, brought, Lake}
 use Rattle.promises.specs.Seen.{Called, Calls, none, more, NoInflow}
-use Rattle.promises.specs.First.{FirstMet, first-verdict, verdict-first, first-listed}
-use Rattle.promises.specs.Outcomes.{allChecks, number-is, refuses-with, refused-number, refused-some}
+use Rattle.promises.specs.First.{FirstMet, first-verdict, verdict-first, first-listed, FirstMetAt, first-of, first-found, found-first}
+use Rattle.promises.specs.Outcomes.{allChecks, found-is, number-is, refuses-with, refused-number, refused-some, refused-place}
 use Rattle.promises.specs.Outcomes.{refused-table, refused-later, Taken, taken, reachAt, lent, call, one, none-below}
 use Rattle.promises.specs.Outcomes.{both-listed, wall-left, wall-right, inflow-left, inflow-right}
 use Rattle.promises.specs.Outcomes.{none-below-table, none-short-table, excess-table, wet, water-is, at-rest, written-calm, run}
@@ -84,7 +88,7 @@ step-table l p q = one-table p q
 -- and so of every other public function
 pub work-one : (l : Lent) (old new new′ : List ℤ) (a b : Worked) → WorkedSays l a old new → WorkedSays l b old new′
     → (a ≡ b) × (new ≡ new′)
-work-one l old new new′ a b p q = one-said (reachOf l) (callOf l) (stateOf l) (number l) old new new′ a b p q
+work-one l old new new′ a b p q = one-said (reachOf l) (callOf l) (stateOf l) (foundOf l) old new new′ a b p q
 
 pub finish-one : (reach : ToldReach) (call : ToldCall) (bed : List ℤ) (u : List (List ℤ)) (a b : Bool) (old new new′ : List (List ℤ))
     → FinishSays reach call bed u a old new → FinishSays reach call bed u b old new′ → (a ≡ b) × (new ≡ new′)
@@ -109,21 +113,37 @@ pub double-one : (hl ul hr ur : Float) (a b : DoubleAnswer) → FaceIs hl ul hr 
 double-one hl ul hr ur a b x y = doubles.face-unique hl ul hr ur a b x y
 
 -- a call is refused with k exactly when a check numbered k is the first one met,
-pub refused-first : (l : Lent) (k : ℕ) (old new : List ℤ) → Gives (stepOf l) (Refused k) old new → FirstMet k (allChecks l)
-refused-first l k old new g = verdict-first k (allChecks l) (refused-some l k old new g) (sym (number-is l) ∙ refused-number l k old new g)
+pub refused-first : (l : Lent) (k p : ℕ) (old new : List ℤ) → Gives (stepOf l) (Refused k p) old new → FirstMet k (allChecks l)
+refused-first l k p old new g =
+    verdict-first k (allChecks l) (refused-some l k p old new g) (sym (number-is l) ∙ refused-number l k p old new g)
 
 pub first-refused : (l : Lent) (k : ℕ) (a : Answer) (old new : List ℤ) → FirstMet k (allChecks l) → Gives (stepOf l) a old new
-    → a ≡ Refused k
+    → a ≡ Refused k (place l)
 unfolding allChecks checks early stageChecks
 first-refused l k a old new f g = refuses-with l k a old new (number-is l ∙ first-verdict k f) (first-listed k f tt .0) g
 
 -- a number from 1 to 8; and the table is then what it was
-pub refused-listed : (l : Lent) (k : ℕ) (old new : List ℤ) → Gives (stepOf l) (Refused k) old new → (0 < k) × (k < 9)
+pub refused-listed : (l : Lent) (k p : ℕ) (old new : List ℤ) → Gives (stepOf l) (Refused k p) old new → (0 < k) × (k < 9)
 unfolding allChecks checks early stageChecks
-refused-listed l k old new g = first-listed k (refused-first l k old new g) tt
+refused-listed l k p old new g = first-listed k (refused-first l k p old new g) tt
 
-pub refused-untouched : (l : Lent) (k : ℕ) (old new : List ℤ) → Gives (stepOf l) (Refused k) old new → new ≡ old
-refused-untouched l k old new g = refused-table l k old new g
+pub refused-untouched : (l : Lent) (k p : ℕ) (old new : List ℤ) → Gives (stepOf l) (Refused k p) old new → new ≡ old
+refused-untouched l k p old new g = refused-table l k p old new g
+
+-- and at p exactly when p is below the number of places that this check has (bed values, cells, faces, or one for the call as a whole), its
+-- condition holds there, and at no lower one;
+pub refused-at : (l : Lent) (k p : ℕ) (old new : List ℤ) → Gives (stepOf l) (Refused k p) old new → FirstMetAt k p (allChecks l)
+refused-at l k p old new g = found-first k p (allChecks l) (refused-some l k p old new g)
+    (sym (found-is l) ∙ (λ i. at (refused-number l k p old new g i) (refused-place l k p old new g i)))
+
+pub at-refused : (l : Lent) (k p : ℕ) (a : Answer) (old new : List ℤ) → FirstMetAt k p (allChecks l) → Gives (stepOf l) a old new
+    → a ≡ Refused k p
+at-refused l k p a old new f g = let is = found-is l ∙ first-found k p f in
+    first-refused l k a old new (first-of k p f) g ∙ (λ i. Refused k (is i .place))
+
+-- no place lies past the last face, and those of a 1 and of a 2 are 0
+pub refused-within : (l : Lent) (k p : ℕ) (old new : List ℤ) → Gives (stepOf l) (Refused k p) old new → p ≤ cellsOf l
+refused-within l k p old new g = subst (λ (m : ℕ). m ≤ cellsOf l) (refused-place l k p old new g) (place-within l)
 
 -- it is accepted exactly when none is met
 pub accepted-clear : (l : Lent) (w v : ℤ) (old new : List ℤ) → Gives (stepOf l) (Accepted w v) old new → Clear (allChecks l)
@@ -134,6 +154,26 @@ accepted-clear l w v old new g = cleared (allChecks l) tt (sym (taken l w v old 
 pub accepted-rules : (l : Lent) (w v : ℤ) (old new : List ℤ) → Gives (stepOf l) (Accepted w v) old new
     → (new ≡ filled l) × (w ≡ crossed l 0) × (v ≡ crossed l (cellsOf l))
 accepted-rules l w v old new g = let t = taken l w v old new g in (t .table, t .left, t .right)
+
+-- ---- what E13 changed: a refusal has a place
+-- without it every call is answered as before: the same number, or the same table and volumes. What follows of earlier requests says so too,
+-- since a refusal had no place then
+pub number-as-before : (l : Lent) → unplaced (stepOf l) ≡ before-E13.stepOf l
+number-as-before l = without-place l
+
+-- ---- what E7 changed: a state is lent in four columns, where its cells stood one after another
+-- a call that is lent the columns of a table of cells is answered as before: the same number, or the columns of the same table, and the
+-- same volumes;
+pub columns-as-before : (l : Lent) → unplaced (stepOf (lentInColumns l)) ≡ givenInColumns (cellsOf l) (before-E7.stepOf l)
+columns-as-before l = number-as-before (lentInColumns l) ∙ in-columns l
+
+-- and this is every call: a table of 4n numbers is the columns of one table of cells, and of no other (one of another length is lent as it
+-- is in both, and refused)
+pub columns-of-one : (n : ℕ) (t : List ℤ) → length t ≡ 4 * n → ColumnsOfOne n t
+columns-of-one n t e = of-one n t e
+
+pub every-call-as-before : (l : Lent) → unplaced (stepOf l) ≡ givenInColumns (cellsOf l) (before-E7.stepOf (lentInCells l))
+every-call-as-before l = number-as-before l ∙ from-cells l
 
 -- ---- what E2 changed in the rules' finishing, which ends both stages
 -- a spared cell leaves it with the slopes it came with, but for the cut and the drying;
@@ -152,10 +192,11 @@ deep-as-before r c s d i l = deep-finish r c s d i l
 
 -- ---- what E3 changed: the dry depth is each call's own
 -- given 4, and no inflow, a call is answered as before, when it gave neither: the same number, or the same table, in columns, and the same
--- volumes (before E7, below, a table was cell by cell)
+-- volumes
 pub four-as-before : (l : before-E3.Lent) → (l .left ≡ 2 → ⊥) → (l .right ≡ 2 → ⊥) → let m = with-no-inflow (before-E3.given 4 l) in
-    stepOf (lentInColumns m) ≡ givenInColumns (cellsOf m) (before-E3.stepOf l)
-four-as-before l f g = let m = with-no-inflow (before-E3.given 4 l) in in-columns m ∙ ap (givenInColumns (cellsOf m)) (given-four l f g)
+    unplaced (stepOf (lentInColumns m)) ≡ givenInColumns (cellsOf m) (before-E3.stepOf l)
+four-as-before l f g = let m = with-no-inflow (before-E3.given 4 l) in
+    columns-as-before m ∙ ap (givenInColumns (cellsOf m)) (given-four l f g)
 
 -- whichever it is, what an accepted call writes has no discharge where it is no deeper
 pub shallow-calm : (l : Lent) (w v : ℤ) (old new : List ℤ) → Gives (stepOf l) (Accepted w v) old new → (i : ℕ) → i < cellsOf l
@@ -167,8 +208,8 @@ shallow-calm l w v old new g i m d = written-calm l (taken l w v old new g .tabl
 -- where neither is one, a call is answered as before, when an end had a kind alone: the same number, or the same table, in columns, and
 -- volumes
 pub no-inflow-as-before : (l : before-E4.Lent) → (l .left ≡ 2 → ⊥) → (l .right ≡ 2 → ⊥) → let m = with-no-inflow l in
-    stepOf (lentInColumns m) ≡ givenInColumns (cellsOf m) (before-E4.stepOf l)
-no-inflow-as-before l f g = let m = with-no-inflow l in in-columns m ∙ ap (givenInColumns (cellsOf m)) (no-inflow l f g)
+    unplaced (stepOf (lentInColumns m)) ≡ givenInColumns (cellsOf m) (before-E4.stepOf l)
+no-inflow-as-before l f g = let m = with-no-inflow l in columns-as-before m ∙ ap (givenInColumns (cellsOf m)) (no-inflow l f g)
 
 module _ (l : Lent) (w v : ℤ) (old new : List ℤ) (g : Gives (stepOf l) (Accepted w v) old new) where
   abbrev went : Taken l w v new
@@ -204,22 +245,8 @@ no-shortfall-two l q = none-short-table (l .bed) (cellsOf l) (l .dx) (before-E6.
 
 -- so every call, whatever it is lent, is answered as it was with the correction: the same number, or the same table, in columns, and
 -- volumes
-pub uncorrected-as-before : (l : Lent) → stepOf (lentInColumns l) ≡ givenInColumns (cellsOf l) (before-E6.stepOf l)
-uncorrected-as-before l = in-columns l ∙ ap (givenInColumns (cellsOf l)) (uncorrected l)
-
--- ---- what E7 changed: a state is lent in four columns, where its cells stood one after another
--- a call that is lent the columns of a table of cells is answered as before: the same number, or the columns of the same table, and the
--- same volumes;
-pub columns-as-before : (l : Lent) → stepOf (lentInColumns l) ≡ givenInColumns (cellsOf l) (before-E7.stepOf l)
-columns-as-before l = in-columns l
-
--- and this is every call: a table of 4n numbers is the columns of one table of cells, and of no other (one of another length is lent as it
--- is in both, and refused)
-pub columns-of-one : (n : ℕ) (t : List ℤ) → length t ≡ 4 * n → ColumnsOfOne n t
-columns-of-one n t e = of-one n t e
-
-pub every-call-as-before : (l : Lent) → stepOf l ≡ givenInColumns (cellsOf l) (before-E7.stepOf (lentInCells l))
-every-call-as-before l = from-cells l
+pub uncorrected-as-before : (l : Lent) → unplaced (stepOf (lentInColumns l)) ≡ givenInColumns (cellsOf l) (before-E6.stepOf l)
+uncorrected-as-before l = columns-as-before l ∙ ap (givenInColumns (cellsOf l)) (uncorrected l)
 
 -- ---- demand 3, over any number of accepted calls on one bed with n cells of length dx; all else that they are given may differ
 module _ (bed : List ℤ) (n dx : ℕ) where
@@ -254,15 +281,15 @@ module _ (bed : List ℤ) (n dx : ℕ) where
   Over t k = NoneBelow bed t k × Excess bed t k
 
   -- and no call is refused because one would have been: after an 8 some value is too large, and every depth at or above nought
-  pub eight-too-large : (s : List ℤ) (old new : List ℤ) (c : Called bed n dx s (Refused 8) old new)
+  pub eight-too-large : (s : List ℤ) (p : ℕ) (old new : List ℤ) (c : Called bed n dx s (Refused 8 p) old new)
       → (NoneBelow bed (stageTable (lent c)) n × Excess bed (stageTable (lent c)) n)
       ⊎ (NoneBelow bed (filled (lent c)) n × Excess bed (filled (lent c)) n)
   unfolding stageTable filled
-  eight-too-large s old new c = let l = lent c in
+  eight-too-large s p old new c = let l = lent c in
       subst (λ (k : ℕ). Over (stageTable l) k ⊎ Over (filled l) k) (c .cells) (⊎-elim
       (λ h. inl (both (stageOne (reachOf l) (call c) (stateOf l)) h))
       (λ h. inr (both (next (reachOf l) (call c) (stateOf l)) h))
-      (eight (reachOf l) lawful (call c) (stateOf l) (refused-later l 8 old new (c .gave) refl)))
+      (eight (reachOf l) lawful (call c) (stateOf l) (refused-later l 8 p old new (c .gave) refl)))
     where
       both : (t : State) → Large (reachOf (lent c)) t → let k = length (c .friction) in Over (tableOf k t) k
       both t h = (none-below-table bed (length (c .friction)) dx t (h .wet), excess-table bed (length (c .friction)) dx t h)

@@ -7,6 +7,7 @@ pub mod UpdateSizes
 pub mod Faces
 pub mod RowsAreRules
 pub mod StateSizes
+pub mod FaceSpeeds
 pub mod OneStage
 pub mod EndOfStage
 pub mod TwoStages

@@ -73,6 +73,10 @@ mostTurn = pos 53647899623424
 abbrev pub mostThrust : ℤ
 mostThrust = pos 9810000000000
 
+-- a depth that may be worked with
+abbrev pub DepthIn : ℤ → Type 0
+DepthIn h = (pos 0 ≤ℤ h) × (h ≤ℤ deepest)
+
 -- ---- tables
 -- a table has room for the cells of a reach, or for its faces
 abbrev pub Room : {A : Type 0} → Reach → List A → Type 0

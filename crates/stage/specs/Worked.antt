@@ -7,8 +7,9 @@ use lib.IntN.{ℤ, pos}
 use Rattle.tables.specs.Cells.{cellIn, tableOf}
 use Rattle.rules.specs.Reach.{Reach, Call, State}
 use Rattle.rules.specs.Step.{carry, next}
-use Rattle.rules.specs.Refusals.{verdict}
-use Rattle.rules.specs.Lent.{Lent, reachOf, callOf, stateOf, number}
+use Rattle.rules.specs.Lent.{Lent, reachOf, callOf, stateOf}
+use Rattle.rules.specs.Laws.Verdicts.{Found, at, found}
+use Rattle.rules.specs.Laws.Lengths.{foundOf}
 use Rattle.reach.specs.declared.Reach.{Reach as ToldReach}
 use Rattle.reach.specs.declared.Call.{Call as ToldCall}
 use Rattle.reach.specs.declared.Given.{Given}
@@ -23,22 +24,22 @@ use Rattle.stage.specs.declared.worked.Worked.the-variants.{Refused, Don
 abbrev pub Volume : ℤ → Type 0
 Volume w = UpTo mostVolume w
 
--- a number k and the table as it was; or the two volumes, and the new state in the table
-pub record Stopped (k m : ℕ) (old new : List ℤ) : Type 0 where
-  pub number : m ≡ k
-  pub some : 0 < m
+-- what the checks found, k, and the table as it was; or the two volumes, and the new state in the table
+pub record Stopped (k m : Found) (old new : List ℤ) : Type 0 where
+  pub found : m ≡ k
+  pub some : 0 < m .no
   pub kept : new ≡ old
 
-pub record Went (r : Reach) (c : Call) (s : State) (k : ℕ) (w v : ℤ) (new : List ℤ) : Type 0 where
-  pub none : k ≡ 0
+pub record Went (r : Reach) (c : Call) (s : State) (k : Found) (w v : ℤ) (new : List ℤ) : Type 0 where
+  pub none : k .no ≡ 0
   pub left : w ≡ carry r c s 0
   pub right : v ≡ carry r c s (r .n)
   pub cells : new ≡ tableOf (r .n) (next r c s)
   pub left-in : Volume w
   pub right-in : Volume v
 
-abbrev pub Says : Reach → Call → State → ℕ → Worked → List ℤ → List ℤ → Type 0
-Says r c s k (Refused m) old new = Stopped k m old new
+abbrev pub Says : Reach → Call → State → Found → Worked → List ℤ → List ℤ → Type 0
+Says r c s k (Refused m p) old new = Stopped k (at m p) old new
 Says r c s k (Done w v) old new = Went r c s k w v new
 
 -- the checks after 2, and the step on tables
@@ -46,7 +47,7 @@ abbrev pub TablesSay : ToldReach → ToldCall → List ℤ → List ℕ → List
 TablesSay reach call bed friction state w old new =
     let r : Reach = reachIn reach bed in let c : Call = callOn call (λ i. pos (getD friction i 0)) in
     let s : State = cellIn (reach .n) state in
-    Says r c s (verdict (readyChecks (call .dry) (reach .n) bed friction s ++ bothChecks r c s)) w old new
+    Says r c s (found (readyChecks (call .dry) (reach .n) bed friction s ++ bothChecks r c s)) w old new
 
 -- what is lent and given
 abbrev pub lentBy : List ℤ → ℕ → List ℤ → List ℕ → Given → Lent
@@ -64,4 +65,4 @@ lentBy state room bed friction g = record {
 }
 
 abbrev pub WorkedSays : Lent → Worked → List ℤ → List ℤ → Type 0
-WorkedSays a w old new = Says (reachOf a) (callOf a) (stateOf a) (number a) w old new
+WorkedSays a w old new = Says (reachOf a) (callOf a) (stateOf a) (foundOf a) w old new

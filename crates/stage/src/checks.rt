@@ -1,4 +1,5 @@
-// The checks of what is lent, and of a finished state, each over the whole reach.
+// The checks of what is lent, and of a finished state, each over the whole reach: one of places gives the
+// lowest to which it applies, or how many there are.
 use crate::cell::depths;
 use crate::cell::off_cell;
 use crate::sides::speed_of;
@@ -26,7 +27,7 @@ ghost use mathlib.Core.List.{List};
 ghost use Prim.Native.Nat.{ℕ, _*_};
 ghost use lib.ListN.{getD, length};
 ghost use lib.IntN.{ℤ, pos};
-ghost use Rattle.tables.specs.Some.{some};
+ghost use Rattle.tables.specs.Some.{lowest};
 ghost use Rattle.tables.specs.Cells.{asCell, seen};
 ghost use Rattle.rules.specs.Refusals.{badEnd, badCall, badBed, badRough, offCell, fastCell};
 ghost use Rattle.rules.specs.Lent.{misfit};
@@ -105,49 +106,49 @@ fn bad_value(z: i64) -> bool
     size % 2 != 0
 }
 
-// 3: is some bed value out of range or odd?
-pub fn bad_bed(bed: &[i32]) -> bool
-    ensures { λ r. ⌜ r ≡ some (λ i. badBed (getD (now (bed .entry)) i (pos 0))) (length (now (bed .entry))) ⌝ }
+// 3: the lowest bed value that is out of range or odd, or their number.
+pub fn bad_bed(bed: &[i32]) -> usize
+    ensures { λ r. ⌜ r ≡ lowest (λ i. badBed (getD (now (bed .entry)) i (pos 0))) (length (now (bed .entry))) ⌝ }
 {
     let mut i: usize = 0;
     while i < bed.len() {
         if bad_value(bed_at(bed, i)) {
-            return true;
+            return i;
         }
         i += 1;
     }
-    false
+    bed.len()
 }
 
-// 4: is some friction value over 200?
-pub fn bad_friction(friction: &[u16]) -> bool
-    ensures { λ r. ⌜ r ≡ some (λ i. badRough (pos (getD (now (friction .entry)) i 0))) (length (now (friction .entry))) ⌝ }
+// 4: the lowest friction value over 200, or their number.
+pub fn bad_friction(friction: &[u16]) -> usize
+    ensures { λ r. ⌜ r ≡ lowest (λ i. badRough (pos (getD (now (friction .entry)) i 0))) (length (now (friction .entry))) ⌝ }
 {
     let mut i: usize = 0;
     while i < friction.len() {
         if ROUGHEST < friction[i] {
-            return true;
+            return i;
         }
         i += 1;
     }
-    false
+    friction.len()
 }
 
-// 5 and 8: is some cell out of range?
-pub fn off(t: &[Cell], bed: &[i32], reach: Reach) -> bool
+// 5 and 8: the lowest cell out of range, or n.
+pub fn off(t: &[Cell], bed: &[i32], reach: Reach) -> usize
     requires { ⌜ Room reach (now t) ⌝ }
     requires { ⌜ AllUnfinished (now bed) (reach .n) (seen (now t)) ⌝ }
-    ensures { λ r. ⌜ r ≡ some (λ i. offCell (bedAt (now (bed .entry)) i) (seen (now (t .entry)) i)) (reach .n) ⌝ }
+    ensures { λ r. ⌜ r ≡ lowest (λ i. offCell (bedAt (now (bed .entry)) i) (seen (now (t .entry)) i)) (reach .n) ⌝ }
 {
     let n = reach.n;
     let mut i: usize = 0;
     while i < n {
         if off_cell(under(bed, i), t[i]) {
-            return true;
+            return i;
         }
         i += 1;
     }
-    false
+    n
 }
 
 // Is the speed of a cell's mean discharge too large? A shallow cell has none.
@@ -160,20 +161,20 @@ fn fast_cell(b: Bed, x: Cell, dry: i64) -> bool
     past(FASTEST, speed_of(x[2], h[0], dry))
 }
 
-// 6, of friction: is some cell too fast? Checked also where friction is 0.
-pub fn fast(t: &[Cell], bed: &[i32], reach: Reach, call: Call) -> bool
+// 6, of friction: the lowest cell that is too fast, or n. Checked also where friction is 0.
+pub fn fast(t: &[Cell], bed: &[i32], reach: Reach, call: Call) -> usize
     requires { ⌜ Room reach (now t) ⌝ }
     requires { ⌜ Ranged (now bed) (reach .n) (seen (now t)) ⌝ }
     requires { ⌜ DryDepth (call .dry) ⌝ }
-    ensures { λ r. ⌜ r ≡ some (λ i. fastCell (call .dry) (bedAt (now (bed .entry)) i) (seen (now (t .entry)) i)) (reach .n) ⌝ }
+    ensures { λ r. ⌜ r ≡ lowest (λ i. fastCell (call .dry) (bedAt (now (bed .entry)) i) (seen (now (t .entry)) i)) (reach .n) ⌝ }
 {
     let n = reach.n;
     let mut i: usize = 0;
     while i < n {
         if fast_cell(under(bed, i), t[i], call.dry) {
-            return true;
+            return i;
         }
         i += 1;
     }
-    false
+    n
 }

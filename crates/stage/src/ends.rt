@@ -3,33 +3,27 @@
 use crate::lent::widened;
 use crate::rows::Flux;
 use crate::rows::Side;
-use crate::rows::Sides;
-use crate::rows::left_side;
-use crate::rows::right_side;
 use crate::sides::speed_of;
 use face::answer::Carried;
-use reach::Call;
 use reach::End;
-use reach::Reach;
 use reach::limits::FASTEST;
 use reach::limits::INFLOW;
 use reach::limits::past;
 use reach::size::size;
 use speeds::answer::Whole;
 ghost use mathlib.Core.Path.{_≡_};
-ghost use Prim.Native.Nat.{_≤_, _<_};
-ghost use lib.IntN.{pos, _+ℤ_};
-ghost use lib.Signed.{_≤ℤ_};
+ghost use Prim.Native.Nat.{_≤_};
+ghost use lib.IntN.{_+ℤ_};
 ghost use Rattle.whole.specs.Choice.{maxZ, sizeZ};
-ghost use Rattle.rules.specs.Limits.{deepest, largestInflow};
+ghost use Rattle.rules.specs.Limits.{largestInflow};
 ghost use Rattle.rules.specs.Face.{wave, face};
 ghost use Rattle.rules.specs.Ends as rules;
 ghost use Rattle.rules.specs.Refusals.{fastInflow};
 ghost use Rattle.rules.specs.Laws.Sizes.{Sound};
 ghost use Rattle.reach.specs.Told.{endIn};
-ghost use Rattle.reach.specs.Ranges.{UpTo, DryDepth, Numbers};
-ghost use Rattle.stage.specs.Rows.{Sounds, sideIn, fluxIn, fastEnds};
-ghost use Rattle.stage.specs.Ranges.{thinFastest, Room};
+ghost use Rattle.reach.specs.Ranges.{UpTo, DryDepth};
+ghost use Rattle.stage.specs.Rows.{sideIn, fluxIn};
+ghost use Rattle.stage.specs.Ranges.{thinFastest, DepthIn};
 
 // What crosses between two sides. Both are within the limits, so the face crate never refuses.
 pub fn crossing(l: Side, r: Side) -> Flux
@@ -61,7 +55,7 @@ fn outer(kind: u32, x: Side) -> Side
 
 // The wave speed of a depth within the limits.
 fn wave_of(h: i64) -> i64
-    requires { ⌜ (pos 0 ≤ℤ h) × (h ≤ℤ deepest) ⌝ }
+    requires { ⌜ DepthIn h ⌝ }
     ensures { λ r. ⌜ r ≡ wave h ⌝ }
 {
     match speeds::wave::wave(h) {
@@ -73,7 +67,7 @@ fn wave_of(h: i64) -> i64
 // uQ: the speed of an end's inflow at the depth of its inner side.
 fn inflow_speed(end: End, x: Side, dry: i64) -> i64
     requires { ⌜ end .q ≤ largestInflow ⌝ }
-    requires { ⌜ Sound (sideIn x) ⌝ }
+    requires { ⌜ DepthIn (x .h) ⌝ }
     requires { ⌜ DryDepth dry ⌝ }
     ensures { λ r. ⌜ r ≡ rules.inflowSpeed dry (endIn end) (sideIn x) ⌝ }
 {
@@ -81,9 +75,9 @@ fn inflow_speed(end: End, x: Side, dry: i64) -> i64
 }
 
 // 6, of an end: has it an inflow that is too fast?
-fn fast_inflow(end: End, x: Side, dry: i64) -> bool
+pub fn fast_inflow(end: End, x: Side, dry: i64) -> bool
     requires { ⌜ end .q ≤ largestInflow ⌝ }
-    requires { ⌜ Sound (sideIn x) ⌝ }
+    requires { ⌜ DepthIn (x .h) ⌝ }
     requires { ⌜ DryDepth dry ⌝ }
     ensures { λ r. ⌜ r ≡ fastInflow dry (endIn end) (sideIn x) ⌝ }
 {
@@ -91,19 +85,6 @@ fn fast_inflow(end: End, x: Side, dry: i64) -> bool
         return false;
     }
     past(FASTEST, inflow_speed(end, x, dry))
-}
-
-// The same of the two ends, beside the sides in d.
-pub fn fast_ends(d: &[Sides], reach: Reach, call: Call) -> bool
-    requires { ⌜ (0 < reach .n) × Room reach (now d) ⌝ }
-    requires { ⌜ Numbers reach call ⌝ }
-    requires { ⌜ Sounds (now d) (reach .n) ⌝ }
-    ensures { λ r. ⌜ r ≡ fastEnds reach call (now (d .entry)) ⌝ }
-{
-    if fast_inflow(call.left, left_side(d[0]), call.dry) {
-        return true;
-    }
-    fast_inflow(call.right, right_side(d[reach.n - 1]), call.dry)
 }
 
 // S of an inflow with the speed v: the greater of v and of a wave's speed against the inner side.

@@ -44,7 +44,7 @@ fn too_long(x: Flux, reach: Reach, call: Call) -> bool
     4096 * reach.dx < 2 * call.dt * x.s
 }
 
-// What is kept of a face, whose top speed has been checked: F, K, A, and V = F·dt/dx.
+// What is kept of a face: F, K, A, and V = F·dt/dx.
 fn face_row(x: Flux, reach: Reach, call: Call) -> FaceRow
     requires { ⌜ Sized (fluxIn x) ⌝ }
     requires { ⌜ Numbers reach call ⌝ }
@@ -53,8 +53,8 @@ fn face_row(x: Flux, reach: Reach, call: Call) -> FaceRow
     [x.f, x.k, x.a, x.f * call.dt / reach.dx]
 }
 
-// The rows of all n + 1 faces into f, and whether the step is too long at some face.
-pub fn faces(d: &[Sides], reach: Reach, call: Call, f: &mut [FaceRow]) -> bool
+// 7: the rows of the n + 1 faces into f, up to the lowest at which the step is too long: that face, or n + 1.
+pub fn faces(d: &[Sides], reach: Reach, call: Call, f: &mut [FaceRow]) -> usize
     requires { ⌜ (0 < reach .n) × Room reach (now d) × FaceRoom reach (now f) ⌝ }
     requires { ⌜ Numbers reach call ⌝ }
     requires { ⌜ Sounds (now d) (reach .n) × SlowEnds reach call (now d) ⌝ }
@@ -65,11 +65,11 @@ pub fn faces(d: &[Sides], reach: Reach, call: Call, f: &mut [FaceRow]) -> bool
     let mut i: usize = 0;
     while i <= n {
         let x = face_at(d, reach, call, i);
-        if too_long(x, reach, call) {
-            return true;
-        }
         f[i] = face_row(x, reach, call);
+        if too_long(x, reach, call) {
+            return i;
+        }
         i += 1;
     }
-    false
+    n + 1
 }

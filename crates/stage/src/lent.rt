@@ -14,19 +14,19 @@ ghost use Rattle.stage.specs.Ranges.{Room};
 ghost use Rattle.stage.specs.Says.{LoadSays};
 
 // Where number m of cell i stands in a lent state of n cells: in column m.
-pub fn place(n: usize, m: usize, i: usize) -> usize
+pub fn index(n: usize, m: usize, i: usize) -> usize
     requires { ⌜ (n ≤ mostCells) × (m < 4) × (i < n) ⌝ }
     ensures { λ r. ⌜ (r ≡ m * n + i) × (r < 4 * n) ⌝ }
 {
     m * n + i
 }
 
-// Number m of cell i of a lent state of n cells, from its place in column m.
+// Number m of cell i of a lent state of n cells, which stands in column m.
 fn lent_number(s: &[i32], n: usize, m: usize, i: usize) -> i64
     requires { ⌜ (n ≤ mostCells) × (m < 4) × (i < n) × (length (now s) ≡ 4 * n) ⌝ }
     ensures { λ r. ⌜ (r ≡ inColumn n (now (s .entry)) m i) × UpTo widest (inColumn n (now (s .entry)) m i) ⌝ }
 {
-    s[place(n, m, i)] as i64
+    s[index(n, m, i)] as i64
 }
 
 // Cell i of a lent state of n cells.

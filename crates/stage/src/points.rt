@@ -58,8 +58,9 @@ fn points_of(b: Bed, x: Cell, dry: i64) -> [i64; 3]
     pair_of(h[0], share_of(h[1]), x[2], share_of(x[3]), dry)
 }
 
-// The momentum of every cell's Gauss points into g, and whether some point is too fast.
-pub fn points(t: &[Cell], bed: &[i32], reach: Reach, call: Call, g: &mut [i64]) -> bool
+// The momentum of the cells' Gauss points into g, up to the lowest cell with a point that is too fast: that
+// cell, or n.
+pub fn points(t: &[Cell], bed: &[i32], reach: Reach, call: Call, g: &mut [i64]) -> usize
     requires { ⌜ Room reach (now t) × Room reach (now g) ⌝ }
     requires { ⌜ Ranged (now bed) (reach .n) (seen (now t)) ⌝ }
     requires { ⌜ DryDepth (call .dry) ⌝ }
@@ -70,11 +71,11 @@ pub fn points(t: &[Cell], bed: &[i32], reach: Reach, call: Call, g: &mut [i64]) 
     let mut i: usize = 0;
     while i < n {
         let p = points_of(under(bed, i), t[i], call.dry);
-        if either_fast(p[0], p[1]) {
-            return true;
-        }
         g[i] = p[2];
+        if either_fast(p[0], p[1]) {
+            return i;
+        }
         i += 1;
     }
-    false
+    n
 }

@@ -10,22 +10,21 @@ use reach::bed::under;
 use speeds::answer::Whole;
 ghost use mathlib.Core.Path.{_≡_};
 ghost use mathlib.Core.List.{[]};
-ghost use lib.IntN.{pos, _+ℤ_, _-ℤ_};
-ghost use lib.Signed.{_≤ℤ_};
+ghost use lib.IntN.{_+ℤ_, _-ℤ_};
 ghost use Rattle.tables.specs.Filling.{FillSays};
 ghost use Rattle.tables.specs.Cells.{asCell, seen};
-ghost use Rattle.rules.specs.Limits.{deepest, fullest};
+ghost use Rattle.rules.specs.Limits.{fullest};
 ghost use Rattle.rules.specs.Face.{speed};
 ghost use Rattle.rules.specs.Reach.{sideL, sideR};
 ghost use Rattle.reach.specs.Told.{bedIn};
 ghost use Rattle.reach.specs.Ranges.{UpTo, DryDepth};
-ghost use Rattle.stage.specs.Ranges.{Room, Inside, Ranged, Around};
+ghost use Rattle.stage.specs.Ranges.{DepthIn, Room, Inside, Ranged, Around};
 ghost use Rattle.stage.specs.Rows.{sideBy, sideRow, sidesAt, fastSides};
 
 // The speed of a discharge at a depth. All are within the limits, so it is never refused.
 pub fn speed_of(q: i64, h: i64, dry: i64) -> i64
     requires { ⌜ UpTo fullest q ⌝ }
-    requires { ⌜ (pos 0 ≤ℤ h) × (h ≤ℤ deepest) ⌝ }
+    requires { ⌜ DepthIn h ⌝ }
     requires { ⌜ DryDepth dry ⌝ }
     ensures { λ r. ⌜ r ≡ speed dry q h ⌝ }
 {
@@ -59,8 +58,8 @@ fn sides_of(b: Bed, x: Cell, dry: i64) -> Sides
     places_of(h[0], h[1], x[2], x[3], dry)
 }
 
-// The sides of every cell of t into d, and whether some side is too fast.
-pub fn sides(t: &[Cell], bed: &[i32], reach: Reach, call: Call, d: &mut [Sides]) -> bool
+// The sides of the cells of t into d, up to the lowest cell with a side that is too fast: that cell, or n.
+pub fn sides(t: &[Cell], bed: &[i32], reach: Reach, call: Call, d: &mut [Sides]) -> usize
     requires { ⌜ Room reach (now t) × Room reach (now d) ⌝ }
     requires { ⌜ Ranged (now bed) (reach .n) (seen (now t)) ⌝ }
     requires { ⌜ DryDepth (call .dry) ⌝ }
@@ -71,11 +70,11 @@ pub fn sides(t: &[Cell], bed: &[i32], reach: Reach, call: Call, d: &mut [Sides])
     let mut i: usize = 0;
     while i < n {
         let s = sides_of(under(bed, i), t[i], call.dry);
-        if either_fast(s[1], s[3]) {
-            return true;
-        }
         d[i] = s;
+        if either_fast(s[1], s[3]) {
+            return i;
+        }
         i += 1;
     }
-    false
+    n
 }

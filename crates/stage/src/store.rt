@@ -1,5 +1,5 @@
 // The new state, written into the lent table: the last thing that an accepted step does.
-use crate::lent::place;
+use crate::lent::index;
 use reach::Cell;
 ghost use mathlib.Core.Path.{_≡_};
 ghost use Prim.Native.Nat.{_+_, _*_, _≤_, _<_};
@@ -9,12 +9,12 @@ ghost use Rattle.tables.specs.Cells.{asCell, putCell, tableOf, seen};
 ghost use Rattle.rules.specs.Limits.{mostCells};
 ghost use Rattle.stage.specs.Stored.{Fits, AllFit};
 
-// Number m of x, which is cell i of n, to its place in column m.
+// Number m of x, which is cell i of n, to where it stands in column m.
 fn put(next: &mut [i32], n: usize, m: usize, i: usize, x: Cell)
     requires { ⌜ (n ≤ mostCells) × (m < 4) × (i < n) × (length (now next) ≡ 4 * n) × Fits (asCell x) ⌝ }
     ensures { λ _. ⌜ now (next .exit) ≡ set (now (next .entry)) (m * n + i) (getD x m (pos 0)) ⌝ }
 {
-    next[place(n, m, i)] = x[m] as i32;
+    next[index(n, m, i)] = x[m] as i32;
 }
 
 // Cell i of n: the others are as they were.

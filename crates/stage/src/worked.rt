@@ -6,6 +6,7 @@ use crate::checks::bad_numbers;
 use crate::checks::fast;
 use crate::checks::off;
 use crate::ending::end;
+use crate::found::Found;
 use crate::friction::rub;
 use crate::joining::end_volume;
 use crate::joining::join;
@@ -25,10 +26,10 @@ ghost use mathlib.Core.Path.{_≡_};
 ghost use Prim.Native.Nat.{_+_, _*_};
 ghost use lib.ListN.{length};
 ghost use Rattle.tables.specs.Cells.{seen};
-ghost use Rattle.rules.specs.Refusals.{verdict};
+ghost use Rattle.rules.specs.Laws.Verdicts.{found};
 ghost use Rattle.reach.specs.Ranges.{DryDepth, Wides};
 ghost use Rattle.stage.specs.Ranges.{InOrder, Room, FaceRoom, Ranged, FaceRows};
-ghost use Rattle.stage.specs.Says.{readyChecks, OneSays, TwoSays, BothSay};
+ghost use Rattle.stage.specs.Says.{foundIn, readyChecks, OneSays, TwoSays, BothSay};
 ghost use Rattle.stage.specs.Worked.{TablesSay, lentBy, WorkedSays};
 
 // A reach of at most so many cells is worked on short tables: they take a sixteenth of the room, and
@@ -38,31 +39,49 @@ const SHORT_CELLS: usize = 64;
 const SHORT_FACES: usize = SHORT_CELLS + 1;
 
 pub enum Worked {
-    // the number of the first check that applies
-    Refused(u32),
+    // the number of the first check that applies, and the lowest place to which it does
+    Refused(u32, usize),
     // W at face 0 and at face n
     Done(i64, i64),
 }
 
-// Checks 3 to 5 and the friction speeds of the lent state in t, in their order; 0 where none applies.
-fn ready(t: &[Cell], bed: &[i32], friction: &[u16], reach: Reach, call: Call) -> u32
+// Checks 3 to 5 and the friction speeds of the lent state in t, in their order: what they found.
+fn ready(t: &[Cell], bed: &[i32], friction: &[u16], reach: Reach, call: Call) -> Found
     requires { ⌜ Room reach (now t) × (length (now bed) ≡ reach .n + 1) × (length (now friction) ≡ reach .n) ⌝ }
     requires { ⌜ Wides (reach .n) (seen (now t)) × DryDepth (call .dry) ⌝ }
-    ensures { λ r. ⌜ r ≡ verdict (readyChecks (call .dry) (reach .n) (now (bed .entry)) (now (friction .entry)) (seen (now (t .entry)))) ⌝ }
+    ensures { λ r. ⌜ foundIn r
+        ≡ found (readyChecks (call .dry) (reach .n) (now (bed .entry)) (now (friction .entry)) (seen (now (t .entry)))) ⌝ }
 {
-    if bad_bed(bed) {
-        return 3;
+    let n = reach.n;
+    let bed_value = bad_bed(bed);
+    if bed_value <= n {
+        return Found {
+            no: 3,
+            place: bed_value,
+        };
     }
-    if bad_friction(friction) {
-        return 4;
+    let rough = bad_friction(friction);
+    if rough < n {
+        return Found {
+            no: 4,
+            place: rough,
+        };
     }
-    if off(t, bed, reach) {
-        return 5;
+    let outside = off(t, bed, reach);
+    if outside < n {
+        return Found {
+            no: 5,
+            place: outside,
+        };
     }
-    if fast(t, bed, reach, call) {
-        return 6;
+    let too_fast = fast(t, bed, reach, call);
+    if too_fast < n {
+        return Found {
+            no: 6,
+            place: too_fast,
+        };
     }
-    0
+    Found { no: 0, place: 0 }
 }
 
 // Stage one from the state a after friction, finished, into b, with its faces in f. Of the tables that
@@ -77,15 +96,15 @@ fn stage_one(
     f: &mut [FaceRow],
     u: &mut [Cell],
     b: &mut [Cell],
-) -> u32
+) -> Found
     requires { ⌜ InOrder reach call (now bed) ⌝ }
     requires { ⌜ Room reach (now a) × Room reach (now d) × Room reach (now g) × FaceRoom reach (now f)
         × Room reach (now u) × Room reach (now b) ⌝ }
     requires { ⌜ Ranged (now bed) (reach .n) (seen (now a)) ⌝ }
-    ensures { λ k. ⌜ OneSays reach call (now (bed .entry)) (now (a .entry)) k (now (f .exit)) (now (b .exit)) ⌝ }
+    ensures { λ k. ⌜ OneSays reach call (now (bed .entry)) (now (a .entry)) (foundIn k) (now (f .exit)) (now (b .exit)) ⌝ }
 {
     let k = stage(a, bed, reach, call, d, g, f, u);
-    if k != 0 {
+    if k.no != 0 {
         return k;
     }
     end(u, bed, reach, call, b)
@@ -103,17 +122,17 @@ fn stage_two(
     h: &mut [FaceRow],
     u: &mut [Cell],
     b: &mut [Cell],
-) -> u32
+) -> Found
     requires { ⌜ InOrder reach call (now bed) ⌝ }
     requires { ⌜ Room reach (now a) × Room reach (now d) × Room reach (now g) × Room reach (now u) × Room reach (now b) ⌝ }
     requires { ⌜ FaceRoom reach (now f) × FaceRoom reach (now h) ⌝ }
     requires { ⌜ Ranged (now bed) (reach .n) (seen (now a)) × Ranged (now bed) (reach .n) (seen (now b)) ⌝ }
     requires { ⌜ FaceRows (now f) (reach .n) ⌝ }
     ensures { λ k. ⌜ TwoSays reach call (now (bed .entry)) (now (a .entry)) (now (f .entry)) (now (b .entry))
-        k (now (h .exit)) (now (b .exit)) ⌝ }
+        (foundIn k) (now (h .exit)) (now (b .exit)) ⌝ }
 {
     let k = stage(b, bed, reach, call, d, g, h, u);
-    if k != 0 {
+    if k.no != 0 {
         return k;
     }
     join(a, u, f, h, reach);
@@ -132,15 +151,16 @@ fn both_stages(
     h: &mut [FaceRow],
     u: &mut [Cell],
     b: &mut [Cell],
-) -> u32
+) -> Found
     requires { ⌜ InOrder reach call (now bed) ⌝ }
     requires { ⌜ Room reach (now a) × Room reach (now d) × Room reach (now g) × Room reach (now u) × Room reach (now b) ⌝ }
     requires { ⌜ FaceRoom reach (now f) × FaceRoom reach (now h) ⌝ }
     requires { ⌜ Ranged (now bed) (reach .n) (seen (now a)) ⌝ }
-    ensures { λ k. ⌜ BothSay reach call (now (bed .entry)) (now (a .entry)) k (now (f .exit)) (now (h .exit)) (now (b .exit)) ⌝ }
+    ensures { λ k. ⌜ BothSay reach call (now (bed .entry)) (now (a .entry)) (foundIn k)
+        (now (f .exit)) (now (h .exit)) (now (b .exit)) ⌝ }
 {
     let k = stage_one(a, bed, reach, call, d, g, f, u, b);
-    if k != 0 {
+    if k.no != 0 {
         return k;
     }
     stage_two(a, f, bed, reach, call, d, g, h, u, b)
@@ -172,13 +192,13 @@ fn on_tables(
 {
     load(state, reach, a);
     let k = ready(a, bed, friction, reach, call);
-    if k != 0 {
-        return Worked::Refused(k);
+    if k.no != 0 {
+        return Worked::Refused(k.no, k.place);
     }
     rub(a, bed, friction, reach, call);
     let m = both_stages(a, bed, reach, call, d, g, f, h, u, b);
-    if m != 0 {
-        return Worked::Refused(m);
+    if m.no != 0 {
+        return Worked::Refused(m.no, m.place);
     }
     store(b, reach.n, next);
     Worked::Done(end_volume(f, h, 0), end_volume(f, h, reach.n))
@@ -265,8 +285,8 @@ fn long_step(
     )
 }
 
-// One step from the lent state, bed and friction: the refusal's number, or the two end volumes and the new
-// state in `next`. Only an accepted step writes there.
+// One step from the lent state, bed and friction: the refusal's number and place, or the two end volumes and
+// the new state in `next`. Only an accepted step writes there.
 pub fn work(state: &[i32], next: &mut [i32], bed: &[i32], friction: &[u16], given: Given) -> Worked
     ensures { λ r. ⌜ WorkedSays
         (lentBy (now (state .entry)) (length (now (next .entry))) (now (bed .entry)) (now (friction .entry)) given)
@@ -274,7 +294,7 @@ pub fn work(state: &[i32], next: &mut [i32], bed: &[i32], friction: &[u16], give
 {
     let n = friction.len();
     if bad_lengths(state.len(), next.len(), bed.len(), n) {
-        return Worked::Refused(1);
+        return Worked::Refused(1, 0);
     }
     let reach = Reach {
         n,
@@ -290,7 +310,7 @@ pub fn work(state: &[i32], next: &mut [i32], bed: &[i32], friction: &[u16], give
         right,
     };
     if bad_numbers(reach, call) {
-        return Worked::Refused(2);
+        return Worked::Refused(2, 0);
     }
     if n <= SHORT_CELLS {
         return short_step(state, next, bed, friction, reach, call);

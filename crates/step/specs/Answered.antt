@@ -9,6 +9,7 @@ use borrow.Author.Tests.{eq-eqb, ne-eqb}
 use lib.Dec.{eqb}
 use lib.IntN.{ℤ}
 use Rattle.rules.specs.Lent.{Lent, number, filled, crossed, stepOf}
+use Rattle.rules.specs.Laws.Verdicts.{Found}
 use Rattle.stage.specs.Worked.{Volume, WorkedSays}
 use Rattle.stage.specs.declared.worked.Worked.{Worked}
 use Rattle.stage.specs.declared.worked.Worked.the-variants as worked
@@ -19,12 +20,13 @@ module _ (a : Lent) (w : Worked) (old new : List ℤ) (h : WorkedSays a w old ne
   told : (x : Worked) → w ≡ x → WorkedSays a x old new
   told x e = subst (λ (v : Worked). WorkedSays a v old new) e h
 
-  pub worked-none : (k : ℕ) → w ≡ worked.Refused k → Gives (stepOf a) (Refused k) old new
+  pub worked-none : (k p : ℕ) → w ≡ worked.Refused k p → Gives (stepOf a) (Refused k p) old new
   unfolding stepOf answer leaves
-  worked-none k e =
-      let g = told (worked.Refused k) e in
-      let z : eqb (number a) 0 ≡ false = ne-eqb (number a) 0 (λ d. let y : ⊥ = omega (arith, g .number, g .some) in y) in
-      rw z (record { says = ap Refused (g .number); table = g .kept })
+  worked-none k p e =
+      let g = told (worked.Refused k p) e in
+      let is : k ≡ number a = ap (λ (f : Found). f .no) (g .found) in
+      let z : eqb (number a) 0 ≡ false = ne-eqb (number a) 0 (λ d. let y : ⊥ = omega (arith, is, g .some) in y) in
+      rw z (record { says = λ i. Refused (g .found i .no) (g .found i .place); table = g .kept })
 
   module _ (p q : ℤ) (e : w ≡ worked.Done p q) where
     pub worked-volumes : Volume p × Volume q

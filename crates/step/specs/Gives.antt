@@ -26,27 +26,32 @@ lend state room bed friction dx dt jump dry left right = record {
   right = right;
 }
 
--- the scope document's number and values of each answer: the refusal's number, 0 for an accepted step; and W at face 0 and at face n
+-- the scope document's number and values of each answer: the refusal's number and its place, both 0 for an accepted step; and W at face 0
+-- and at face n
 unfoldable pub code : Answer → ℕ
-code (Refused k) = k
+code (Refused k p) = k
 code (Accepted w v) = 0
 
+unfoldable pub placed : Answer → ℕ
+placed (Refused k p) = p
+placed (Accepted w v) = 0
+
 unfoldable pub atLeft : Answer → ℤ
-atLeft (Refused k) = pos 0
+atLeft (Refused k p) = pos 0
 atLeft (Accepted w v) = w
 
 unfoldable pub atRight : Answer → ℤ
-atRight (Refused k) = pos 0
+atRight (Refused k p) = pos 0
 atRight (Accepted w v) = v
 
 -- the answer of an outcome,
 unfoldable pub answer : Outcome → Answer
-answer (refused k) = Refused k
+answer (refused k p) = Refused k p
 answer (accepted t w v) = Accepted w v
 
 -- and what it leaves in the lent table
 unfoldable pub leaves : Outcome → List ℤ → List ℤ
-leaves (refused k) old = old
+leaves (refused k p) old = old
 leaves (accepted t w v) old = t
 
 pub record Gives (o : Outcome) (a : Answer) (old new : List ℤ) : Type 0 where

@@ -10,8 +10,9 @@ pub use reach::End;
 pub use reach::Given;
 
 pub enum Answer {
-    // the number of the first check that applies; `next` is as it was
-    Refused(u32),
+    // the number of the first check that applies, and the lowest bed value, cell or face to which it does
+    // (0 for a 1 and a 2); `next` is as it was
+    Refused(u32, usize),
     // the volumes W at face 0 and at face n, rightward positive; all of `next` is filled
     Accepted(i64, i64),
 }
@@ -24,7 +25,7 @@ pub fn step(state: &[i32], next: &mut [i32], bed: &[i32], friction: &[u16], call
         r (now (next .entry)) (now (next .exit)) ⌝ }
 {
     match work(state, next, bed, friction, call) {
-        Worked::Refused(k) => Answer::Refused(k),
+        Worked::Refused(k, p) => Answer::Refused(k, p),
         Worked::Done(w, v) => Answer::Accepted(w, v),
     }
 }

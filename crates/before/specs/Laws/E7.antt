@@ -17,9 +17,13 @@ use Rattle.tables.specs.Cells.{Cell, cellIn, tableOf, length-table, cellIn-tabl
 use Rattle.rules.specs.Reach.{Reach, Call, State}
 use Rattle.rules.specs.Step.{next}
 use Rattle.rules.specs.Lent as lent
-use Rattle.rules.specs.Lent.{Lent, cellsOf, reachOf, callOf, misfit, misfits, filled, crossed, accepted}
-use Rattle.rules.specs.Laws.Agree.{Same, carry-same, next-same, refusal-same}
+use Rattle.rules.specs.Lent.{Lent, cellsOf, reachOf, callOf, misfit, misfits, filled, crossed}
+use Rattle.rules.specs.Refusals.{refusal}
+use Rattle.rules.specs.Laws.Alike.{same-number}
+use Rattle.rules.specs.Laws.Agree.{Same, carry-same, next-same, checks-same}
 use Rattle.rules.specs.Laws.Lengths.{fitted, first-number, later-number, fits}
+use Rattle.before.specs.E13 as E13
+use Rattle.before.specs.E13.{accepted}
 use Rattle.before.specs.E7.{cellAt, flat, stateOf, number, stepOf, rearranged, intoColumns, intoCells, ColumnsOfOne}
 use Rattle.before.specs.E7.{lending, lentInColumns, lentInCells, givenInColumns}
 
@@ -151,14 +155,18 @@ module _ (a : Lent) where
         table-same n (next r c t) (cellAt (flat (row n s))) (λ k l. next-same r c t (stateOf a) state-same k l ∙ sym (cellAt-flat n s k l))
         ∙ sym (columns-of n (flat (row n s)) (length-flat n s))
 
+  refusal-same : misfits a ≡ false → refusal r c t ≡ refusal r c (stateOf a)
+  unfolding refusal
+  refusal-same z = same-number (checks-same r c t (stateOf a) (state-same z) (some-cell z))
+
   number-same : lent.number b ≡ number a
   unfolding number
   number-same = by (misfits a)
       (λ z. first-number b (misfits-same ∙ z) ∙ rw z)
-      (λ z. later-number b (misfits-same ∙ z) ∙ refusal-same r c t (stateOf a) (state-same z) (some-cell z) ∙ rw z)
+      (λ z. later-number b (misfits-same ∙ z) ∙ refusal-same z ∙ rw z)
 
-  pub in-columns : lent.stepOf b ≡ givenInColumns n (stepOf a)
-  unfolding lent.stepOf stepOf givenInColumns filled crossed
+  pub in-columns : E13.stepOf b ≡ givenInColumns n (stepOf a)
+  unfolding E13.stepOf stepOf givenInColumns filled crossed
   in-columns = by (eqb (number a) 0)
       (λ z. let f = sym misfits-same ∙ fits b (number-same ∙ eqb-true (number a) 0 z) in let o = some-cell f in
       rw (number-same, z) (λ j. accepted (table-in-columns f j) (carry-same r c t (stateOf a) (state-same f) o 0 (omega arith) j)
@@ -166,6 +174,6 @@ module _ (a : Lent) where
       (λ z. rw (number-same, z))
 
 -- so it is of every call, since every table is the columns of one
-pub from-cells : (a : Lent) → lent.stepOf a ≡ givenInColumns (cellsOf a) (stepOf (lentInCells a))
+pub from-cells : (a : Lent) → E13.stepOf a ≡ givenInColumns (cellsOf a) (stepOf (lentInCells a))
 from-cells a =
-    ap (λ (t : List ℤ). lent.stepOf (lending t a)) (sym (columns-cells (cellsOf a) (a .now))) ∙ in-columns (lentInCells a)
+    ap (λ (t : List ℤ). E13.stepOf (lending t a)) (sym (columns-cells (cellsOf a) (a .now))) ∙ in-columns (lentInCells a)

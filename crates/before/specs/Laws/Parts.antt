@@ -1,7 +1,7 @@
 -- Parts that do in a call what the rules in force do, on every cell whose face depths are not below nought, make the step before E7:
 -- each stage starts from a state that passed check 5 or 8, so no other cell is met.
 -- Assumes nothing.
-use mathlib.Core.Path.{_≡_, sym, _∙_, ap, ap₂}
+use mathlib.Core.Path.{_≡_, refl, sym, _∙_, ap, ap₂}
 use mathlib.Core.Bool.{Bool, cond, _||_}
 use mathlib.Core.List.{List, [], _∷_, _++_}
 use Prim.Native.Nat.{ℕ, zero, suc, _<_}
@@ -12,7 +12,7 @@ use lib.ListN.{length}
 use lib.IntN.{pos, _*ℤ_}
 use lib.Signed.{ltZ}
 use Rattle.whole.specs.Flags.{by}
-use Rattle.tables.specs.Some.{some, some-same}
+use Rattle.tables.specs.Some.{some}
 use Rattle.tables.specs.Rows.{row-same}
 use Rattle.tables.specs.Cells.{Cell}
 use Rattle.rules.specs.Face.{Side, Flux}
@@ -22,15 +22,17 @@ use Rattle.rules.specs.Reach.{Reach, Call, State, Bed, under, sideL, sideR}
 use Rattle.rules.specs.Stage.{atLeft, atRight, faceAt, update, stage}
 use Rattle.rules.specs.Step.{rubbed, stageOne, half, carry, joinedCell, joined, next}
 use Rattle.rules.specs.Refusals.{badCall, badBed, badRough, off, fastFriction, fastSide, fastInflow, fastFace, fastGauss}
-use Rattle.rules.specs.Refusals.{tooLong, Check, chk, verdict, stageChecks, early, checks, refusal}
-use Rattle.rules.specs.Lent.{Lent, cellsOf, reachOf, callOf, misfits, Outcome, refused, accepted}
+use Rattle.rules.specs.Refusals.{tooLong, Check, each, ofCall, verdict, stageChecks, early, checks, refusal}
+use Rattle.rules.specs.Lent.{Lent, cellsOf, reachOf, callOf, misfits}
 use Rattle.rules.specs.Laws.Shown.{last, at-same}
 use Rattle.rules.specs.Laws.Agree.{Same, faceAt-same, stage-same, finish-same, off-same, stageChecks-same}
 use Rattle.rules.specs.Laws.Accept.{Clear, passed}
-use Rattle.rules.specs.Laws.Verdicts.{clear-at, verdict-after}
+use Rattle.rules.specs.Laws.Verdicts.{clear-at, of-call, verdict-after}
+use Rattle.rules.specs.Laws.Alike.{Alike, end, also, alike-after, alike-self, alike-alike, same-number}
 use Rattle.rules.specs.Laws.Lengths.{fitted}
 use Rattle.rules.specs.Laws.Positive.{Nonneg, Wet, rubbed-wet}
 use Rattle.rules.specs.Laws.Runs.{in-range}
+use Rattle.before.specs.E13.{Outcome, refused, accepted}
 use Rattle.before.specs.E7.{flat, stateOf, number, stepOf}
 use Rattle.before.specs.Parts.{Parts}
 use Rattle.before.specs.Parts as before
@@ -59,11 +61,10 @@ pub record AsInForce (p : Parts) (r : Reach) (c : Call) : Type 0 where
 module _ (r : Reach) (c : Call) (s : State) where
   abbrev one : List Check
   one =
-      chk 6 (some (fastFriction r c s) (r .n))
-      ∷ stageChecks r c (rubbed r c s) ++ chk 8 (some (off r (stageOne r c s)) (r .n)) ∷ []
+      each 6 (r .n) (fastFriction r c s) ∷ stageChecks r c (rubbed r c s) ++ each 8 (r .n) (off r (stageOne r c s)) ∷ []
 
   abbrev two : List Check
-  two = stageChecks r c (stageOne r c s) ++ chk 8 (some (off r (next r c s)) (r .n)) ∷ []
+  two = stageChecks r c (stageOne r c s) ++ each 8 (r .n) (off r (next r c s)) ∷ []
 
 module _ (p : Parts) (r : Reach) (c : Call) (k : AsInForce p r c) (o : 0 < r .n) where
   -- ---- a stage from a state with no face depth below nought is the one in force
@@ -101,14 +102,10 @@ module _ (p : Parts) (r : Reach) (c : Call) (k : AsInForce p r c) (o : 0 < r .n)
         (fastInflow (c .dry) (c .right) (atRight r c s i)) (fastSide (atLeft r c s (suc i)))
         (k .fastRight x ∙ ap (fastInflow (c .dry) (c .right)) (right-is i m)) (λ n. ap fastSide (left-is (suc i) n)))
 
-    checks-are : before.stageChecks p r c s ≡ stageChecks r c s
+    checks-are : Alike (before.stageChecks p r c s) (stageChecks r c s)
     unfolding before.stageChecks stageChecks before.tooLong tooLong
-    checks-are = λ j.
-        chk 6 (some-same (before.fastFace p r c s) (fastFace r c s) (suc (r .n)) fast-is j)
-        ∷ chk 6 (some (fastGauss r c s) (r .n))
-        ∷ chk 7 (some-same (before.tooLong p r c s) (tooLong r c s) (suc (r .n))
-        (λ i l. ap (λ (f : Flux). ltZ (pos 4096 *ℤ r .dx) (pos 2 *ℤ c .dt *ℤ f .S)) (face-is i l)) j)
-        ∷ []
+    checks-are = also fast-is (also (λ i l. refl)
+        (also (λ i l. ap (λ (f : Flux). ltZ (pos 4096 *ℤ r .dx) (pos 2 *ℤ c .dt *ℤ f .S)) (face-is i l)) end))
 
   -- ---- the step from s
   module _ (s : State) where
@@ -124,11 +121,10 @@ module _ (p : Parts) (r : Reach) (c : Call) (k : AsInForce p r c) (o : 0 < r .n)
       unfolding before.stageOne stageOne
       one-same = finish-same r c (before.stage p r c a) (stage r c a) (stage-is a (rubbed-wet r c s w))
 
-      checksOfOne-same : before.checksOfOne p r c s ≡ one r c s
+      checksOfOne-same : Alike (before.checksOfOne p r c s) (one r c s)
       unfolding before.checksOfOne
-      checksOfOne-same = λ j.
-          chk 6 (some (fastFriction r c s) (r .n))
-          ∷ checks-are a (rubbed-wet r c s w) j ++ chk 8 (off-same r c o b (stageOne r c s) one-same j) ∷ []
+      checksOfOne-same =
+          also (λ i l. refl) (alike-after (checks-are a (rubbed-wet r c s w)) (also (off-same r c b (stageOne r c s) one-same) end))
 
       -- and stage one its 8
       module _ (v : Wet r b) where
@@ -143,17 +139,17 @@ module _ (p : Parts) (r : Reach) (c : Call) (k : AsInForce p r c) (o : 0 < r .n)
             ((stage-is b v i l ∙ stage-same r c b (stageOne r c s) one-same i l) j)
             (carry-same i (omega arith) j) (carry-same (suc i) (omega arith) j))
 
-        checksOfTwo-same : before.checksOfTwo p r c s ≡ two r c s
+        checksOfTwo-same : Alike (before.checksOfTwo p r c s) (two r c s)
         unfolding before.checksOfTwo
-        checksOfTwo-same = λ j.
-            (checks-are b v ∙ stageChecks-same r c o b (stageOne r c s) one-same) j
-            ++ chk 8 (off-same r c o (before.next p r c s) (next r c s) next-same j) ∷ []
+        checksOfTwo-same =
+            alike-after (alike-alike (checks-are b v) (stageChecks-same r c b (stageOne r c s) one-same o))
+            (also (off-same r c (before.next p r c s) (next r c s) next-same) end)
 
     further-same : Wet r s → verdict (before.checksOfOne p r c s ++ before.checksOfTwo p r c s) ≡ verdict (one r c s ++ two r c s)
     further-same w =
         verdict-after (before.checksOfOne p r c s) (before.checksOfTwo p r c s) (two r c s)
-        (λ z. ap verdict (checksOfTwo-same w (wet-one p r c s z)))
-        ∙ (λ j. verdict (checksOfOne-same w j ++ two r c s))
+        (λ z. same-number (checksOfTwo-same w (wet-one p r c s z)))
+        ∙ same-number (alike-after (checksOfOne-same w) (alike-self (two r c s)))
 
 -- ---- the call: the same number, or the same table and volumes
 either : (k m : ℕ) (x y : Outcome) → k ≡ m → (k ≡ 0 → x ≡ y) → cond (eqb k 0) x (refused k) ≡ cond (eqb m 0) y (refused m)
@@ -175,15 +171,15 @@ module _ (bad : Reach → Call → Bool) (p : Parts) (a : Lent) (call : bad (rea
 
   some-cell : Clear (before.checksToFive bad a) → 0 < n
   unfolding before.checksToFive
-  some-cell q = fitted (length (a .now)) (a .room) (length (a .bed)) n (q .0) .some
+  some-cell q = fitted (length (a .now)) (a .room) (length (a .bed)) n (sym (of-call 1 (misfits a)) ∙ q .0) .some
 
   number-same : before.number bad p a ≡ number a
-  unfolding before.number number refusal checks early stageChecks before.checksToFive verdict
+  unfolding before.number number refusal checks early stageChecks before.checksToFive verdict some
   number-same =
       verdict-after (before.checksToFive bad a) (before.checksOfOne p r c s ++ before.checksOfTwo p r c s) (one r c s ++ two r c s)
       (λ q. further-same p r c k (some-cell q) s (wet-now bad a q))
-      ∙ (λ j. verdict (chk 1 (misfits a) ∷ chk 2 (call j)
-      ∷ chk 3 (some (λ i. badBed (r .bed i)) (suc n)) ∷ chk 4 (some (λ i. badRough (c .rough i)) n) ∷ chk 5 (some (off r s) n)
+      ∙ (λ j. verdict (ofCall 1 (misfits a) ∷ ofCall 2 (call j)
+      ∷ each 3 (suc n) (λ i. badBed (r .bed i)) ∷ each 4 n (λ i. badRough (c .rough i)) ∷ each 5 n (off r s)
       ∷ one r c s ++ two r c s))
 
   pub as-before : stepOf a ≡ before.stepBy bad p a

@@ -7,7 +7,7 @@ use mathlib.Core.Logic.{_⊎_, inl, inr}
 use Prim.Native.Nat.{ℕ, zero, suc}
 use lib.Dec.{T, eqb, eqb-refl}
 use Rattle.whole.specs.Flags.{holds, or-l, or-r, clash}
-use Rattle.rules.specs.Refusals.{any, Check, verdict}
+use Rattle.rules.specs.Refusals.{any, Check, applies, verdict}
 
 -- none of a list holds
 abbrev pub None : List Bool → Type 0
@@ -19,7 +19,7 @@ unfolding any
 any-none [] e = tt
 any-none (b ∷ bs) e = (or-l b (any bs) e, any-none bs (or-r b (any bs) e))
 
--- so the one at each place fails
+-- so each of them fails
 abbrev pub flagAt : List Bool → ℕ → Bool
 flagAt [] i = false
 flagAt (b ∷ bs) zero = b
@@ -48,7 +48,7 @@ any-one (b ∷ bs) e = go b refl e (any-one bs)
 -- no check of a list applies
 abbrev pub Clear : List Check → Type 0
 Clear [] = Unit {0}
-Clear (x ∷ xs) = (x .bad ≡ false) × Clear xs
+Clear (x ∷ xs) = (applies x ≡ false) × Clear xs
 
 -- none of them has the number k
 abbrev pub other : ℕ → List Check → Bool
@@ -59,9 +59,9 @@ other k (x ∷ xs) = cond (eqb (x .no) k) false (other k xs)
 pub passed : (k : ℕ) (xs ys : List Check) → T (other k xs) → verdict (xs ++ ys) ≡ k → (Clear xs) × (verdict ys ≡ k)
 unfolding verdict
 passed k [] ys t e = (tt, e)
-passed k (x ∷ xs) ys t e = go (eqb (x .no) k) (x .bad) refl refl t e (passed k xs ys)
+passed k (x ∷ xs) ys t e = go (eqb (x .no) k) (applies x) refl refl t e (passed k xs ys)
   where
-    go : (a b : Bool) → eqb (x .no) k ≡ a → x .bad ≡ b → T (cond a false (other k xs)) → cond b (x .no) (verdict (xs ++ ys)) ≡ k
+    go : (a b : Bool) → eqb (x .no) k ≡ a → applies x ≡ b → T (cond a false (other k xs)) → cond b (x .no) (verdict (xs ++ ys)) ≡ k
         → (T (other k xs) → verdict (xs ++ ys) ≡ k → (Clear xs) × (verdict ys ≡ k)) → (Clear (x ∷ xs)) × (verdict ys ≡ k)
     go true b d f t e h = absurd t
     go false true d f t e h = clash (sym d ∙ holds (eqb (x .no) k) (subst (λ (m : ℕ). T (eqb (x .no) m)) e (eqb-refl (x .no))))

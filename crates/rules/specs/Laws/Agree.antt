@@ -2,7 +2,6 @@
 -- Assumes nothing.
 use mathlib.Core.Path.{_≡_, refl, _∙_, ap, ap₂}
 use mathlib.Core.Bool.{not, cond, _&&_, _||_}
-use mathlib.Core.List.{[], _∷_, _++_}
 use Prim.Native.Nat.{ℕ, zero, suc, _<_}
 use native.Mathlib.Omega.{arith}
 use lib.Dec.{eqb}
@@ -10,7 +9,6 @@ use lib.IntN.{ℤ, pos, _-ℤ_, _*ℤ_}
 use lib.Signed.{ltZ}
 use Rattle.whole.specs.Flags.{by}
 use Rattle.whole.specs.Choice.{sizeZ}
-use Rattle.tables.specs.Some.{some, some-same}
 use Rattle.tables.specs.Cells.{Cell}
 use Rattle.rules.specs.Face.{Side, Flux}
 use Rattle.rules.specs.Reach.{Reach, Call, State, el, er, under, shallow, sideL, sideR}
@@ -19,9 +17,10 @@ use Rattle.rules.specs.Stage.{atLeft, atRight, shown, faceRight, faceAt,
 use Rattle.rules.specs.Finishing.{parted, marked, shallowAt, shallowLeft, shallowRight, spared, isLimited}
 use Rattle.rules.specs.Finishing.{minmod, withRight, withLeft, limited, limit, cut, dried, finish}
 use Rattle.rules.specs.Step.{rubbed, stageOne, half, carry, joinedCell, joined, next}
-use Rattle.rules.specs.Refusals.{badCall, badBed, badRough, offCell, off, fastFriction, fastSide, fastInflow, fastFace}
-use Rattle.rules.specs.Refusals.{fastPoints, fastGauss, tooLong, chk, verdict, stageChecks, early, checks, refusal}
+use Rattle.rules.specs.Refusals.{offCell, off, fastFriction, fastSide, fastInflow, fastFace, fastPoints, fastGauss, tooLong}
+use Rattle.rules.specs.Refusals.{stageChecks, early, checks}
 use Rattle.rules.specs.Laws.Shown.{inside, last, right-same, at-same}
+use Rattle.rules.specs.Laws.Alike.{Alike, end, also, alike-after}
 
 abbrev pub Same : Reach → State → State → Type 0
 Same r s t = (i : ℕ) → i < r .n → s i ≡ t i
@@ -108,35 +107,32 @@ unfolding finish
 finish-same r c s t e i l = ap (λ (x : Cell). dried (c .dry) (under r i) (cut (under r i) x)) (limit-same r c s t e i l)
 
 -- ---- refusals
-module _ (r : Reach) (c : Call) (o : 0 < r .n) (s t : State) (e : Same r s t) where
-  pub off-same : some (off r s) (r .n) ≡ some (off r t) (r .n)
+module _ (r : Reach) (c : Call) (s t : State) (e : Same r s t) where
+  pub off-same : (i : ℕ) → i < r .n → off r s i ≡ off r t i
   unfolding off
-  off-same = some-same (off r s) (off r t) (r .n) (λ i l. ap (offCell (under r i)) (e i l))
+  off-same i l = ap (offCell (under r i)) (e i l)
 
-  fastFace-at : (i : ℕ) → i < suc (r .n) → fastFace r c s i ≡ fastFace r c t i
-  unfolding fastFace
-  fastFace-at zero l = ap (λ (x : Side). fastInflow (c .dry) (c .left) x || fastSide x) (atLeft-same r c s t e zero o)
-  fastFace-at (suc i) l = let m : i < r .n = omega arith in let q = atRight-same r c s t e i m in
-      ap₂ _||_ (ap fastSide q) (last i (r .n) m
-      (fastInflow (c .dry) (c .right) (atRight r c s i)) (fastSide (atLeft r c s (suc i)))
-      (fastInflow (c .dry) (c .right) (atRight r c t i)) (fastSide (atLeft r c t (suc i)))
-      (ap (fastInflow (c .dry) (c .right)) q) (λ k. ap fastSide (atLeft-same r c s t e (suc i) k)))
-
-  pub fastFace-same : some (fastFace r c s) (suc (r .n)) ≡ some (fastFace r c t) (suc (r .n))
-  fastFace-same = some-same (fastFace r c s) (fastFace r c t) (suc (r .n)) fastFace-at
-
-  pub fastGauss-same : some (fastGauss r c s) (r .n) ≡ some (fastGauss r c t) (r .n)
+  fastGauss-same : (i : ℕ) → i < r .n → fastGauss r c s i ≡ fastGauss r c t i
   unfolding fastGauss
-  fastGauss-same = some-same (fastGauss r c s) (fastGauss r c t) (r .n) (λ i l. ap (fastPoints (c .dry) (under r i)) (e i l))
+  fastGauss-same i l = ap (fastPoints (c .dry) (under r i)) (e i l)
 
-  pub tooLong-same : some (tooLong r c s) (suc (r .n)) ≡ some (tooLong r c t) (suc (r .n))
-  unfolding tooLong
-  tooLong-same = some-same (tooLong r c s) (tooLong r c t) (suc (r .n))
-      (λ i l. ap (λ (f : Flux). ltZ (pos 4096 *ℤ r .dx) (pos 2 *ℤ c .dt *ℤ f .S)) (faceAt-same r c s t e o i l))
+  module _ (o : 0 < r .n) where
+    fastFace-same : (i : ℕ) → i < suc (r .n) → fastFace r c s i ≡ fastFace r c t i
+    unfolding fastFace
+    fastFace-same zero l = ap (λ (x : Side). fastInflow (c .dry) (c .left) x || fastSide x) (atLeft-same r c s t e zero o)
+    fastFace-same (suc i) l = let m : i < r .n = omega arith in let q = atRight-same r c s t e i m in
+        ap₂ _||_ (ap fastSide q) (last i (r .n) m
+        (fastInflow (c .dry) (c .right) (atRight r c s i)) (fastSide (atLeft r c s (suc i)))
+        (fastInflow (c .dry) (c .right) (atRight r c t i)) (fastSide (atLeft r c t (suc i)))
+        (ap (fastInflow (c .dry) (c .right)) q) (λ k. ap fastSide (atLeft-same r c s t e (suc i) k)))
 
-  pub stageChecks-same : stageChecks r c s ≡ stageChecks r c t
-  unfolding stageChecks
-  stageChecks-same = λ k. chk 6 (fastFace-same k) ∷ chk 6 (fastGauss-same k) ∷ chk 7 (tooLong-same k) ∷ []
+    tooLong-same : (i : ℕ) → i < suc (r .n) → tooLong r c s i ≡ tooLong r c t i
+    unfolding tooLong
+    tooLong-same i l = ap (λ (f : Flux). ltZ (pos 4096 *ℤ r .dx) (pos 2 *ℤ c .dt *ℤ f .S)) (faceAt-same r c s t e o i l)
+
+    pub stageChecks-same : Alike (stageChecks r c s) (stageChecks r c t)
+    unfolding stageChecks
+    stageChecks-same = also fastFace-same (also fastGauss-same (also tooLong-same end))
 
 -- ---- the step
 module _ (r : Reach) (c : Call) (s t : State) (e : Same r s t) where
@@ -165,20 +161,15 @@ module _ (r : Reach) (c : Call) (s t : State) (e : Same r s t) where
   unfolding next
   next-same = finish-same r c (joined r c s) (joined r c t) joined-same
 
-  fastFriction-same : some (fastFriction r c s) (r .n) ≡ some (fastFriction r c t) (r .n)
+  fastFriction-same : (i : ℕ) → i < r .n → fastFriction r c s i ≡ fastFriction r c t i
   unfolding fastFriction
-  fastFriction-same = some-same (fastFriction r c s) (fastFriction r c t) (r .n)
-      (λ i l. ap (λ (x : Cell). fastFriction r c (λ j. x) i) (e i l))
+  fastFriction-same i l = ap (λ (x : Cell). fastFriction r c (λ j. x) i) (e i l)
 
-  pub refusal-same : 0 < r .n → refusal r c s ≡ refusal r c t
-  unfolding refusal checks early
-  refusal-same o = λ k. verdict (
-      (chk 2 (badCall r c)
-      ∷ chk 3 (some (λ i. badBed (r .bed i)) (suc (r .n)))
-      ∷ chk 4 (some (λ i. badRough (c .rough i)) (r .n))
-      ∷ chk 5 (off-same r c o s t e k)
-      ∷ chk 6 (fastFriction-same k)
-      ∷ stageChecks-same r c o (rubbed r c s) (rubbed r c t) rubbed-same k)
-      ++ chk 8 (off-same r c o (stageOne r c s) (stageOne r c t) one-same k)
-      ∷ stageChecks-same r c o (stageOne r c s) (stageOne r c t) one-same k
-      ++ chk 8 (off-same r c o (next r c s) (next r c t) next-same k) ∷ [])
+  pub checks-same : 0 < r .n → Alike (checks r c s) (checks r c t)
+  unfolding checks early stageChecks
+  checks-same o =
+      also (λ i l. refl) (also (λ i l. refl) (also (λ i l. refl) (also (off-same r c s t e) (also fastFriction-same
+      (alike-after (stageChecks-same r c (rubbed r c s) (rubbed r c t) rubbed-same o)
+      (also (off-same r c (stageOne r c s) (stageOne r c t) one-same)
+      (alike-after (stageChecks-same r c (stageOne r c s) (stageOne r c t) one-same o)
+      (also (off-same r c (next r c s) (next r c t) next-same) end))))))))

@@ -24,13 +24,13 @@ use Rattle.rules.specs.Stage.{faceAt}
 use Rattle.rules.specs.Step.{rubbed, stageOne, carry, next}
 use Rattle.rules.specs.Refusals.{outside, past, callTests, badEnd, badCall, badBed, cellTests, offCell, off}
 use Rattle.rules.specs.Refusals.{fastCell, fastFriction, fastFace, tooLong}
-use Rattle.rules.specs.Refusals.{Check, chk, stageChecks, early, checks, verdict, refusal}
+use Rattle.rules.specs.Refusals.{Check, each, stageChecks, early, checks, verdict, refusal}
 use Rattle.rules.specs.AtRest.{AtRest}
 use Rattle.rules.specs.Laws.Agree.{Same}
 use Rattle.rules.specs.Laws.Inside.{above-least}
 use Rattle.rules.specs.Laws.Accept.{Clear, none-at, One, any-one, passed}
-use Rattle.rules.specs.Laws.Verdicts.{cleared, clear-at}
-use Rattle.rules.specs.Laws.Places as place
+use Rattle.rules.specs.Laws.Verdicts.{cleared, clear-at, of-call}
+use Rattle.rules.specs.Laws.Order as order
 use Rattle.rules.specs.Laws.Positive.{Fine, Nonneg, Wet, mean≥0, Brief, stageOne-wet, next-wet}
 use Rattle.rules.specs.Laws.Balance.{sum-same, water, balanced}
 use Rattle.rules.specs.Laws.EvenBed.{even-of, EvenBed}
@@ -69,7 +69,7 @@ brief r c s e i l = lt-no (pos 4096 *ℤ r .dx) (pos 2 *ℤ c .dt *ℤ faceAt r 
 -- the checks after `early`
 abbrev late : Reach → Call → State → List Check
 late r c s =
-    chk 8 (some (off r (stageOne r c s)) (r .n)) ∷ stageChecks r c (stageOne r c s) ++ chk 8 (some (off r (next r c s)) (r .n)) ∷ []
+    each 8 (r .n) (off r (stageOne r c s)) ∷ stageChecks r c (stageOne r c s) ++ each 8 (r .n) (off r (next r c s)) ∷ []
 
 -- a call that passed the checks up to stage one's faces
 pub record Early (r : Reach) (c : Call) (s : State) : Type 0 where
@@ -83,10 +83,10 @@ unfolding early stageChecks
 early-of r c s k =
     let clear = clear-at (early r c s) k in
     record {
-      fine = fine r c (clear place.call);
-      even = even-bed r (clear place.beds);
-      wet = in-range r s (clear place.state);
-      brief = brief r c (rubbed r c s) (clear place.faces-one);
+      fine = fine r c (sym (of-call 2 (badCall r c)) ∙ clear order.call);
+      even = even-bed r (clear order.beds);
+      wet = in-range r s (clear order.state);
+      brief = brief r c (rubbed r c s) (clear order.faces-one);
     }
 
 -- ---- an 8 is due to a value too large, never to a depth below nought
@@ -96,16 +96,16 @@ TooLarge b x = (deepest <ℤ hl b x) ⊎ ((deepest <ℤ hr b x) ⊎ ((fullest <�
 -- every depth is at or above nought, and some value is too large
 pub record Large (r : Reach) (s : State) : Type 0 where
   pub wet : Wet r s
-  pub place : ℕ
-  pub below : place < r .n
-  pub large : TooLarge (under r place) (s place)
+  pub cell : ℕ
+  pub below : cell < r .n
+  pub large : TooLarge (under r cell) (s cell)
 
 large-of : (r : Reach) (s : State) → Wet r s → some (off r s) (r .n) ≡ true → Large r s
 unfolding off offCell
 large-of r s w e = let f = some-yes (off r s) (r .n) e in let i = f .0 in let b = under r i in let x = s i in
     record {
       wet = w;
-      place = i;
+      cell = i;
       below = f .1;
       large = go b x (w i (f .1)) (any-one (cellTests b x) (f .2));
     }
@@ -137,9 +137,9 @@ module _ (r : Reach) (law : Lawful (r .face)) (c : Call) (s : State) where
       by a
       (λ d. inl (large-of r (stageOne r c s) (wet-stageOne k) d))
       (λ d.
-      let q = passed 8 (stageChecks r c (stageOne r c s)) (chk 8 b ∷ []) tt (rw d at (p .1)) in
+      let q = passed 8 (stageChecks r c (stageOne r c s)) (each 8 (r .n) (off r (next r c s)) ∷ []) tt (rw d at (p .1)) in
       let clear = clear-at (stageChecks r c (stageOne r c s)) (q .0) in
-      inr (large-of r (next r c s) (wet-next k (brief r c (stageOne r c s) (clear place.faces)))
+      inr (large-of r (next r c s) (wet-next k (brief r c (stageOne r c s) (clear order.faces)))
       (by b (λ x. x) (λ x. let z : _≡_ {A = ℕ} 0 8 = rw x at (q .1) in let y : ⊥ = omega arith in absurd y))))
 
 -- ---- an accepted call
@@ -156,9 +156,9 @@ accepted r c s e =
     let clear = clear-at (late r c s) (cleared (late r c s) tt (sym (p .1))) in
     record {
       early = early-of r c s (p .0);
-      brief = brief r c (stageOne r c s) (clear place.faces-two);
-      one = clear place.stage-one;
-      end = clear place.end;
+      brief = brief r c (stageOne r c s) (clear order.faces-two);
+      one = clear order.stage-one;
+      end = clear order.end;
     }
 
 -- and no cell of the state it starts from is faster than 131,072, with friction or without
@@ -167,7 +167,7 @@ pub accepted-slow : (r : Reach) (c : Call) (s : State) → refusal r c s ≡ 0 �
 unfolding refusal checks early stageChecks fastFriction fastCell
 accepted-slow r c s e i l =
     let clear = clear-at (early r c s) (passed 0 (early r c s) (late r c s) tt e .0) in
-    some-none (fastFriction r c s) (r .n) (clear place.friction) i l
+    some-none (fastFriction r c s) (r .n) (clear order.friction) i l
 
 -- nor is any speed at a face of either stage, that of an inflow included
 pub accepted-speeds : (r : Reach) (c : Call) (s : State) → refusal r c s ≡ 0
@@ -175,7 +175,7 @@ pub accepted-speeds : (r : Reach) (c : Call) (s : State) → refusal r c s ≡ 0
 unfolding refusal checks early stageChecks
 accepted-speeds r c s e =
     let p = passed 0 (early r c s) (late r c s) tt e in
-    (clear-at (early r c s) (p .0) place.speeds-one, clear-at (late r c s) (cleared (late r c s) tt (sym (p .1))) place.speeds-two)
+    (clear-at (early r c s) (p .0) order.speeds-one, clear-at (late r c s) (cleared (late r c s) tt (sym (p .1))) order.speeds-two)
 
 pub accepted-inflows : (r : Reach) (c : Call) (s : State) → 0 < r .n → refusal r c s ≡ 0
     → SlowInflows r c (rubbed r c s) × SlowInflows r c (stageOne r c s)
@@ -187,7 +187,7 @@ pub accepted-ends : (r : Reach) (c : Call) (s : State) → refusal r c s ≡ 0 �
 unfolding refusal checks early stageChecks badCall
 accepted-ends r c s e =
     let clear = clear-at (early r c s) (passed 0 (early r c s) (late r c s) tt e .0) in
-    let fails = none-at (callTests r c) (clear place.call) in
+    let fails = none-at (callTests r c) (sym (of-call 2 (badCall r c)) ∙ clear order.call) in
     (fails 4, fails 5)
 
 -- no depth, mean or face, is below nought: in the state it starts from, in the finished stage one, in the end state

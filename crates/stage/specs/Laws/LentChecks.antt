@@ -1,8 +1,8 @@
 -- What a lent state that passed the checks before the stages is.
 -- Assumes nothing.
-use mathlib.Core.Path.{_≡_, ap}
+use mathlib.Core.Path.{_≡_, refl, ap}
 use mathlib.Core.Bool.{false, not}
-use mathlib.Core.List.{List, [], _∷_}
+use mathlib.Core.List.{List}
 use Prim.Native.Nat.{ℕ, suc, _%_, _<_}
 use native.Mathlib.Omega.{arith}
 use lib.Dec.{eqb}
@@ -11,12 +11,14 @@ use lib.IntN.{ℤ, pos, natAbs}
 use lib.Signed.{_≤ℤ_}
 use Rattle.whole.specs.Flags.{or-l}
 use Rattle.whole.specs.Parts.{Within, b-nonneg, le-trans, nat-nonneg}
-use Rattle.tables.specs.Some.{some, some-none, some-same}
+use Rattle.tables.specs.Some.{some, some-none}
 use Rattle.rules.specs.Limits.{highestBed}
 use Rattle.rules.specs.Reach.{State}
-use Rattle.rules.specs.Refusals.{outside, badBed, badRough, offCell, fastCell, chk, verdict}
+use Rattle.rules.specs.Refusals.{outside, badBed, badRough, offCell, fastCell, applies}
 use Rattle.rules.specs.Laws.Inside.{above-least, below-most}
-use Rattle.rules.specs.Laws.Verdicts.{cleared, checkAt, clear-at}
+use Rattle.rules.specs.Laws.Accept.{Clear}
+use Rattle.rules.specs.Laws.Verdicts.{checkAt, clear-at}
+use Rattle.rules.specs.Laws.Alike.{Alike, end, also}
 use Rattle.reach.specs.Told.{bedAt}
 use Rattle.reach.specs.Ranges.{UpTo, Grounds}
 use Rattle.stage.specs.Ranges.{Ranged, Slows}
@@ -48,9 +50,9 @@ slows dry n bed friction s e f i l =
     record { rough = w .abs; speed = some-none (λ i. fastCell dry (bedAt bed i) (s i)) n f i l }
 
 -- ---- a lent state that is ready
-module _ (dry : ℤ) (n : ℕ) (bed : List ℤ) (friction : List ℕ) (s : State) (f : 0 ≡ verdict (readyChecks dry n bed friction s)) where
-  passed : (i : ℕ) → checkAt (readyChecks dry n bed friction s) i .bad ≡ false
-  passed = clear-at (readyChecks dry n bed friction s) (cleared (readyChecks dry n bed friction s) tt f)
+module _ (dry : ℤ) (n : ℕ) (bed : List ℤ) (friction : List ℕ) (s : State) (clear : Clear (readyChecks dry n bed friction s)) where
+  passed : (i : ℕ) → applies (checkAt (readyChecks dry n bed friction s) i) ≡ false
+  passed = clear-at (readyChecks dry n bed friction s) clear
 
   pub lent-ranged : Ranged bed n s
   lent-ranged = ranged n bed s (grounds n bed (passed 0)) (passed 2)
@@ -60,10 +62,6 @@ module _ (dry : ℤ) (n : ℕ) (bed : List ℤ) (friction : List ℕ) (s : State
 
 -- states that agree in the reach pass the same checks
 pub ready-same : (dry : ℤ) (n : ℕ) (bed : List ℤ) (friction : List ℕ) (s t : State) → ((i : ℕ) → i < n → s i ≡ t i)
-    → readyChecks dry n bed friction s ≡ readyChecks dry n bed friction t
-ready-same dry n bed friction s t e =
-    let a = some-same (λ i. offCell (bedAt bed i) (s i)) (λ i. offCell (bedAt bed i) (t i)) n (λ i l. ap (offCell (bedAt bed i)) (e i l)) in
-    let b = some-same (λ i. fastCell dry (bedAt bed i) (s i)) (λ i. fastCell dry (bedAt bed i) (t i)) n
-    (λ i l. ap (fastCell dry (bedAt bed i)) (e i l)) in
-    λ k. chk 3 (some (λ i. badBed (getD bed i (pos 0))) (suc n)) ∷ chk 4 (some (λ i. badRough (pos (getD friction i 0))) n) ∷ chk 5 (a k)
-    ∷ chk 6 (b k) ∷ []
+    → Alike (readyChecks dry n bed friction s) (readyChecks dry n bed friction t)
+ready-same dry n bed friction s t e = also (λ i l. refl) (also (λ i l. refl)
+    (also (λ i l. ap (offCell (bedAt bed i)) (e i l)) (also (λ i l. ap (fastCell dry (bedAt bed i)) (e i l)) end)))

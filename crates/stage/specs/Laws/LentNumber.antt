@@ -1,7 +1,7 @@
--- What the numbers that passed check 2 are; and the step's number by the check that stopped it.
+-- What the numbers that passed check 2 are; and the step's number and place by the check that stopped it.
 -- Assumes nothing.
-use mathlib.Core.Path.{_≡_, _∙_}
-use mathlib.Core.Bool.{true, false}
+use mathlib.Core.Path.{_≡_, sym}
+use mathlib.Core.Bool.{Bool, true, false}
 use mathlib.Core.List.{List, _∷_, _++_}
 use Prim.Native.Nat.{ℕ}
 use native.Mathlib.Omega.{arith}
@@ -9,12 +9,14 @@ use lib.ListN.{length}
 use lib.IntN.{ℤ, pos}
 use Rattle.whole.specs.Flags.{fails}
 use Rattle.whole.specs.Parts.{of-le, lt-of, le-trans, nat-nonneg}
+use Rattle.tables.specs.Some.{some, lowest}
 use Rattle.rules.specs.Limits.{longestCell, longestStep, largestJump}
-use Rattle.rules.specs.Refusals.{callTests, badCall, off, fastFriction, chk, verdict, stageChecks, early, checks, refusal}
+use Rattle.rules.specs.Refusals.{callTests, badCall, off, fastFriction, Check, ofCall, verdict, spot, stageChecks, early, checks}
 use Rattle.rules.specs.Laws.Accept.{none-at}
 use Rattle.rules.specs.Laws.Inside.{above-least}
-use Rattle.rules.specs.Laws.Lengths.{first-number, later-number}
-use Rattle.rules.specs.Lent.{Lent, reachOf, callOf, stateOf, misfit, number}
+use Rattle.rules.specs.Laws.Verdicts.{at, found}
+use Rattle.rules.specs.Laws.Lengths.{foundOf, first-found, later-found}
+use Rattle.rules.specs.Lent.{Lent, reachOf, callOf, stateOf, misfit}
 use Rattle.reach.specs.declared.Reach.{Reach}
 use Rattle.reach.specs.declared.Call.{Call}
 use Rattle.reach.specs.declared.Given.{Given}
@@ -52,7 +54,7 @@ reachBy n g = record { n = n; dx = pos (g .dx) }
 abbrev pub callBy : Given → Call
 callBy g = record { dt = pos (g .dt); jump = pos (g .jump); dry = pos (g .dry); left = g .left; right = g .right }
 
--- ---- the step's number, by the check that stopped it
+-- ---- the step's number and place, by the check that stopped it
 module _ (state : List ℤ) (room : ℕ) (bed : List ℤ) (friction : List ℕ) (given : Given) where
   abbrev lent : Lent
   lent = lentBy state room bed friction given
@@ -60,23 +62,25 @@ module _ (state : List ℤ) (room : ℕ) (bed : List ℤ) (friction : List ℕ) 
   abbrev n : ℕ
   n = length friction
 
-  pub length-number : misfit (length state) room (length bed) n ≡ true → number lent ≡ 1
-  length-number e = first-number lent e
+  pub length-found : misfit (length state) room (length bed) n ≡ true → at 1 0 ≡ foundOf lent
+  length-found e = first-found lent e
 
   module _ (e : misfit (length state) room (length bed) n ≡ false) where
-    after : number lent
-        ≡ verdict (chk 2 (badCall (reachOf lent) (callOf lent)) ∷ readyChecks (callOf lent .dry) n bed friction (stateOf lent)
-        ++ bothChecks (reachOf lent) (callOf lent) (stateOf lent))
-    unfolding refusal checks early stageChecks off fastFriction
-    after = later-number lent e
-
-    pub call-number : badCall (reachOf lent) (callOf lent) ≡ true → number lent ≡ 2
-    unfolding verdict
-    call-number b = after ∙ rw b
+    abbrev bad : Bool
+    bad = badCall (reachOf lent) (callOf lent)
 
     -- the checks after 2 are those of the step on tables
-    pub later-checks : badCall (reachOf lent) (callOf lent) ≡ false
-        → number lent
-        ≡ verdict (readyChecks (callOf lent .dry) n bed friction (stateOf lent) ++ bothChecks (reachOf lent) (callOf lent) (stateOf lent))
-    unfolding verdict
-    later-checks b = after ∙ rw b
+    abbrev further : List Check
+    further = readyChecks (callOf lent .dry) n bed friction (stateOf lent) ++ bothChecks (reachOf lent) (callOf lent) (stateOf lent)
+
+    after : found (ofCall 2 bad ∷ further) ≡ foundOf lent
+    unfolding checks early stageChecks off fastFriction
+    after = later-found lent e
+
+    pub call-found : bad ≡ true → at 2 0 ≡ foundOf lent
+    unfolding verdict spot some lowest
+    call-found b = (rw b at after)
+
+    pub later-checks : bad ≡ false → foundOf lent ≡ found further
+    unfolding verdict spot some
+    later-checks b = sym (rw b at after)

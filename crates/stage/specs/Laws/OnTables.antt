@@ -15,8 +15,10 @@ use Rattle.tables.specs.Cells.{asCell, asList, cellIn, tableOf, table-same, see
 use Rattle.rules.specs.Limits.{leastDry}
 use Rattle.rules.specs.Reach.{Reach, Call, State}
 use Rattle.rules.specs.Step.{rubbedCell, rubbed, next}
-use Rattle.rules.specs.Refusals.{verdict, off, stageChecks}
-use Rattle.rules.specs.Laws.Verdicts.{stopped, cleared, clear-at, went-on}
+use Rattle.rules.specs.Refusals.{Check, off, stageChecks}
+use Rattle.rules.specs.Laws.Accept.{Clear}
+use Rattle.rules.specs.Laws.Verdicts.{Found, found, stopped, clear-found, clear-at, went-on}
+use Rattle.rules.specs.Laws.Alike.{same-found}
 use Rattle.reach.specs.declared.Reach.{Reach as ToldReach}
 use Rattle.reach.specs.declared.Call.{Call as ToldCall}
 use Rattle.reach.specs.Told.{reachIn, callOn, bedAt}
@@ -31,18 +33,18 @@ use Rattle.stage.specs.Laws.FrictionRange.{rubbed-inside}
 use Rattle.stage.specs.Laws.LentChecks.{lent-ranged, lent-slow, ready-same}
 use Rattle.stage.specs.Laws.TwoStages.{volume-is}
 
--- the place of the end state's range among the checks of both stages
+-- where the end state's range stands among the checks of both stages
 abbrev end : ℕ
 end = 7
 
--- the state lent for a step, as the table a has it, and the number k of the checks before the stages
+-- the state lent for a step, as the table a has it, and what the checks before the stages found, k
 pub record Loaded (reach : ToldReach) (call : ToldCall) (bed : List ℤ) (friction : List ℕ) (state : List ℤ) (a : List (List ℤ))
-    (k : ℕ) : Type 0 where
+    (k : Found) : Type 0 where
   pub cells : Holds a (reach .n) (cellIn (reach .n) state)
-  pub number : k ≡ verdict (readyChecks (call .dry) (reach .n) bed friction (seen a))
+  pub found : k ≡ found (readyChecks (call .dry) (reach .n) bed friction (seen a))
 
 module _
-    {reach : ToldReach} {call : ToldCall} {bed : List ℤ} {friction : List ℕ} {state : List ℤ} {a : List (List ℤ)} {k : ℕ}
+    {reach : ToldReach} {call : ToldCall} {bed : List ℤ} {friction : List ℕ} {state : List ℤ} {a : List (List ℤ)} {k : Found}
     (lent : Loaded reach call bed friction state a k) where
   abbrev n : ℕ
   n = reach .n
@@ -59,22 +61,28 @@ module _
   abbrev s : State
   s = cellIn n state
 
-  number : k ≡ verdict (readyChecks (call .dry) n bed friction s)
-  number = lent .number ∙ ap verdict (ready-same (call .dry) n bed friction (seen a) s (λ i l. ap asCell (lent .cells i l)))
+  abbrev ready : List Check
+  ready = readyChecks (call .dry) n bed friction s
 
-  pub ready-stops : (k ≡ 0 → ⊥) → (old : List ℤ) → TablesSay reach call bed friction state (Refused k) old old
+  found-ready : k ≡ found ready
+  found-ready = lent .found ∙ same-found (ready-same (call .dry) n bed friction (seen a) s (λ i l. ap asCell (lent .cells i l)))
+
+  pub ready-stops : (k .no ≡ 0 → ⊥) → (old : List ℤ) → TablesSay reach call bed friction state (Refused (k .no) (k .place)) old old
   ready-stops z old = record {
-    number = stopped (readyChecks (call .dry) n bed friction s) (bothChecks r c s) k number z;
+    found = stopped ready (bothChecks r c s) k found-ready z;
     some = omega (arith, z);
     kept = λ i. old;
   }
 
-  module _ (z : k ≡ 0) where
+  module _ (z : k .no ≡ 0) where
+    passed : Clear (readyChecks (call .dry) n bed friction (seen a))
+    passed = clear-found (readyChecks (call .dry) n bed friction (seen a)) tt (lent .found) z
+
     pub loaded-ranged : Ranged bed n (seen a)
-    loaded-ranged = lent-ranged (call .dry) n bed friction (seen a) (sym z ∙ lent .number)
+    loaded-ranged = lent-ranged (call .dry) n bed friction (seen a) passed
 
     pub loaded-slow : Slows (call .dry) friction bed n (seen a)
-    loaded-slow = lent-slow (call .dry) n bed friction (seen a) (sym z ∙ lent .number)
+    loaded-slow = lent-slow (call .dry) n bed friction (seen a) passed
 
     -- t has it after friction
     module _ {t : List (List ℤ)} (f : Filled [] a t n (λ i. asList (rubbedAt call friction bed (seen a) i))) where
@@ -88,20 +96,20 @@ module _
           (rubbed-inside (call .dt) (call .dry) (rough i) (bedAt bed i) (seen a i) p m (loaded-ranged i l))
 
     -- ---- both stages have answered m
-    module _ (o : 0 < n) {m : ℕ} {f x b : List (List ℤ)} (both : StepSays r c s m f x b) where
-      both-number : m ≡ verdict (readyChecks (call .dry) n bed friction s ++ bothChecks r c s)
-      both-number = both .number ∙ went-on (readyChecks (call .dry) n bed friction s) (bothChecks r c s) tt (sym z ∙ number)
+    module _ (o : 0 < n) {m : Found} {f x b : List (List ℤ)} (both : StepSays r c s m f x b) where
+      found-both : m ≡ found (ready ++ bothChecks r c s)
+      found-both = both .found ∙ went-on ready (bothChecks r c s) tt found-ready z
 
-      pub both-stops : (m ≡ 0 → ⊥) → (old : List ℤ) → TablesSay reach call bed friction state (Refused m) old old
-      both-stops y old = record { number = both-number; some = omega (arith, y); kept = λ i. old }
+      pub both-stops : (m .no ≡ 0 → ⊥) → (old : List ℤ) → TablesSay reach call bed friction state (Refused (m .no) (m .place)) old old
+      both-stops y old = record { found = found-both; some = omega (arith, y); kept = λ i. old }
 
-      module _ (y : m ≡ 0) where
+      module _ (y : m .no ≡ 0) where
         volume-in : (i : ℕ) → i < suc n → Volume (volumeAt f x i)
         volume-in i l = let d = both .done y in volume-size (d .one .sized i l .vol) (d .two .sized i l .vol)
 
         in-range : some (off r (next r c s)) n ≡ false
         unfolding stageChecks
-        in-range = let checks = bothChecks r c s in clear-at checks (cleared checks tt (sym y ∙ both .number)) end
+        in-range = let checks = bothChecks r c s in clear-at checks (clear-found checks tt (both .found) y) end
 
         shown : (i : ℕ) → i < n → seen b i ≡ next r c s i
         shown i l = ap asCell (both .done y .cells i l)
@@ -116,7 +124,7 @@ module _
         pub both-done : (old : List ℤ) {new : List ℤ} {w v : ℤ} → new ≡ tableOf n (seen b) → w ≡ volumeAt f x 0 → v ≡ volumeAt f x n
             → TablesSay reach call bed friction state (Done w v) old new
         both-done old e p q = let d = both .done y in record {
-          none = sym both-number ∙ y;
+          none = ap (λ (k : Found). k .no) (sym found-both) ∙ y;
           left = p ∙ volume-is d 0 (omega arith);
           right = q ∙ volume-is d n (omega arith);
           cells = e ∙ table-same n (seen b) (next r c s) shown;

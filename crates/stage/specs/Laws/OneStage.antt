@@ -1,69 +1,59 @@
 -- A stage: what it answers by the check that stopped it, and that its faces and its cells are the rule's.
 -- Assumes nothing.
 use mathlib.Core.Path.{_≡_, sym, _∙_, ap, subst}
-use mathlib.Core.Bool.{true, false}
+use mathlib.Core.Bool.{false}
 use mathlib.Core.List.{List, []}
-use Prim.Native.Nat.{ℕ, suc, _<_}
+use Prim.Native.Nat.{ℕ, suc, _≤_, _<_}
 use native.Mathlib.Omega.{arith}
 use lib.ListN.{getD}
 use lib.IntN.{ℤ, pos}
-use Rattle.tables.specs.Some.{some, some-none, some-same}
+use Rattle.tables.specs.Some.{some, lowest, some-none, lowest-same}
 use Rattle.tables.specs.Rows.{Written}
 use Rattle.tables.specs.Cells.{asList, Holds}
 use Rattle.rules.specs.Reach as rules
 use Rattle.rules.specs.Reach.{State}
 use Rattle.rules.specs.Shown.{crossAt}
 use Rattle.rules.specs.Stage.{faceRight, faceAt, stage}
-use Rattle.rules.specs.Refusals.{fastFace, fastGauss, tooLong, Check, verdict, stageChecks}
-use Rattle.rules.specs.Laws.Verdicts.{stops-at, none-stops}
+use Rattle.rules.specs.Refusals.{fastFace, fastGauss, tooLong, Check, stageChecks}
+use Rattle.rules.specs.Laws.Verdicts.{at, none, found, checkAt, stops-at, passes, none-stops}
 use Rattle.reach.specs.declared.Reach.{Reach}
 use Rattle.reach.specs.declared.Call.{Call}
 use Rattle.reach.specs.Told.{reachIn, callOn, bedAt}
 use Rattle.reach.specs.Ranges.{UpTo, Numbers}
-use Rattle.stage.specs.Rows.{sidesAt, Sounds, fastSides, fastEnds, SlowEnds, fastPointsAt, momentumAt}
+use Rattle.stage.specs.Rows.{Sounds, fastPointsAt, momentumAt}
 use Rattle.stage.specs.Rows.{faceRow, longFlux, longAt, crossIn, faceRowAt, updateAt}
 use Rattle.stage.specs.Rows as rows
 use Rattle.stage.specs.Ranges.{mostMomentum, Small, Smalls, Ranged, FaceRows, Momenta}
-use Rattle.stage.specs.Says.{FacesOf, StageDone}
+use Rattle.stage.specs.Says.{SlowFaces, FaceSpeedsSay, FacesOf, StageDone}
 use Rattle.stage.specs.Laws.Faces.{face-rows}
 use Rattle.stage.specs.Laws.UpdateSizes.{update-small}
-use Rattle.stage.specs.Laws.RowsAreRules.{sides-fast, ends-fast, none-fast, cross-at, update-is}
+use Rattle.stage.specs.Laws.RowsAreRules.{cross-at, update-is}
 use Rattle.stage.specs.Laws.StateSizes.{sounds, gauss-size}
 
--- ---- the checks of the speeds, as a stage answers them
-module _ (reach : Reach) (call : Call) (bed : List ℤ) (s : State) (ρ : ℕ → ℤ) where
-  abbrev dry : ℤ
-  dry = call .dry
-
+-- ---- a stage from s whose faces have answered k, with its sides in d
+module _ {reach : Reach} {call : Call} {bed : List ℤ} {s : State} {k : ℕ} {d : List (List ℤ)}
+    (says : FaceSpeedsSay reach call bed s k d) (ρ : ℕ → ℤ) where
   abbrev checks : List Check
   checks = stageChecks (reachIn reach bed) (callOn call ρ) s
 
-  pub says-fast : some (fastSides dry bed s) (reach .n) ≡ true → 6 ≡ verdict checks
+  pub says-fast : k ≤ reach .n → at 6 k ≡ found checks
   unfolding stageChecks
-  says-fast e = stops-at checks 0 tt (sides-fast reach call bed ρ s e)
+  says-fast l = stops-at checks 0 k tt (says .stops ρ) (omega arith)
 
--- ---- a stage from s whose sides passed, with its sides in d
-pub record Sided (reach : Reach) (call : Call) (bed : List ℤ) (s : State) (d : List (List ℤ)) : Type 0 where
-  pub least : 0 < reach .n
-  pub sides : Written [] d (reach .n) (sidesAt (call .dry) bed s)
-  pub slow-sides : some (fastSides (call .dry) bed s) (reach .n) ≡ false
-
-module _ {reach : Reach} {call : Call} {bed : List ℤ} {s : State} {d : List (List ℤ)} (p : Sided reach call bed s d) where
-  pub sides-sound : Ranged bed (reach .n) s → Sounds d (reach .n)
-  sides-sound inside = sounds (call .dry) (reach .n) bed s inside (p .slow-sides) d (p .sides)
-
-  module _ (ρ : ℕ → ℤ) where
-    pub says-inflow : fastEnds reach call d ≡ true → 6 ≡ verdict (checks reach call bed s ρ)
+  module _ (l : reach .n < k) where
+    pub faces-pass : some (fastFace (reachIn reach bed) (callOn call ρ) s) (suc (reach .n)) ≡ false
     unfolding stageChecks
-    says-inflow e = stops-at (checks reach call bed s ρ) 0 tt (ends-fast reach call bed ρ s (p .least) d (p .sides) e)
+    faces-pass = passes (checkAt checks 0) k (says .stops ρ) (omega arith)
 
-    faces-pass : SlowEnds reach call d → some (fastFace (reachIn reach bed) (callOn call ρ) s) (suc (reach .n)) ≡ false
-    faces-pass = none-fast reach call bed ρ s (p .least) d (p .sides) (p .slow-sides)
-
-    pub says-points : SlowEnds reach call d → some (fastPointsAt (call .dry) bed s) (reach .n) ≡ true
-        → 6 ≡ verdict (checks reach call bed s ρ)
+    -- and whose Gauss points have answered p
+    pub says-points : (p : ℕ) → p ≡ lowest (fastPointsAt (call .dry) bed s) (reach .n) → p < reach .n → at 6 p ≡ found checks
     unfolding stageChecks fastGauss
-    says-points e f = stops-at (checks reach call bed s ρ) 1 (faces-pass e, tt) f
+    says-points p e m = stops-at checks 1 p (faces-pass, tt) e m
+
+-- the sides of slow faces are sound
+pub sides-sound : {reach : Reach} {call : Call} {bed : List ℤ} {s : State} {d : List (List ℤ)}
+    → SlowFaces reach call bed s d → Ranged bed (reach .n) s → Sounds d (reach .n)
+sides-sound {reach} {call} {bed} {s} {d} p inside = sounds (call .dry) (reach .n) bed s inside (p .slow-sides) d (p .sides)
 
 -- ---- the momenta of points that are not too fast, and the rows of faces whose sides are not, have the sizes that an update asks
 pub momenta : (dry : ℤ) (n : ℕ) (bed : List ℤ) (s : State) → Ranged bed n s → some (fastPointsAt dry bed s) n ≡ false
@@ -71,10 +61,10 @@ pub momenta : (dry : ℤ) (n : ℕ) (bed : List ℤ) (s : State) → Ranged bed 
 momenta dry n bed s inside e g h i l = subst (UpTo mostMomentum) (sym (h i l))
     (gauss-size dry (bedAt bed i) (s i) (inside i l) (some-none (fastPointsAt dry bed s) n e i l))
 
--- ---- a stage from s that passed all three
+-- ---- a stage from s that passed both
 pub record Slowed (reach : Reach) (call : Call) (bed : List ℤ) (s : State) (d : List (List ℤ)) : Type 0 where
-  pub sided : Sided reach call bed s d
-  pub slow-ends : SlowEnds reach call d
+  pub faces : SlowFaces reach call bed s d
+  pub slow-faces : (ρ : ℕ → ℤ) → some (fastFace (reachIn reach bed) (callOn call ρ) s) (suc (reach .n)) ≡ false
   pub slow-points : some (fastPointsAt (call .dry) bed s) (reach .n) ≡ false
 
 module _ {reach : Reach} {call : Call} {bed : List ℤ} {s : State} {d : List (List ℤ)} (p : Slowed reach call bed s d) where
@@ -82,7 +72,7 @@ module _ {reach : Reach} {call : Call} {bed : List ℤ} {s : State} {d : List (L
   n = reach .n
 
   pub rows-sized : Ranged bed n s → Numbers reach call → (x : List (List ℤ)) → Written [] x (suc n) (faceRowAt reach call d) → FaceRows x n
-  rows-sized inside num = face-rows reach call d (p .sided .least) num (sides-sound (p .sided) inside) (p .slow-ends)
+  rows-sized inside num = face-rows reach call d (p .faces .least) num (sides-sound (p .faces) inside) (p .faces .slow-ends)
 
   module _ (ρ : ℕ → ℤ) where
     abbrev r : rules.Reach
@@ -92,25 +82,22 @@ module _ {reach : Reach} {call : Call} {bed : List ℤ} {s : State} {d : List (L
     c = callOn call ρ
 
     face-is : (i : ℕ) → i < suc n → crossIn reach call d i ≡ faceAt r c s i
-    face-is = cross-at reach call bed ρ s (p .sided .least) d (p .sided .sides)
+    face-is = cross-at reach call bed ρ s (p .faces .least) d (p .faces .sides)
 
-    faces-slow : some (fastFace r c s) (suc n) ≡ false
-    faces-slow = faces-pass (p .sided) ρ (p .slow-ends)
+    -- its last check, by the lowest face k at which the step is too long
+    module _ (k : ℕ) (e : k ≡ lowest (longAt reach call d) (suc n)) where
+      long-is : k ≡ lowest (tooLong r c s) (suc n)
+      unfolding tooLong longFlux
+      long-is = e ∙ lowest-same (longAt reach call d) (tooLong r c s) (suc n) (λ i l. ap (longFlux (reach .dx) (call .dt)) (face-is i l))
 
-    long-is : some (longAt reach call d) (suc n) ≡ some (tooLong r c s) (suc n)
-    unfolding tooLong longFlux
-    long-is = some-same (longAt reach call d) (tooLong r c s) (suc n) (λ i l. ap (longFlux (reach .dx) (call .dt)) (face-is i l))
+      pub says-long : k ≤ n → at 7 k ≡ found (stageChecks r c s)
+      unfolding stageChecks fastGauss
+      says-long l = stops-at (stageChecks r c s) 2 k (p .slow-faces ρ, (p .slow-points, tt)) long-is (omega arith)
 
-    -- its last check
-    pub says-long : some (longAt reach call d) (suc n) ≡ true → 7 ≡ verdict (stageChecks r c s)
-    unfolding stageChecks fastGauss
-    says-long h =
-        stops-at (stageChecks r c s) 2 (faces-slow, (p .slow-points, tt)) (sym long-is ∙ h)
-
-    pub says-none : some (longAt reach call d) (suc n) ≡ false → 0 ≡ verdict (stageChecks r c s)
-    unfolding stageChecks fastGauss
-    says-none h =
-        none-stops (stageChecks r c s) (faces-slow, (p .slow-points, (sym long-is ∙ h, tt)))
+      pub says-none : n < k → none ≡ found (stageChecks r c s)
+      unfolding stageChecks fastGauss
+      says-none l = let check = stageChecks r c s in
+          none-stops check (p .slow-faces ρ, (p .slow-points, (passes (checkAt check 2) k long-is (omega arith), tt)))
 
     -- ---- what it leaves
     module _ (inside : Ranged bed n s) (num : Numbers reach call) (x : List (List ℤ)) (g : List ℤ)

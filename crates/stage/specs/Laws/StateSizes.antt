@@ -12,7 +12,7 @@ use Rattle.whole.specs.Flags.{cond-ind, or-l, or-r}
 use Rattle.whole.specs.Parts.{b-add, b-sub, b-mul, b-lit, b-up}
 use Rattle.whole.specs.Quotient.{b-quot-by}
 use Rattle.whole.specs.Choice.{within-past}
-use Rattle.tables.specs.Some.{some}
+use Rattle.tables.specs.Some.{some, some-none}
 use Rattle.tables.specs.Rows.{Written}
 use Rattle.tables.specs.Cells.{Cell, asCell, seen, Holds}
 use Rattle.rules.specs.Limits.{deepest, fastest}
@@ -40,9 +40,10 @@ pub sounds : (dry : ℤ) (n : ℕ) (bed : List ℤ) (s : State) → Ranged bed n
     → (d : List (List ℤ)) → Written [] d n (sidesAt dry bed s) → Sounds d n
 unfolding sideL sideR hl hr
 sounds dry n bed s inside e d w i l =
-    let b = bedAt bed i in let x = s i in let f = cell-sizes (inside i l) .faces in let slow = slow-sides dry n bed s e i l in (
-      subst Sound (sym (left-in dry n bed s d w i l)) (sound dry (hl b x) (ql x) (f .left) (f .left-most) (slow .0)),
-      subst Sound (sym (right-in dry n bed s d w i l)) (sound dry (hr b x) (qr x) (f .right) (f .right-most) (slow .1)),
+    let b = bedAt bed i in let x = s i in let f = cell-sizes (inside i l) .faces in
+    let slow = slow-sides dry bed s i (some-none (fastSides dry bed s) n e i l) in (
+      subst Sound (sym (left-in dry bed s d i (w i l))) (sound dry (hl b x) (ql x) (f .left) (f .left-most) (slow .0)),
+      subst Sound (sym (right-in dry bed s d i (w i l))) (sound dry (hr b x) (qr x) (f .right) (f .right-most) (slow .1)),
     )
 
 -- ---- Gauss points that passed check 6

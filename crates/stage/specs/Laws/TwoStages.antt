@@ -1,21 +1,22 @@
 -- The two halves make the step: tables that show its states, the checks in their order, and the volumes.
 -- Assumes nothing.
-use mathlib.Core.Path.{_≡_, sym, _∙_, ap, ap₂}
-use mathlib.Core.List.{List, [], _∷_}
+use mathlib.Core.Path.{_≡_, _∙_, ap, ap₂}
+use mathlib.Core.List.{List}
 use Prim.Native.Nat.{ℕ, suc, _<_}
 use native.Mathlib.Omega.{arith}
 use lib.IntN.{ℤ}
-use Rattle.tables.specs.Some.{some}
 use Rattle.tables.specs.Cells.{asCell, asList, seen}
 use Rattle.rules.specs.Reach.{Reach, Call, State}
 use Rattle.rules.specs.Stage.{stage}
 use Rattle.rules.specs.Finishing.{finish}
 use Rattle.rules.specs.Step.{rubbed, stageOne, half, carry, joinedCell, joined, next}
-use Rattle.rules.specs.Refusals.{off, chk, verdict, stageChecks}
+use Rattle.rules.specs.Refusals.{stageChecks}
 use Rattle.rules.specs.Laws.Agree.{Same, faceAt-same, stage-same, finish-same, off-same, stageChecks-same}
-use Rattle.rules.specs.Laws.Verdicts.{stopped, went-on}
+use Rattle.rules.specs.Laws.Verdicts.{Found, found, stopped, went-on}
+use Rattle.rules.specs.Laws.Alike as alike
+use Rattle.rules.specs.Laws.Alike.{also, same-found}
 use Rattle.stage.specs.Rows.{faceRow, volumeOf, volumeAt}
-use Rattle.stage.specs.Says.{halfChecks, Shows, FacesOf, StageDone, StageSays, JoinSays, EndSays, HalfSays, BothDone, StepSays}
+use Rattle.stage.specs.Says.{rangeCheck, halfChecks, Shows, FacesOf, StageDone, StageSays, JoinSays, EndSays, HalfSays, BothDone, StepSays}
 
 -- ---- a half, in a reach and a call of any kind
 module _ {r : Reach} {c : Call} (o : 0 < r .n) where
@@ -24,21 +25,20 @@ module _ {r : Reach} {c : Call} (o : 0 < r .n) where
       record { rows = λ i l. h .rows i l ∙ ap (faceRow (r .dx) (c .dt)) (faceAt-same r c s t e o i l); sized = h .sized }
 
   -- the table a shows s; the stage from it may stop,
-  module _ (a : List (List ℤ)) {s : State} (e : Shows r a s) {k : ℕ} {f u : List (List ℤ)} (one : StageSays r c (seen a) k f u) where
-    number : k ≡ verdict (stageChecks r c s)
-    number = one .number ∙ ap verdict (stageChecks-same r c o (seen a) s e)
+  module _ (a : List (List ℤ)) {s : State} (e : Shows r a s) {k : Found} {f u : List (List ℤ)} (one : StageSays r c (seen a) k f u) where
+    found-one : k ≡ found (stageChecks r c s)
+    found-one = one .found ∙ same-found (stageChecks-same r c (seen a) s e o)
 
-    pub half-stops : (k ≡ 0 → ⊥) → {t : State} {g b : List (List ℤ)} → HalfSays r c s t k g b
-    half-stops h {t} =
-        record { number = stopped (stageChecks r c s) (chk 8 (some (off r t) (r .n)) ∷ []) k number h; done = λ z. absurd (h z) }
+    pub half-stops : (k .no ≡ 0 → ⊥) → {t : State} {g b : List (List ℤ)} → HalfSays r c s t k g b
+    half-stops h {t} = record { found = stopped (stageChecks r c s) (rangeCheck r t) k found-one h; done = λ z. absurd (h z) }
 
     -- or go on and end with a state v that is finished to t
-    pub half-ends : k ≡ 0 → {v t : State} {m : ℕ} {b : List (List ℤ)} → Same r (finish r c v) t → EndSays r c v m b → HalfSays r c s t m f b
+    pub half-ends : k .no ≡ 0 → {v t : State} {m : Found} {b : List (List ℤ)} → Same r (finish r c v) t → EndSays r c v m b → HalfSays r c s t m f b
     unfolding stageChecks
     half-ends z {v} {t} d end = record {
-      number = end .number
-          ∙ ap (λ x. verdict (chk 8 x ∷ [])) (off-same r c o (finish r c v) t d)
-          ∙ went-on (stageChecks r c s) (chk 8 (some (off r t) (r .n)) ∷ []) tt (sym z ∙ number);
+      found = end .found
+          ∙ same-found (also (off-same r c (finish r c v) t d) alike.end)
+          ∙ went-on (stageChecks r c s) (rangeCheck r t) tt found-one z;
       done = λ y. record {
         faces = faces-same e (one .done z .faces);
         cells = λ i l. end .cells i l ∙ ap asList (d i l);
@@ -69,22 +69,21 @@ module _ {r : Reach} {c : Call} (o : 0 < r .n) where
           ∙ (λ k. joinedCell (sa i l k) (after i l k) (across i (omega arith) k) (across (suc i) (omega arith) k)))
 
 -- ---- both
-module _ {r : Reach} {c : Call} (s : State) {k : ℕ} {f b : List (List ℤ)} (one : HalfSays r c (rubbed r c s) (stageOne r c s) k f b) where
-  pub both-stop : (k ≡ 0 → ⊥) → {h y : List (List ℤ)} → StepSays r c s k f h y
+module _ {r : Reach} {c : Call} (s : State) {k : Found} {f b : List (List ℤ)} (one : HalfSays r c (rubbed r c s) (stageOne r c s) k f b) where
+  pub both-stop : (k .no ≡ 0 → ⊥) → {h y : List (List ℤ)} → StepSays r c s k f h y
   both-stop z = record {
-    number = stopped (halfChecks r c (rubbed r c s) (stageOne r c s)) (halfChecks r c (stageOne r c s) (next r c s)) k (one .number) z;
+    found = stopped (halfChecks r c (rubbed r c s) (stageOne r c s)) (halfChecks r c (stageOne r c s) (next r c s)) k (one .found) z;
     done = λ e. absurd (z e);
   }
 
-  pub one-shown : k ≡ 0 → Shows r b (stageOne r c s)
+  pub one-shown : k .no ≡ 0 → Shows r b (stageOne r c s)
   one-shown z i l = ap asCell (one .done z .cells i l)
 
-  pub both-end : k ≡ 0 → {m : ℕ} {h y : List (List ℤ)} → HalfSays r c (stageOne r c s) (next r c s) m h y → StepSays r c s m f h y
+  pub both-end : k .no ≡ 0 → {m : Found} {h y : List (List ℤ)} → HalfSays r c (stageOne r c s) (next r c s) m h y → StepSays r c s m f h y
   unfolding stageChecks
   both-end z two = record {
-    number = two .number
-        ∙ went-on (halfChecks r c (rubbed r c s) (stageOne r c s)) (halfChecks r c (stageOne r c s) (next r c s)) tt
-        (sym z ∙ one .number);
+    found = two .found
+        ∙ went-on (halfChecks r c (rubbed r c s) (stageOne r c s)) (halfChecks r c (stageOne r c s) (next r c s)) tt (one .found) z;
     done = λ e. record { one = one .done z .faces; two = two .done e .faces; cells = two .done e .cells };
   }
 

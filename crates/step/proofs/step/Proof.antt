@@ -20,7 +20,7 @@ module _ (w : tie.After-work) where
 returns : tie.Need-returns
 returns c =
     let told = c .before .k .given in let w = c .before .before .before .before in
-    worked-none (call w) (w .work .result) (now (s w .args .next)) _ (w .work .ensures) (told .0 .0) (told .1)
+    worked-none (call w) (w .work .result) (now (s w .args .next)) _ (w .work .ensures) (told .0 .0) (told .0 .1 .0) (told .1)
 
 returns-2 : tie.Need-returns-2
 returns-2 c =

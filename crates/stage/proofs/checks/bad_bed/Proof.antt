@@ -9,7 +9,7 @@ use lib.ListN.{getD, length}
 use lib.IntN.{ℤ, pos}
 use Rattle.whole.specs.Machine.{back64}
 use Rattle.rules.specs.Refusals.{badBed}
-use Rattle.tables.specs.Scan.{Scanned, scan-none, scan-more, scan-found, scan-all}
+use Rattle.tables.specs.Scan.{Scanned, scan-none, scan-more, scan-lowest, scan-past}
 use Rattle.stage.proofs.checks.bad_bed.Statement.{statement}
 use Rattle.stage.proofs.checks.bad_bed.Tie as tie
 
@@ -38,7 +38,7 @@ here c = let a = c .before .bed-at in sym (c .bad-value .ensures ∙ ap badBed (
 
 returns : tie.Need-returns Inv-loop μ-loop
 returns c = let b = c .before in let e = b .before .before in
-    scan-found (e .before .loop .inv) (e .loop-test .taken) (here b) (c .if1 .taken)
+    scan-lowest (e .before .loop .inv) (e .loop-test .taken) (here b) (c .if1 .taken)
 
 add-i : tie.Need-add-i Inv-loop μ-loop
 add-i c = search needs
@@ -51,7 +51,7 @@ loop-again c = let b = c .before in let e = b .before .before in
     scan-more (e .before .loop .inv) (e .loop-test .taken) (here b) (c .if1 .left)
 
 returns-2 : tie.Need-returns-2 Inv-loop μ-loop
-returns-2 c = scan-all (c .before .loop .inv) (c .loop-test .left)
+returns-2 c = scan-past (c .before .loop .inv) (c .loop-test .left)
 
 pub bad-bed-spec : {M : Type 1} → statement M
 bad-bed-spec =

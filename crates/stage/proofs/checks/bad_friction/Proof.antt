@@ -10,7 +10,7 @@ use denote.Ref.{now}
 use lib.ListN.{getD, length}
 use lib.IntN.{pos}
 use Rattle.rules.specs.Refusals.{badRough}
-use Rattle.tables.specs.Scan.{Scanned, scan-none, scan-more, scan-found, scan-all}
+use Rattle.tables.specs.Scan.{Scanned, scan-none, scan-more, scan-lowest, scan-past}
 use Rattle.stage.proofs.checks.bad_friction.Statement.{statement}
 use Rattle.stage.proofs.checks.bad_friction.Tie as tie
 
@@ -43,7 +43,7 @@ shared-slice-read-if1 c = search needs
 
 returns : tie.Need-returns Inv-loop μ-loop
 returns c = let e = c .before .before in let l = e .before in
-    scan-found (l .loop .inv) (e .loop-test .taken) (over (getD (now (l .before .args .friction)) (l .loop .i) 0) (c .if1 .taken)) refl
+    scan-lowest (l .loop .inv) (e .loop-test .taken) (over (getD (now (l .before .args .friction)) (l .loop .i) 0) (c .if1 .taken)) refl
 
 add-i : tie.Need-add-i Inv-loop μ-loop
 add-i c = search needs
@@ -56,7 +56,7 @@ loop-again c = let e = c .before .before in let l = e .before in
     scan-more (l .loop .inv) (e .loop-test .taken) (fine (getD (now (l .before .args .friction)) (l .loop .i) 0) (c .if1 .left)) refl
 
 returns-2 : tie.Need-returns-2 Inv-loop μ-loop
-returns-2 c = scan-all (c .before .loop .inv) (c .loop-test .left)
+returns-2 c = scan-past (c .before .loop .inv) (c .loop-test .left)
 
 pub bad-friction-spec : {M : Type 1} → statement M
 bad-friction-spec =

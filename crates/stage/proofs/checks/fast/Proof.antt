@@ -7,7 +7,7 @@ use borrow.Author.Needs.{needs}
 use denote.Ref.{now}
 use lib.IntN.{ℤ}
 use Rattle.whole.specs.Machine.{back}
-use Rattle.tables.specs.Scan.{Scanned, scan-none, scan-more, scan-found, scan-all}
+use Rattle.tables.specs.Scan.{Scanned, scan-none, scan-more, scan-lowest, scan-past}
 use Rattle.tables.specs.Cells.{seen}
 use Rattle.rules.specs.Refusals.{fastCell}
 use Rattle.reach.specs.Told.{bedAt}
@@ -42,14 +42,14 @@ here c = let k = c .before in let b = k .before .before in let s = b .before .be
 
 returns : tie.Need-returns Inv-loop μ-loop
 returns c = let o = c .before in let e = o .before .before .before .before in
-    scan-found (e .before .loop .inv) (e .loop-test .taken) (here o) (c .if1 .taken)
+    scan-lowest (e .before .loop .inv) (e .loop-test .taken) (here o) (c .if1 .taken)
 
 loop-again : tie.Need-loop-again Inv-loop μ-loop
 loop-again c = let o = c .before in let e = o .before .before .before .before in
     scan-more (e .before .loop .inv) (e .loop-test .taken) (here o) (c .if1 .left)
 
 returns-2 : tie.Need-returns-2 Inv-loop μ-loop
-returns-2 c = scan-all (c .before .loop .inv) (c .loop-test .left)
+returns-2 c = scan-past (c .before .loop .inv) (c .loop-test .left)
 
 pub fast-spec : {M : Type 1} → statement M
 fast-spec =

@@ -6,7 +6,7 @@ use Prim.Native.Nat.{ℕ, _-_}
 use borrow.Author.Needs.{needs}
 use denote.Ref.{now}
 use lib.IntN.{ℤ}
-use Rattle.tables.specs.Scan.{Scanned, scan-none, scan-more, scan-found, scan-all}
+use Rattle.tables.specs.Scan.{Scanned, scan-none, scan-more, scan-lowest, scan-past}
 use Rattle.tables.specs.Cells.{seen}
 use Rattle.rules.specs.Refusals.{offCell}
 use Rattle.reach.specs.Told.{bedAt}
@@ -40,14 +40,14 @@ here c = sym (rw (c .before .before .under .ensures) at (c .off-cell .ensures))
 
 returns : tie.Need-returns Inv-loop μ-loop
 returns c = let o = c .before in let e = o .before .before .before in
-    scan-found (e .before .loop .inv) (e .loop-test .taken) (here o) (c .if1 .taken)
+    scan-lowest (e .before .loop .inv) (e .loop-test .taken) (here o) (c .if1 .taken)
 
 loop-again : tie.Need-loop-again Inv-loop μ-loop
 loop-again c = let o = c .before in let e = o .before .before .before in
     scan-more (e .before .loop .inv) (e .loop-test .taken) (here o) (c .if1 .left)
 
 returns-2 : tie.Need-returns-2 Inv-loop μ-loop
-returns-2 c = scan-all (c .before .loop .inv) (c .loop-test .left)
+returns-2 c = scan-past (c .before .loop .inv) (c .loop-test .left)
 
 pub off-spec : {M : Type 1} → statement M
 off-spec =

@@ -1,7 +1,7 @@
--- Each turn writes the row of a face or, at the first that is too long, ends the loop.
+-- Each turn writes the row of a face and, at the lowest at which the step is too long, ends the loop.
 use mathlib.Core.Path.{_≡_, sym, _∙_, ap, subst}
 use mathlib.Core.List.{[]}
-use Prim.Native.Nat.{suc, _-_}
+use Prim.Native.Nat.{suc, _+_, _-_}
 use native.Mathlib.Omega.{arith}
 use borrow.Author.Needs.{needs}
 use denote.Ref.{now}
@@ -33,28 +33,41 @@ sized-here c =
     (cross-sized (s .args .reach) (s .args .call) (now (s .args .d)) (s .pre .0 .0) (s .pre .1 .0) (sided .0) (sided .1) (l .loop .i)
     (e .loop-test .taken))
 
-long-here : (c : tie.After-too-long Inv-loop μ-loop) →
-    let l = c .before .before .before in
-    let a = l .before .args in
-    longAt (a .reach) (a .call) (now (a .d)) (l .loop .i) ≡ c .too-long .result
-long-here c =
-    let a = c .before .before .before .before .args in
-    ap (longFlux (a .reach .dx) (a .call .dt)) (sym (c .before .face-at .ensures)) ∙ sym (c .too-long .ensures)
+-- the turn of a face
+module _ (c : tie.After-too-long Inv-loop μ-loop) where
+  abbrev crossed : tie.After-face-at Inv-loop μ-loop
+  crossed = c .before .before
+
+  abbrev turn : tie.In-loop Inv-loop μ-loop
+  turn = crossed .before
+
+  abbrev start : tie.Start Inv-loop μ-loop
+  start = turn .before .before
+
+  long-here : let a = start .args in longAt (a .reach) (a .call) (now (a .d)) (turn .before .loop .i) ≡ c .too-long .result
+  long-here = let a = start .args in
+      ap (longFlux (a .reach .dx) (a .call .dt)) (sym (crossed .face-at .ensures)) ∙ sym (c .too-long .ensures)
+
+  row-here : let a = start .args in
+      c .before .face-row .result ≡ faceRowAt (a .reach) (a .call) (now (a .d)) (turn .before .loop .i)
+  row-here = let a = start .args in
+      c .before .face-row .ensures ∙ ap (faceRow (a .reach .dx) (a .call .dt)) (crossed .face-at .ensures)
 
 returns : tie.Need-returns Inv-loop μ-loop
 returns c =
-    let t = c .before in let e = t .before .before in let l = e .before in
-    fill-stops [] _ _ _ _ (l .loop .f) (l .loop .i) (omega (arith, e .loop-test .taken)) (l .loop .inv) (long-here t ∙ c .if1 .taken)
+    let t = c .before in let e = turn t in let l = e .before in
+    fill-stops [] _ _ _ _ (l .loop .f) (l .loop .i) _ (start t .pre .0 .2) (omega (arith, e .loop-test .taken)) (l .loop .inv)
+    (row-here t) (long-here t ∙ c .if1 .taken)
 
 loop-again : tie.Need-loop-again Inv-loop μ-loop
 loop-again c =
-    let t = c .before .before in let f = t .before in let e = f .before in let l = e .before in let s = l .before in let a = s .args in
-    fill-more [] _ _ _ _ (l .loop .f) (l .loop .i) _ (s .pre .0 .2) (omega (arith, e .loop-test .taken)) (l .loop .inv)
-    (long-here t ∙ c .before .if1 .left)
-    (c .face-row .ensures ∙ ap (faceRow (a .reach .dx) (a .call .dt)) (f .face-at .ensures))
+    let t = c .before in let e = turn t in let l = e .before in
+    fill-more [] _ _ _ _ (l .loop .f) (l .loop .i) _ (start t .pre .0 .2) (omega (arith, e .loop-test .taken)) (l .loop .inv)
+    (row-here t) (long-here t ∙ c .if1 .left)
 
 returns-2 : tie.Need-returns-2 Inv-loop μ-loop
-returns-2 c = let l = c .before .loop in fill-ends [] _ _ _ _ (l .f) (l .i) (omega (arith, c .loop-test .left)) (l .inv)
+returns-2 c = let l = c .before .loop in let n = c .before .before .args .reach .n in
+    let e : suc n ≡ n + 1 = omega arith in rw (sym e) (fill-ends [] _ _ _ _ (l .f) (l .i) (omega (arith, c .loop-test .left)) (l .inv))
 
 pub faces-spec : {M : Type 1} → statement M
 faces-spec =
@@ -65,11 +78,12 @@ faces-spec =
     loop-holds
     face-at-requires
     (λ c κs. (sized-here c, c .before .before .before .pre .1 .0))
-    (λ c. c .before .before .before .before .loop .inv .room)
+    (λ c. search needs) (λ c. search needs)
+    (λ c κs. let f = c .before in (sized-here f, f .before .before .before .pre .1 .0))
+    (λ c. search needs)
     returns
-    (λ c κs. let f = c .before .before in (sized-here f, f .before .before .before .pre .1 .0))
-    (λ c. search needs) (λ c. search needs) (λ c. search needs)
-    (λ c. omega arith)
+    (λ c. search needs) (λ c. omega arith)
     loop-again
-    (λ c. c .before .loop .inv .room)
+    (λ c. search needs)
+    (λ c. search needs)
     returns-2)

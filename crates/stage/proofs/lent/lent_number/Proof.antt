@@ -12,15 +12,15 @@ use Rattle.stage.proofs.lent.lent_number.Statement.{statement}
 use Rattle.stage.proofs.lent.lent_number.Tie as tie
 
 -- what was read
-abbrev number : tie.After-place → ℤ
-number p = getD (now (p .before .args .s)) (p .place .result) (pos 0)
+abbrev number : tie.After-index → ℤ
+number p = getD (now (p .before .args .s)) (p .index .result) (pos 0)
 
 cast-result : tie.Need-cast-result
 cast-result c = widens (number (c .before)) (c .result .given)
 
 returns : tie.Need-returns
 returns c =
-    let p = c .before in let t = now (p .before .args .s) in let e = p .place .ensures .0 in (
+    let p = c .before in let t = now (p .before .args .s) in let e = p .index .ensures .0 in (
       widened (c .result .given) ∙ ap (λ (j : ℕ). getD t j (pos 0)) e,
       subst (λ (j : ℕ). UpTo widest (getD t j (pos 0))) e (b-up _ (within32 (c .result .given)) tt),
     )

@@ -1,4 +1,4 @@
--- Each turn writes the momentum of a cell's points or, at the first that is too fast, ends the loop.
+-- Each turn writes the momentum of a cell's points and, at the lowest that is too fast, ends the loop.
 use mathlib.Core.Path.{_≡_, sym, ap, _∙_}
 use mathlib.Core.List.{List}
 use Prim.Native.Nat.{_-_}
@@ -39,30 +39,33 @@ row : (c : tie.After-points-of Inv-loop μ-loop) →
 row c = let k = c .before in let b = k .before .before in let s = b .before .before .before in
     rw (b .under .ensures, back {z = s .args .call .dry} (k .struct-told .given .1 .1 .0 .1)) at (c .points-of .ensures)
 
-fast : (c : tie.After-either-fast Inv-loop μ-loop) →
-    let l = c .before .before .before .before .before .before .before .before in let s = l .before in
-    fastPointsAt (s .args .call .dry) (now (s .args .bed)) (seen (now (s .args .t))) (l .loop .i) ≡ c .either-fast .result
-unfolding fastPoints pointRow
-fast c =
-    let y = c .before in let x = y .before in
-    sym (rw (back (x .either-fast-arg .given), back (y .either-fast-arg2 .given), row (x .before)) at (c .either-fast .ensures))
+-- the turn of a cell
+module _ (f : tie.After-either-fast Inv-loop μ-loop) where
+  abbrev pointed : tie.After-points-of Inv-loop μ-loop
+  pointed = f .before .before .before .before
+
+  abbrev turn : tie.In-loop Inv-loop μ-loop
+  turn = pointed .before .before .before .before
+
+  fast : let l = turn .before in let s = l .before in
+      fastPointsAt (s .args .call .dry) (now (s .args .bed)) (seen (now (s .args .t))) (l .loop .i) ≡ f .either-fast .result
+  unfolding fastPoints pointRow
+  fast = let y = f .before in let x = y .before in
+      sym (rw (back (x .either-fast-arg .given), back (y .either-fast-arg2 .given), row pointed) at (f .either-fast .ensures))
 
 returns : tie.Need-returns Inv-loop μ-loop
+unfolding pointRow
 returns c =
-    let f = c .before in let e = f .before .before .before .before .before .before .before in let l = e .before in
-    fill-stops (pos 0) _ _ _ _ (l .loop .g) (l .loop .i) (e .loop-test .taken) (l .loop .inv) (fast f ∙ c .if1 .taken)
+    let f = c .before in let e = turn f in let l = e .before in let s = l .before in
+    fill-stops (pos 0) _ _ _ _ (l .loop .g) (l .loop .i) _ (s .pre .0 .1) (e .loop-test .taken) (l .loop .inv)
+    (back64 (f .before .before .before .g .given) (ap (λ (r : List ℤ). getD r 2 (pos 0)) (row (pointed f)))) (fast f ∙ c .if1 .taken)
 
 loop-again : tie.Need-loop-again Inv-loop μ-loop
 unfolding pointRow
 loop-again c =
-    let o = c .before in
-    let f = o .before in
-    let g = f .before .before .before in
-    let e = g .before .before .before .before in
-    let l = e .before in
-    let s = l .before in
-    fill-more (pos 0) _ _ _ _ (l .loop .g) (l .loop .i) _ (s .pre .0 .1) (e .loop-test .taken) (l .loop .inv) (fast f ∙ o .if1 .left)
-    (back64 (c .g .given) (ap (λ (r : List ℤ). getD r 2 (pos 0)) (row g)))
+    let f = c .before in let e = turn f in let l = e .before in let s = l .before in
+    fill-more (pos 0) _ _ _ _ (l .loop .g) (l .loop .i) _ (s .pre .0 .1) (e .loop-test .taken) (l .loop .inv)
+    (back64 (f .before .before .before .g .given) (ap (λ (r : List ℤ). getD r 2 (pos 0)) (row (pointed f)))) (fast f ∙ c .if1 .left)
 
 returns-2 : tie.Need-returns-2 Inv-loop μ-loop
 returns-2 c = let l = c .before .loop in fill-ends (pos 0) _ _ _ _ (l .g) (l .i) (omega arith) (l .inv)
@@ -76,9 +79,10 @@ points-spec =
     loop-holds
     (λ c κs. search needs) (λ c. search needs) (λ c. search needs)
     points-of-requires
-    (λ c. search needs) (λ c. search needs) (λ c κs. search needs) (λ c. search needs)
+    (λ c. search needs) (λ c. search needs) (λ c. search needs) (λ c. search needs) (λ c. search needs) (λ c κs. search needs)
+    (λ c. search needs)
     returns
-    (λ c. search needs) (λ c. search needs) (λ c. search needs) (λ c. search needs) (λ c. search needs)
+    (λ c. search needs) (λ c. search needs)
     loop-again
     (λ c. search needs)
     returns-2)

@@ -1,4 +1,4 @@
--- Each turn writes a cell's sides or, at the first that is too fast, ends the loop.
+-- Each turn writes a cell's sides and, at the lowest that is too fast, ends the loop.
 use mathlib.Core.Path.{_≡_, sym, _∙_}
 use mathlib.Core.List.{[]}
 use Prim.Native.Nat.{_-_}
@@ -44,16 +44,25 @@ fast c =
     let y = c .before in let x = y .before in
     sym (rw (back (x .either-fast-arg .given), back (y .either-fast-arg2 .given), row (x .before)) at (c .either-fast .ensures))
 
+-- the turn of a cell
+module _ (f : tie.After-either-fast Inv-loop μ-loop) where
+  abbrev sided : tie.After-sides-of Inv-loop μ-loop
+  sided = f .before .before .before
+
+  abbrev turn : tie.In-loop Inv-loop μ-loop
+  turn = sided .before .before .before .before
+
 returns : tie.Need-returns Inv-loop μ-loop
 returns c =
-    let f = c .before in let e = f .before .before .before .before .before .before .before in let l = e .before in
-    fill-stops [] _ _ _ _ (l .loop .d) (l .loop .i) (e .loop-test .taken) (l .loop .inv) (fast f ∙ c .if1 .taken)
+    let f = c .before in let e = turn f in let l = e .before in let s = l .before in
+    fill-stops [] _ _ _ _ (l .loop .d) (l .loop .i) _ (s .pre .0 .1) (e .loop-test .taken) (l .loop .inv) (row (sided f))
+    (fast f ∙ c .if1 .taken)
 
 loop-again : tie.Need-loop-again Inv-loop μ-loop
 loop-again c =
-    let f = c .before in let g = f .before .before .before in let e = g .before .before .before .before in
-    let l = e .before in let s = l .before in
-    fill-more [] _ _ _ _ (l .loop .d) (l .loop .i) _ (s .pre .0 .1) (e .loop-test .taken) (l .loop .inv) (fast f ∙ c .if1 .left) (row g)
+    let f = c .before in let e = turn f in let l = e .before in let s = l .before in
+    fill-more [] _ _ _ _ (l .loop .d) (l .loop .i) _ (s .pre .0 .1) (e .loop-test .taken) (l .loop .inv) (row (sided f))
+    (fast f ∙ c .if1 .left)
 
 returns-2 : tie.Need-returns-2 Inv-loop μ-loop
 returns-2 c = let l = c .before .loop in fill-ends [] _ _ _ _ (l .d) (l .i) (omega arith) (l .inv)
@@ -67,9 +76,9 @@ sides-spec =
     loop-holds
     (λ c κs. search needs) (λ c. search needs) (λ c. search needs)
     sides-of-requires
-    (λ c. search needs) (λ c. search needs) (λ c κs. search needs) (λ c. search needs)
+    (λ c. search needs) (λ c. search needs) (λ c. search needs) (λ c. search needs) (λ c κs. search needs) (λ c. search needs)
     returns
-    (λ c. search needs) (λ c. search needs) (λ c. search needs) (λ c. search needs)
+    (λ c. search needs) (λ c. search needs)
     loop-again
     (λ c. search needs)
     returns-2)

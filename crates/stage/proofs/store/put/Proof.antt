@@ -34,7 +34,7 @@ cast-next c = narrows (number (c .before)) (fits (c .before))
 
 returns : tie.Need-returns
 returns c = let s = c .before .before in
-    ap₂ (λ (j : ℕ) (v : ℤ). set (now (s .args .next)) j v) (c .place .ensures .0) (narrowed {z = number s} (fits s))
+    ap₂ (λ (j : ℕ) (v : ℤ). set (now (s .args .next)) j v) (c .index .ensures .0) (narrowed {z = number s} (fits s))
 
 pub put-spec : {M : Type 1} → statement M
 put-spec =

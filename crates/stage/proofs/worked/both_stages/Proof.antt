@@ -16,10 +16,10 @@ module _ (w : tie.After-stage-one) where
 
 module _ (e : tie.Else1) where
   abbrev went : tie.After-stage-one
-  went = e .before .before .before .before .before .before
+  went = e .before .before .before .before .before .before .before
 
 returns : tie.Need-returns
-returns c ρ v shows = let w = c .before .before .before .before .before .before in
+returns c ρ v shows = let w = c .before .before .before .before .before .before .before in
     both-stop v (w .stage-one .ensures .half ρ v shows) (c .if1 .taken)
 
 stage-two-requires : tie.Need-stage-two-requires

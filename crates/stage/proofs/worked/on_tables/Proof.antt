@@ -9,7 +9,7 @@ use Rattle.whole.specs.Machine.{back64}
 use Rattle.tables.specs.Cells.{cellIn}
 use Rattle.rules.specs.Reach.{Reach, Call, State}
 use Rattle.reach.specs.Told.{reachIn, callOn}
-use Rattle.stage.specs.Says.{StepSays}
+use Rattle.stage.specs.Says.{foundIn, StepSays}
 use Rattle.stage.specs.Laws.OnTables.{Loaded, ready-stops, loaded-ranged, loaded-slow}
 use Rattle.stage.specs.Laws.OnTables.{rubbed-shown, rubbed-ranged, both-stops, both-fits, both-done}
 use Rattle.stage.proofs.worked.on_tables.Statement.{statement}
@@ -24,11 +24,11 @@ module _ (w : tie.After-ready) where
   s = loaded .before .before .before
 
   lent : let p = s .args in
-      Loaded (p .reach) (p .call) (now (p .bed)) (now (p .friction)) (now (p .state)) (loaded .load .last .1 .1 .0) (w .ready .result)
-  lent = record { cells = loaded .load .ensures .cells .below; number = w .ready .ensures }
+      Loaded (p .reach) (p .call) (now (p .bed)) (now (p .friction)) (now (p .state)) (loaded .load .last .1 .1 .0) (foundIn (w .ready .result))
+  lent = record { cells = loaded .load .ensures .cells .below; found = w .ready .ensures }
 
 returns : tie.Need-returns
-returns c = ready-stops (lent (c .before)) (c .if1 .taken) _
+returns c = ready-stops (lent (c .before .before)) (c .if1 .taken) _
 
 ready-requires : tie.Need-ready-requires
 ready-requires c κs =
@@ -36,7 +36,7 @@ ready-requires c κs =
     ((omega arith, b .pre .0 .0 .beds, b .pre .0 .3), (l .load .ensures .wide, b .pre .0 .0 .numbers .dry))
 
 rub-requires : tie.Need-rub-requires
-rub-requires c κs = let e = c .before in let w = e .before in let b = s w in (
+rub-requires c κs = let e = c .before in let w = e .before .before in let b = s w in (
   (omega arith, omega arith),
   (b .pre .0 .0 .numbers, (loaded-ranged (lent w) (e .if1 .left), loaded-slow (lent w) (e .if1 .left))),
 )
@@ -47,7 +47,7 @@ module _ (t : tie.After-rub) where
   passed = t .before .before
 
   abbrev checked : tie.After-ready
-  checked = passed .before
+  checked = passed .before .before
 
 both-stages-requires : tie.Need-both-stages-requires
 both-stages-requires c κs =
@@ -86,18 +86,18 @@ module _ (m : tie.After-both-stages) where
 
   -- of the tables that both stages are lent, those of the faces and of the end state
   both : let tables = m .both-stages .last .1 .1 .1 in let faces = tables .1 .1 .1 in let end = faces .1 .1 .1 in
-      StepSays reach call state (m .both-stages .result) (faces .0) (faces .1 .0) (end .0)
+      StepSays reach call state (foundIn (m .both-stages .result)) (faces .0) (faces .1 .0) (end .0)
   both = m .both-stages .ensures rough state (rubbed-shown (lent (checked rubbed)) (passed rubbed .if1 .left) (rubbed .rub .ensures))
 
 returns-2 : tie.Need-returns-2
 returns-2 c =
-    let m = c .before .before .before .before .before .before .before in let t = rubbed m in
+    let m = c .before .before .before .before .before .before .before .before in let t = rubbed m in
     both-stops (lent (checked t)) (passed t .if1 .left) (start m .pre .0 .0 .some) (both m) (c .if2 .taken) _
 
 -- ---- what is stored
 module _ (e : tie.Else2) where
   abbrev made : tie.After-both-stages
-  made = e .before .before .before .before .before .before .before
+  made = e .before .before .before .before .before .before .before .before
 
 store-requires : tie.Need-store-requires
 store-requires c κs = let e = c .before .before in let m = made e in let t = rubbed m in let o = start m .pre .0 in (

@@ -12,7 +12,7 @@ use Rattle.stage.proofs.worked.stage_one.Tie as tie
 stage-requires : tie.Need-stage-requires
 stage-requires c κs =
     let s = c .before .before .before .before in
-    ((s .pre .0 .some, omega arith, omega arith, omega arith), ((omega arith, omega arith), (s .pre .0 .numbers, s .pre .1 .1)))
+    ((s .pre .0 .some, s .pre .0 .most, omega arith, omega arith, omega arith), ((omega arith, omega arith), (s .pre .0 .numbers, s .pre .1 .1)))
 
 module _ (w : tie.After-stage) where
   abbrev start : tie.Start
@@ -20,11 +20,11 @@ module _ (w : tie.After-stage) where
 
 module _ (e : tie.Else1) where
   abbrev went : tie.After-stage
-  went = e .before .before .before .before .before
+  went = e .before .before .before .before .before .before
 
 returns : tie.Need-returns
 returns c =
-    let w = c .before .before .before .before .before in let s = start w in let a = s .args in record {
+    let w = c .before .before .before .before .before .before in let s = start w in let a = s .args in record {
       half = λ ρ v shows. half-stops (s .pre .0 .some) (now (a .a)) shows (w .stage .ensures ρ) (c .if1 .taken);
       sized = λ z. absurd (c .if1 .taken z);
       ranged = λ z. absurd (c .if1 .taken z);

@@ -9,14 +9,15 @@ use denote.Ref.{now}
 use lib.ListN.{getD, length}
 use lib.IntN.{ℤ, pos}
 use Rattle.whole.specs.Machine.{back64, rd}
-use Rattle.rules.specs.Lent.{Lent, misfit, number, stateOf, reachOf, callOf}
-use Rattle.rules.specs.Refusals.{verdict, badCall}
-use Rattle.rules.specs.Laws.Lengths.{Fitted, fitted}
+use Rattle.rules.specs.Lent.{Lent, misfit, stateOf, reachOf, callOf}
+use Rattle.rules.specs.Refusals.{badCall}
+use Rattle.rules.specs.Laws.Verdicts.{found}
+use Rattle.rules.specs.Laws.Lengths.{Fitted, fitted, foundOf}
 use Rattle.reach.specs.Told.{reachIn, callOn}
 use Rattle.stage.specs.Ranges.{InOrder}
 use Rattle.stage.specs.Says.{readyChecks, bothChecks}
 use Rattle.stage.specs.Worked.{lentBy}
-use Rattle.stage.specs.Laws.LentNumber.{numbers, reachBy, callBy, length-number, call-number, later-checks}
+use Rattle.stage.specs.Laws.LentNumber.{numbers, reachBy, callBy, length-found, call-found, later-checks}
 use Rattle.stage.proofs.worked.work.Statement.{statement}
 use Rattle.stage.proofs.worked.work.Tie as tie
 
@@ -46,8 +47,8 @@ module _ (c : tie.Else1) where
 
 returns : tie.Need-returns
 returns c = let b = c .before .before .before in let p = b .args in record {
-  number = sym (length-number (now (p .state)) (room b) (now (p .bed)) (now (p .friction)) (p .given)
-      (sym (c .before .bad-lengths .ensures) ∙ c .if1 .taken));
+  found = length-found (now (p .state)) (room b) (now (p .bed)) (now (p .friction)) (p .given)
+      (sym (c .before .bad-lengths .ensures) ∙ c .if1 .taken);
   some = omega arith;
   kept = refl;
 }
@@ -90,8 +91,8 @@ module _ (c : tie.After-bad-numbers) where
 
 returns-2 : tie.Need-returns-2
 returns-2 c = let m = c .before in let e = fit m in let p = s e .args in record {
-  number = sym (call-number (now (p .state)) (room (s e)) (now (p .bed)) (now (p .friction)) (p .given)
-      (lengths e) (sym (judged m) ∙ c .if2 .taken));
+  found = call-found (now (p .state)) (room (s e)) (now (p .bed)) (now (p .friction)) (p .given)
+      (lengths e) (sym (judged m) ∙ c .if2 .taken);
   some = omega arith;
   kept = refl;
 }
@@ -123,8 +124,8 @@ module _ (e : tie.Else2) where
   abbrev lent : Lent
   lent = let p = start .args in lentBy (now (p .state)) (room start) (now (p .bed)) (now (p .friction)) (p .given)
 
-  later : number lent
-      ≡ verdict (readyChecks (callOf lent .dry) (n start) (lent .bed) (lent .friction) (stateOf lent)
+  later : foundOf lent
+      ≡ found (readyChecks (callOf lent .dry) (n start) (lent .bed) (lent .friction) (stateOf lent)
       ++ bothChecks (reachOf lent) (callOf lent) (stateOf lent))
   later = let p = start .args in
       later-checks (now (p .state)) (room start) (now (p .bed)) (now (p .friction)) (p .given)

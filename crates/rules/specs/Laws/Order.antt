@@ -1,4 +1,4 @@
--- Where each check stands in its list, from 0 on.
+-- Where each check stands in the order of its list, from 0 on.
 use Prim.Native.Nat.{ℕ}
 
 -- in `early`: the numbers of the call, the bed, the state, the friction speeds, and stage one's face speeds and faces

@@ -1,0 +1,43 @@
+-- No place lies past the last face of the reach, and so none past 1,024.
+-- Assumes nothing.
+use mathlib.Core.Path.{_≡_, sym, ap, subst}
+use mathlib.Core.List.{List, [], _∷_}
+use Prim.Native.Nat.{ℕ, suc, _≤_, _<_}
+use native.Mathlib.Omega.{arith}
+use lib.ListN.{length}
+use Rattle.whole.specs.Flags.{by}
+use Rattle.tables.specs.Some.{lowest-is}
+use Rattle.rules.specs.Reach.{Reach, Call, State}
+use Rattle.rules.specs.Refusals.{Check, applies, spot, stageChecks, early, checks}
+use Rattle.rules.specs.Lent.{Lent, cellsOf, reachOf, callOf, stateOf, misfits, place}
+use Rattle.rules.specs.Laws.Verdicts.{Found}
+use Rattle.rules.specs.Laws.Lengths.{fitted, first-found, later-found}
+
+-- no check of a list has more than m places and one
+abbrev pub Within : ℕ → List Check → Type 0
+Within m [] = Unit {0}
+Within m (x ∷ xs) = (x .many ≤ suc m) × Within m xs
+
+spot-within : (m : ℕ) (xs : List Check) → Within m xs → spot xs ≤ m
+unfolding spot
+spot-within m [] w = omega arith
+spot-within m (x ∷ xs) w = by (applies x)
+    (λ e. rw e (let l = lowest-is (x .at) (x .many) e .below in omega (arith, l, w .0)))
+    (λ e. rw e (spot-within m xs (w .1)))
+
+checks-within : (r : Reach) (c : Call) (s : State) → Within (r .n) (checks r c s)
+unfolding checks early stageChecks
+checks-within r c s = let face : suc (r .n) ≤ suc (r .n) = omega arith in let cell : r .n ≤ suc (r .n) = omega arith in
+    (omega arith, (face, (cell, (cell, (cell, (face, (cell, (face, (cell, (face, (cell, (face, (cell, tt)))))))))))))
+
+pub place-within : (a : Lent) → place a ≤ cellsOf a
+place-within a = by (misfits a)
+    (λ e. let z : 0 ≡ place a = ap (λ (k : Found). k .place) (first-found a e) in omega arith)
+    (λ e. subst (λ (m : ℕ). m ≤ cellsOf a) (ap (λ (k : Found). k .place) (later-found a e))
+    (spot-within (cellsOf a) (checks (reachOf a) (callOf a) (stateOf a)) (checks-within (reachOf a) (callOf a) (stateOf a))))
+
+pub place-most : (a : Lent) → place a ≤ 1024
+place-most a = by (misfits a)
+    (λ e. let z : 0 ≡ place a = ap (λ (k : Found). k .place) (first-found a e) in omega arith)
+    (λ e. let w = place-within a in
+    let f = fitted (length (a .now)) (a .room) (length (a .bed)) (cellsOf a) e .most in omega arith)
