@@ -1,8 +1,8 @@
-// Answers of the step at the edges of its checks: the scope document's own cases, each refusal in each
-// of its places, calls to which two refusals apply, where the first in order is the answer, water
-// beside a bank, where slopes are spared, thin water, with a dry depth other than 4 in each of its
-// places, and an inflow at either end. A line gives the answer, the volumes, and what `next` holds
-// after the call: -77 where it is as it was. The cases are in the file stdin, which says how to read
+// Answers of the step at the edges of its checks: the scope document's own cases, each refusal by each
+// check that gives it and at each kind of place, calls to which two refusals apply, where the first in order is the answer, water
+// beside a bank, where slopes are spared, thin water, with a dry depth other than 4 in each rule
+// that reads it, and an inflow at either end. A line gives the number and the place or the volumes, and what
+// `next` holds after the call: -77 where it is as it was. The cases are in the file stdin, which says how to read
 // them. What it must write comes from tests/reference/answers.py.
 mod read;
 mod show;

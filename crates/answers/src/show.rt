@@ -40,9 +40,11 @@ fn show_sum(t: &[i32]) {
 
 fn show_answer(a: Answer) {
     match a {
-        Answer::Refused(k) => {
+        Answer::Refused(k, p) => {
             io::write_all(STDOUT_FILENO, b" refused");
             show(k as i64);
+            io::write_all(STDOUT_FILENO, b" at ");
+            io::print_decimal(STDOUT_FILENO, p as u64);
         }
         Answer::Accepted(w, v) => {
             io::write_all(STDOUT_FILENO, b" accepted");

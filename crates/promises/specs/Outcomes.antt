@@ -4,7 +4,7 @@ use mathlib.Core.Path.{_≡_, refl, sym, _∙_, ap, subst}
 use mathlib.Core.Bool.{Bool, true, false}
 use mathlib.Core.List.{List, _∷_}
 use mathlib.Core.Logic.{_⊎_, inl, inr}
-use Prim.Native.Nat.{ℕ, zero, suc, _*_, _<_}
+use Prim.Native.Nat.{ℕ, zero, suc, _*_, _≤_, _<_}
 use native.Mathlib.Omega.{arith}
 use borrow.Author.Tests.{eq-eqb, ne-eqb, eqb-false}
 use lib.Dec.{eqb, eqb→eq}
@@ -18,7 +18,7 @@ use Rattle.rules.specs.Reach.{Reach, Call, State, under, z0, z1, h0, h1, hl, hr
 use Rattle.rules.specs.Step.{carry, joined, next}
 use Rattle.rules.specs.Ends.{End, inflowKind}
 use Rattle.tables.specs.Some.{some, lowest}
-use Rattle.rules.specs.Refusals.{badEnd, Check, ofCall, verdict, spot, checks, refusal, refusedAt}
+use Rattle.rules.specs.Refusals.{badEnd, Check, ofCall, verdict, spot, stageChecks, early, checks, refusal, refusedAt}
 use Rattle.rules.specs.Lent.{Lent, reachOf, callOf, stateOf, cellsOf, misfits, number, place, filled, crossed}
 use Rattle.rules.specs.Lent.{Outcome, refused, accepted, stepOf}
 use Rattle.rules.specs.AtRest.{Dry, Flat, AtRest}
@@ -26,6 +26,7 @@ use Rattle.rules.specs.Laws.Agree.{Same}
 use Rattle.rules.specs.Laws.DryDepth.{finished-calm}
 use Rattle.rules.specs.Laws.Verdicts.{Found, found}
 use Rattle.rules.specs.Laws.Lengths.{fitted, foundOf, first-number, later-number, fits, unrefused}
+use Rattle.rules.specs.Laws.Within.{spot-whole}
 use Rattle.rules.specs.Laws.Positive.{Nonneg, Wet}
 use Rattle.rules.specs.Laws.Balance as balance
 use Rattle.rules.specs.Laws.Face.{lawful}
@@ -52,6 +53,17 @@ module _ (l : Lent) where
 
   pub number-is : number l ≡ verdict (allChecks l)
   number-is = ap (λ (f : Found). f .no) found-is
+
+  -- the place of a 1 or a 2
+  pub whole-place : (k : ℕ) → k ≤ 2 → 0 < k → number l ≡ k → place l ≡ 0
+  unfolding allChecks checks early stageChecks
+  whole-place k m s e = ap (λ (f : Found). f .place) found-is ∙ go k m s (sym number-is ∙ e)
+    where
+      go : (k : ℕ) → k ≤ 2 → 0 < k → verdict (allChecks l) ≡ k → spot (allChecks l) ≡ 0
+      go zero m s e = let z : ⊥ = omega arith in absurd z
+      go (suc zero) m s e = spot-whole 1 (allChecks l) tt e
+      go (suc (suc zero)) m s e = spot-whole 2 (allChecks l) tt e
+      go (suc (suc (suc k))) m s e = let z : ⊥ = omega arith in absurd z
 
   pub accepts : number l ≡ 0 → stepOf l ≡ accepted (filled l) (crossed l 0) (crossed l (cellsOf l))
   unfolding stepOf

@@ -74,6 +74,7 @@ use Rattle.promises.specs.Seen.{correctedStageTable, NoShortfall, water,
 use Rattle.promises.specs.Seen.{Called, Calls, none, more, NoInflow}
 use Rattle.promises.specs.First.{FirstMet, first-verdict, verdict-first, first-listed, FirstMetAt, first-of, first-found, found-first}
 use Rattle.promises.specs.Outcomes.{allChecks, found-is, number-is, refuses-with, refused-number, refused-some, refused-place}
+use Rattle.promises.specs.Outcomes.{whole-place}
 use Rattle.promises.specs.Outcomes.{refused-table, refused-later, Taken, taken, reachAt, lent, call, one, none-below}
 use Rattle.promises.specs.Outcomes.{both-listed, wall-left, wall-right, inflow-left, inflow-right}
 use Rattle.promises.specs.Outcomes.{none-below-table, none-short-table, excess-table, wet, water-is, at-rest, written-calm, run}
@@ -141,7 +142,11 @@ pub at-refused : (l : Lent) (k p : ℕ) (a : Answer) (old new : List ℤ) → Fi
 at-refused l k p a old new f g = let is = found-is l ∙ first-found k p f in
     first-refused l k a old new (first-of k p f) g ∙ (λ i. Refused k (is i .place))
 
--- no place lies past the last face, and those of a 1 and of a 2 are 0
+-- for a 1 or a 2 that is 0, and for none does it lie past the last face
+pub refused-whole : (l : Lent) (k p : ℕ) (old new : List ℤ) → k ≤ 2 → Gives (stepOf l) (Refused k p) old new → p ≡ 0
+refused-whole l k p old new m g =
+    sym (refused-place l k p old new g) ∙ whole-place l k m (refused-some l k p old new g) (refused-number l k p old new g)
+
 pub refused-within : (l : Lent) (k p : ℕ) (old new : List ℤ) → Gives (stepOf l) (Refused k p) old new → p ≤ cellsOf l
 refused-within l k p old new g = subst (λ (m : ℕ). m ≤ cellsOf l) (refused-place l k p old new g) (place-within l)
 

@@ -2,7 +2,7 @@
 // deep and dry ones, steep beds, jumps, speeds, depths and discharges at their limits, ends of every
 // kind with inflows of the whole list, a dt that closes in on the longest accepted, and faults. A line
 // gives how many calls of a block were accepted, how many were refused with each number from 1 to 8,
-// and the running sum of the answers, the volumes and all that `next` held after each call. What it
+// and the running sum of the numbers and places, the volumes and all that `next` held after each call. What it
 // must write comes from tests/reference/steps.py.
 mod draw;
 mod ends;
@@ -183,14 +183,14 @@ fn answer(x: u64, r: u64, dt: u64, state: &[i32], next: &mut [i32]) -> Answer {
 // The number of a refusal, or 0.
 fn number(a: Answer) -> u64 {
     match a {
-        Answer::Refused(k) => k as u64,
+        Answer::Refused(k, _) => k as u64,
         Answer::Accepted(_, _) => 0,
     }
 }
 
 fn told(sum: u64, a: Answer) -> u64 {
     match a {
-        Answer::Refused(k) => mixed(sum, k as u64),
+        Answer::Refused(k, p) => mixed(mixed(sum, k as u64), p as u64),
         Answer::Accepted(w, v) => mixed(mixed(mixed(sum, 0), bits(w)), bits(v)),
     }
 }

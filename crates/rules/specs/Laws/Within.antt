@@ -1,14 +1,17 @@
--- No place lies past the last face of the reach, and so none past 1,024.
+-- No place lies past the last face of the reach, and so none past 1,024; that of a check of the call as a whole is 0.
 -- Assumes nothing.
-use mathlib.Core.Path.{_≡_, sym, ap, subst}
+use mathlib.Core.Path.{_≡_, refl, ap, subst}
+use mathlib.Core.Bool.{Bool, true, false, cond}
 use mathlib.Core.List.{List, [], _∷_}
 use Prim.Native.Nat.{ℕ, suc, _≤_, _<_}
 use native.Mathlib.Omega.{arith}
+use borrow.Author.Tests.{eq-eqb}
+use lib.Dec.{T, eqb, leb, leb→le}
 use lib.ListN.{length}
-use Rattle.whole.specs.Flags.{by}
+use Rattle.whole.specs.Flags.{by, held}
 use Rattle.tables.specs.Some.{lowest-is}
 use Rattle.rules.specs.Reach.{Reach, Call, State}
-use Rattle.rules.specs.Refusals.{Check, applies, spot, stageChecks, early, checks}
+use Rattle.rules.specs.Refusals.{Check, applies, verdict, spot, stageChecks, early, checks}
 use Rattle.rules.specs.Lent.{Lent, cellsOf, reachOf, callOf, stateOf, misfits, place}
 use Rattle.rules.specs.Laws.Verdicts.{Found}
 use Rattle.rules.specs.Laws.Lengths.{fitted, first-found, later-found}
@@ -41,3 +44,23 @@ place-most a = by (misfits a)
     (λ e. let z : 0 ≡ place a = ap (λ (k : Found). k .place) (first-found a e) in omega arith)
     (λ e. let w = place-within a in
     let f = fitted (length (a .now)) (a .room) (length (a .bed)) (cellsOf a) e .most in omega arith)
+
+-- ---- every check of a list with the number k has at most one place
+abbrev pub oneOnly : ℕ → List Check → Bool
+oneOnly k [] = true
+oneOnly k (x ∷ xs) = cond (eqb (x .no) k) (cond (leb (x .many) 1) (oneOnly k xs) false) (oneOnly k xs)
+
+pub spot-whole : (k : ℕ) (xs : List Check) → T (oneOnly k xs) → verdict xs ≡ k → spot xs ≡ 0
+unfolding verdict spot
+spot-whole k [] t e = refl
+spot-whole k (x ∷ xs) t e = by (applies x)
+    (λ b. rw b (let l = lowest-is (x .at) (x .many) b .below in let m = few t (rw b at e) in omega arith))
+    (λ b. rw b (spot-whole k xs (rest t) (rw b at e)))
+  where
+    few : T (oneOnly k (x ∷ xs)) → x .no ≡ k → x .many ≤ 1
+    few t d = leb→le (x .many) 1 (by (leb (x .many) 1) (λ b. held (leb (x .many) 1) b) (λ b. absurd (rw (eq-eqb (x .no) k d, b) at t)))
+
+    rest : T (oneOnly k (x ∷ xs)) → T (oneOnly k xs)
+    rest t = by (eqb (x .no) k)
+        (λ b. by (leb (x .many) 1) (λ d. rw (b, d) at t) (λ d. absurd (rw (b, d) at t)))
+        (λ b. rw b at t)

@@ -49,7 +49,7 @@ fast-inflow-requires c κs =
       given .left-q,
       (
         subst (λ (x : rules.Side). DepthIn (x .h)) (sym (l .left-side .ensures))
-        (first-depth (a .reach) (a .call) (bed w) (state w) (s .pre .0 .0) (filled w) (s .pre .1 .1)),
+            (first-depth (a .reach) (a .call) (bed w) (state w) (s .pre .0 .0) (filled w) (s .pre .1 .1)),
         rw (back {z = a .call .dry} (c .struct-told .given .1 .1 .0 .1)) (given .dry),
       ),
     )
@@ -92,8 +92,8 @@ fast-inflow-requires-2 c κs =
       given .right-q,
       (
         subst (λ (x : rules.Side). DepthIn (x .h)) (sym (r .right-side .ensures))
-        (last-depth (a .reach) (a .call) (bed w) (state w) (s .pre .0 .0) (filled w) (left-test (slow e) ∙ e .if1 .left)
-        (passed r .if2 .left) (s .pre .1 .1)),
+            (last-depth (a .reach) (a .call) (bed w) (state w) (s .pre .0 .0) (filled w) (left-test (slow e) ∙ e .if1 .left)
+            (passed r .if2 .left) (s .pre .1 .1)),
         rw (back {z = a .call .dry} (c .struct-told2 .given .1 .1 .0 .1)) (given .dry),
       ),
     )

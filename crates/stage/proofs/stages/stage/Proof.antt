@@ -89,9 +89,10 @@ module _ (e : tie.Else2) where
 
 faces-requires : tie.Need-faces-requires
 faces-requires c κs =
-    let h = c .before .before in let p = slowed h in let s = begun h in
-    ((s .pre .0 .0, room (worked (first h)), omega arith),
-    (s .pre .1 .1 .0, (sides-sound (p .faces) (s .pre .1 .1 .1), p .faces .slow-ends)))
+    let h = c .before .before in let p = slowed h in let s = begun h in (
+      (s .pre .0 .0, room (worked (first h)), omega arith),
+      (s .pre .1 .1 .0, (sides-sound (p .faces) (s .pre .1 .1 .1), p .faces .slow-ends)),
+    )
 
 -- ---- the faces
 returns-3 : tie.Need-returns-3

@@ -83,8 +83,16 @@ returns-4 c = let g = c .before .before in let e = three g in let d = two e in
 
 returns-5 : tie.Need-returns-5
 returns-5 c = let g = c .before .before in let e = three g in let d = two e in let s = one d in
-    none-stops (list s) (bed-passed d, (rough-passed e, (range-passed g,
-    (passes (checkAt (list s) 3) _ (c .before .fast .ensures) (c .if4 .left), tt))))
+    none-stops (list s) (
+      bed-passed d,
+      (
+        rough-passed e,
+        (
+          range-passed g,
+          (passes (checkAt (list s) 3) _ (c .before .fast .ensures) (c .if4 .left), tt),
+        ),
+      ),
+    )
 
 pub ready-spec : {M : Type 1} → statement M
 ready-spec =
