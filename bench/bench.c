@@ -29,7 +29,7 @@ enum {
 
 typedef uint32_t Step(const int32_t *, size_t, int32_t *, size_t, const int32_t *, size_t,
                       const uint16_t *, size_t, uint32_t, uint32_t, uint32_t, uint32_t, uint32_t,
-                      uint32_t, uint32_t, uint32_t, int64_t *);
+                      uint32_t, uint32_t, uint32_t, int64_t *, uint32_t *);
 
 enum { LIBRARY, PLAIN, PLAIN_ROOT, WRITINGS };
 static Step *const writings[WRITINGS] = {bassoonsun_step, plain_step, plain_root_step};
@@ -43,7 +43,7 @@ typedef struct {
 } Case;
 
 typedef struct {
-    uint32_t refusal;
+    uint32_t refusal, place;
     int64_t volumes[2];
     int32_t next[4 * MOST_CELLS];
 } Given;
@@ -96,18 +96,18 @@ static const size_t lengths[LENGTHS] = {16, 64, 128, 1024}; /* in cells */
 
 /* ---- Comparing answers */
 
-static uint32_t call(Step *step, const Case *c, const int32_t *now, int32_t *next, int64_t *volumes)
+static uint32_t call(Step *step, const Case *c, const int32_t *now, int32_t *next, int64_t *volumes, uint32_t *place)
 {
     return step(now, 4 * c->n, next, 4 * c->n, c->bed, c->n + 1, c->friction, c->n, c->dx, c->dt, c->jump,
-                c->dry, c->left, c->right, c->left_q, c->right_q, volumes);
+                c->dry, c->left, c->right, c->left_q, c->right_q, volumes, place);
 }
 
-/* All of next and both volumes count, written or not: a refusal must leave them alone. */
+/* The place counts, and all of next and both volumes, written or not: a refusal must leave these alone. */
 static int same(const Case *c, const int32_t *now, Given *given)
 {
     for (int k = 0; k < WRITINGS; k++) {
         memset(&given[k], 0x5a, sizeof given[k]);
-        given[k].refusal = call(writings[k], c, now, given[k].next, given[k].volumes);
+        given[k].refusal = call(writings[k], c, now, given[k].next, given[k].volumes, &given[k].place);
     }
     return memcmp(&given[0], &given[1], sizeof given[0]) == 0 && memcmp(&given[0], &given[2], sizeof given[0]) == 0;
 }
@@ -225,10 +225,10 @@ static int64_t run(Step *step, const Case *c)
 {
     static int32_t tables[2][4 * MOST_CELLS];
     int64_t volumes[2] = {0, 0};
-    uint32_t refusals = 0;
+    uint32_t refusals = 0, place;
     memcpy(tables[0], c->start, 4 * c->n * sizeof tables[0][0]);
     for (int k = 0; k < STEPS; k++)
-        refusals |= call(step, c, tables[k % 2], tables[(k + 1) % 2], volumes);
+        refusals |= call(step, c, tables[k % 2], tables[(k + 1) % 2], volumes, &place);
     return tables[STEPS % 2][0] + volumes[0] + refusals;
 }
 

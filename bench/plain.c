@@ -60,6 +60,13 @@ static int64_t greatest(int64_t a, int64_t b) { return a > b ? a : b; }
 
 static bool within(int64_t x, int64_t most) { return -most <= x && x <= most; }
 
+/* Gives false, for a check that does not pass, and says at which index. */
+static bool stopped(size_t at, uint32_t *place)
+{
+    *place = (uint32_t)at;
+    return false;
+}
+
 static int64_t bed_mean(const Reach *r, size_t i) { return (r->bed[i] + r->bed[i + 1]) / 2; }
 
 static int64_t bed_slope(const Reach *r, size_t i) { return (r->bed[i + 1] - r->bed[i]) / 2; }
@@ -118,42 +125,42 @@ static Flux face(int64_t hl, int64_t ul, int64_t hr, int64_t ur)
 /* A discharge belongs to an end with an inflow, and to no other. */
 static bool end_in_order(uint32_t kind, uint32_t q) { return kind == INFLOW ? q <= MOST_DISCHARGE : kind <= OPEN && q == 0; }
 
-static bool bed_in_order(const Reach *r)
+static bool bed_in_order(const Reach *r, uint32_t *place)
 {
     for (size_t i = 0; i <= r->n; i++)
         if (r->bed[i] < 0 || r->bed[i] > HIGHEST_BED || r->bed[i] % 2 != 0)
-            return false;
+            return stopped(i, place);
     return true;
 }
 
-static bool friction_in_order(const Reach *r)
+static bool friction_in_order(const Reach *r, uint32_t *place)
 {
     for (size_t i = 0; i < r->n; i++)
         if (r->friction[i] > ROUGHEST)
-            return false;
+            return stopped(i, place);
     return true;
 }
 
 /* Every face depth and face discharge; the bed is even, so the face levels are e0 - e1 and e0 + e1. */
-static bool in_range(const Reach *r, const Cell *cells)
+static bool in_range(const Reach *r, const Cell *cells, uint32_t *place)
 {
     for (size_t i = 0; i < r->n; i++) {
         const Cell *c = &cells[i];
         int64_t hl = c->e0 - c->e1 - r->bed[i], hr = c->e0 + c->e1 - r->bed[i + 1];
         if (hl < 0 || hl > DEEPEST || hr < 0 || hr > DEEPEST ||
             !within(c->q0 - c->q1, MOST_DISCHARGE) || !within(c->q0 + c->q1, MOST_DISCHARGE))
-            return false;
+            return stopped(i, place);
     }
     return true;
 }
 
 /* ---- Friction */
 
-static bool slow_enough(const Reach *r, const Cell *cells)
+static bool slow_enough(const Reach *r, const Cell *cells, uint32_t *place)
 {
     for (size_t i = 0; i < r->n; i++)
         if (!within(speed(r, cells[i].q0, cells[i].e0 - bed_mean(r, i)), FASTEST))
-            return false;
+            return stopped(i, place);
     return true;
 }
 
@@ -211,6 +218,42 @@ static bool inflows_slow_enough(const Reach *r, const Shown *shown)
     return speed(r, r->left_q, shown[0].hl) <= FASTEST && speed(r, r->right_q, shown[r->n - 1].hr) <= FASTEST;
 }
 
+/* Whether a speed at face k is too great: on its left side, on its right side, or of an inflow there. */
+static bool face_too_fast(const Reach *r, const Cell *cells, size_t k)
+{
+    if (k > 0) {
+        const Cell *c = &cells[k - 1];
+        int64_t h = c->e0 + c->e1 - r->bed[k];
+        if (!within(speed(r, c->q0 + c->q1, h), FASTEST) || (k == r->n && speed(r, r->right_q, h) > FASTEST))
+            return true;
+    }
+    if (k < r->n) {
+        const Cell *c = &cells[k];
+        int64_t h = c->e0 - c->e1 - r->bed[k];
+        if (!within(speed(r, c->q0 - c->q1, h), FASTEST) || (k == 0 && speed(r, r->left_q, h) > FASTEST))
+            return true;
+    }
+    return false;
+}
+
+static bool point_too_fast(const Reach *r, const Cell *c, size_t i)
+{
+    int64_t h0 = c->e0 - bed_mean(r, i), th = 37837 * (c->e1 - bed_slope(r, i)) / 65536, tq = 37837 * c->q1 / 65536;
+    return !within(speed(r, c->q0 + tq, h0 + th), FASTEST) || !within(speed(r, c->q0 - tq, h0 - th), FASTEST);
+}
+
+/* Where a speed is too great, once it is known that one is: the lowest face, or if there is none the lowest cell. */
+static size_t too_fast_at(const Reach *r, const Cell *cells)
+{
+    for (size_t k = 0; k <= r->n; k++)
+        if (face_too_fast(r, cells, k))
+            return k;
+    size_t i = 0;
+    while (!point_too_fast(r, &cells[i], i))
+        i++;
+    return i;
+}
+
 /* An end with a given inflow has no outer side. h and u are the inner depth and speed; F points into the reach. */
 static Flux inflow(const Reach *r, int64_t q, int64_t h, int64_t u)
 {
@@ -237,7 +280,7 @@ static Flux right_end(const Reach *r, int64_t h, int64_t u)
 }
 
 /* Gives false where the time step is too long for some face. */
-static bool cross(const Reach *r, const Shown *shown, Flux *flux)
+static bool cross(const Reach *r, const Shown *shown, Flux *flux, uint32_t *place)
 {
     size_t n = r->n;
     flux[0] = left_end(r, shown[0].hl, shown[0].ul);
@@ -246,7 +289,7 @@ static bool cross(const Reach *r, const Shown *shown, Flux *flux)
     flux[n] = right_end(r, shown[n - 1].hr, shown[n - 1].ur);
     for (size_t i = 0; i <= n; i++)
         if (2 * r->dt * flux[i].S > UNIT * r->dx)
-            return false;
+            return stopped(i, place);
     return true;
 }
 
@@ -265,13 +308,15 @@ static Cell updated(const Reach *r, size_t i, const Cell *c, const Shown *s, con
     };
 }
 
-/* Gives 0 and fills flux and the unfinished cells, or gives 6 or 7. */
-static uint32_t stage(const Reach *r, const Cell *cells, Flux *flux, Cell *unfinished)
+/* Gives 0 and fills flux and the unfinished cells, or gives 6 or 7 and their place. */
+static uint32_t stage(const Reach *r, const Cell *cells, Flux *flux, Cell *unfinished, uint32_t *place)
 {
     Shown shown[MOST_CELLS];
-    if (!show(r, cells, shown) || !inflows_slow_enough(r, shown))
+    if (!show(r, cells, shown) || !inflows_slow_enough(r, shown)) {
+        *place = (uint32_t)too_fast_at(r, cells);
         return 6;
-    if (!cross(r, shown, flux))
+    }
+    if (!cross(r, shown, flux, place))
         return 7;
     for (size_t i = 0; i < r->n; i++)
         unfinished[i] = updated(r, i, &cells[i], &shown[i], &flux[i], &flux[i + 1]);
@@ -368,23 +413,23 @@ static void join(const Reach *r, const Cell *rubbed, const Flux *one, const Flux
 }
 
 /* From cells that are in range; they are the next state when 0 is given. */
-static uint32_t both_stages(const Reach *r, Cell *cells, int64_t volumes[2])
+static uint32_t both_stages(const Reach *r, Cell *cells, int64_t volumes[2], uint32_t *place)
 {
     Cell unfinished[MOST_CELLS], half[MOST_CELLS];
     Flux one[MOST_CELLS + 1], two[MOST_CELLS + 1];
     rub(r, cells);
-    uint32_t refusal = stage(r, cells, one, unfinished);
+    uint32_t refusal = stage(r, cells, one, unfinished, place);
     if (refusal != 0)
         return refusal;
     finish(r, unfinished, half);
-    if (!in_range(r, half))
+    if (!in_range(r, half, place))
         return 8;
-    refusal = stage(r, half, two, unfinished);
+    refusal = stage(r, half, two, unfinished, place);
     if (refusal != 0)
         return refusal;
     join(r, cells, one, two, unfinished);
     finish(r, unfinished, cells);
-    if (!in_range(r, cells))
+    if (!in_range(r, cells, place))
         return 8;
     volumes[0] = volume(r, one, two, 0);
     volumes[1] = volume(r, one, two, r->n);
@@ -413,8 +458,9 @@ static void store(const Cell *cells, size_t n, int32_t *next)
 uint32_t STEP(const int32_t *now, size_t now_len, int32_t *next, size_t next_len, const int32_t *bed,
               size_t bed_len, const uint16_t *friction, size_t n, uint32_t dx, uint32_t dt,
               uint32_t jump, uint32_t dry, uint32_t left, uint32_t right, uint32_t left_q,
-              uint32_t right_q, int64_t volumes[2])
+              uint32_t right_q, int64_t volumes[2], uint32_t place[1])
 {
+    place[0] = 0;
     if (n < 1 || n > MOST_CELLS || now_len != 4 * n || next_len != 4 * n || bed_len != n + 1)
         return 1;
     if (dx < 1 || dx > LONGEST_DX || dt < 1 || dt > LONGEST_DT || jump > MOST_JUMP || dry < 1 ||
@@ -422,16 +468,16 @@ uint32_t STEP(const int32_t *now, size_t now_len, int32_t *next, size_t next_len
         return 2;
     Reach r = {n, bed, friction, dx, dt, jump, dry, left, right, left_q, right_q};
     Cell cells[MOST_CELLS];
-    if (!bed_in_order(&r))
+    if (!bed_in_order(&r, place))
         return 3;
-    if (!friction_in_order(&r))
+    if (!friction_in_order(&r, place))
         return 4;
     load(now, n, cells);
-    if (!in_range(&r, cells))
+    if (!in_range(&r, cells, place))
         return 5;
-    if (!slow_enough(&r, cells))
+    if (!slow_enough(&r, cells, place))
         return 6;
-    uint32_t refusal = both_stages(&r, cells, volumes);
+    uint32_t refusal = both_stages(&r, cells, volumes, place);
     if (refusal == 0)
         store(cells, n, next);
     return refusal;

@@ -9,13 +9,14 @@
 uint32_t plain_step(const int32_t *now, size_t now_len, int32_t *next, size_t next_len,
                     const int32_t *bed, size_t bed_len, const uint16_t *friction, size_t friction_len,
                     uint32_t dx, uint32_t dt, uint32_t jump, uint32_t dry, uint32_t left,
-                    uint32_t right, uint32_t left_q, uint32_t right_q, int64_t volumes[2]);
+                    uint32_t right, uint32_t left_q, uint32_t right_q, int64_t volumes[2],
+                    uint32_t place[1]);
 
 /* With wave speeds from the processor's own square root. */
 uint32_t plain_root_step(const int32_t *now, size_t now_len, int32_t *next, size_t next_len,
                          const int32_t *bed, size_t bed_len, const uint16_t *friction,
                          size_t friction_len, uint32_t dx, uint32_t dt, uint32_t jump, uint32_t dry,
                          uint32_t left, uint32_t right, uint32_t left_q, uint32_t right_q,
-                         int64_t volumes[2]);
+                         int64_t volumes[2], uint32_t place[1]);
 
 #endif

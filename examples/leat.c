@@ -4,8 +4,8 @@
  *     leat [--dt N] [FILE.svg]
  *
  * Each time step is a third of a cell, as bassoonsun.h advises, unless N is given, in 1/4096 s; with 500
- * a step is refused when the flood comes, and the run says why and what to change. With a file, the
- * section is also written there as a picture. The exit status is 0 when every step was accepted, every
+ * a step is refused when the flood comes: the run says why, where and what to change, and the section is drawn
+ * as it is then, with the place marked. With a file, the section is also written there as a picture. The exit status is 0 when every step was accepted, every
  * unit of water was found again and the picture, where one is asked for, was written; 1 when not; 2 when
  * the words above are not understood. */
 #include <bassoonsun.h>
@@ -51,6 +51,7 @@ typedef struct {
     int32_t before[STATE], flood[STATE]; /* for the drawing: when the flood comes, and in the midst of it */
     int64_t at_first, came_in, went_out; /* water, as depth over one cell */
     int32_t time;
+    uint32_t refusal, place; /* of a step that was refused; 0 and 0 until then */
     const uint32_t *dt; /* the time step that is asked for, or null where each is chosen by itself */
 } Leat;
 
@@ -109,20 +110,32 @@ static int64_t sum_of_depths(const Leat *leat)
     return sum;
 }
 
-/* What a refusal means and what one may do about it. */
-static const char *advice(uint32_t refusal)
+/* What a refusal means and what one may do about it; and what its place counts. */
+typedef struct {
+    const char *advice, *counts;
+} Refusal;
+
+static const Refusal refusals[] = {
+    {"no refusal", NULL},
+    {"the tables do not fit each other. Give 4n, 4n, n + 1 and n numbers, n from 1 to 1024", NULL},
+    {"dx, dt, J, the dry depth, an end's kind or its Q is out of range. See the ranges in bassoonsun.h", NULL},
+    {"the bed is out of range or odd. Round it to even numbers from 0 to 1048576", "bed value"},
+    {"the friction value is over 200. Give Manning's n in thousandths, 30 for 0.030", "cell"},
+    {"a depth or a discharge of the present state is out of range. Look for a level below the bed", "cell"},
+    {"the water is faster than 32 m/s. Start with deeper water, or let the inflow rise more slowly", "face or cell"},
+    {"the time step is too long for these cells. Shorten dt to 4096*dx/(3*S), or lengthen dx", "face"},
+    {"a depth or a discharge has grown too large. Start with less water, or bring in less", "cell"},
+};
+
+/* The refusal in words, with its place and how far that is down the leat: whatever a place counts, place cells lie
+ * before it. */
+static void say_place(FILE *out, const Leat *leat)
 {
-    static const char *const words[] = {
-        "1: the tables do not fit each other. Give 4n, 4n, n + 1 and n numbers, n from 1 to 1024",
-        "2: dx, dt, J, the dry depth, an end's kind or its Q is out of range. See the ranges in bassoonsun.h",
-        "3: a bed value is out of range or odd. Round the bed to even numbers from 0 to 1048576",
-        "4: a friction value is over 200. Give Manning's n in thousandths, 30 for 0.030",
-        "5: a depth or a discharge of the present state is out of range. Look for a level below the bed",
-        "6: the water is faster than 32 m/s. Start with deeper water, or let the inflow rise more slowly",
-        "7: the time step is too long for these cells. Shorten dt to 4096*dx/(3*S), or lengthen dx",
-        "8: a depth or a discharge has grown too large. Start with less water, or bring in less",
-    };
-    return refusal >= 1 && refusal <= 8 ? words[refusal - 1] : "a number that the library never gives";
+    const char *counts = refusals[leat->refusal].counts;
+    fprintf(out, "refused %u", (unsigned)leat->refusal);
+    if (counts != NULL)
+        fprintf(out, " at %s %u (%.1f m)", counts, (unsigned)leat->place,
+                (double)leat->place * CELL_LENGTH / METRE);
 }
 
 static int64_t speed(int64_t discharge, int64_t depth) { return depth > DRY_DEPTH ? METRE * discharge / depth : 0; }
@@ -150,17 +163,19 @@ static uint32_t stable_step(const Leat *leat)
 }
 
 /* Says what was refused and what to change; of a time step that is too long, also how long it should be. */
-static void say_refused(const Leat *leat, uint32_t refusal)
+static void say_refused(const Leat *leat)
 {
     fflush(stdout); /* so that the lines of the balance come first, in a pipe too */
-    fprintf(stderr, "leat: at %.2f s a step is refused with %s\n", (double)leat->time / SECOND, advice(refusal));
-    if (refusal == 7)
+    fprintf(stderr, "leat: at %.2f s ", (double)leat->time / SECOND);
+    say_place(stderr, leat);
+    fprintf(stderr, ": %s\n", refusals[leat->refusal].advice);
+    if (leat->refusal == 7)
         fprintf(stderr, "      S, the greatest of |u| + a, is %lld here: take --dt %u or less\n",
                 (long long)top_speed(leat), (unsigned)stable_step(leat));
 }
 
-/* One step; 0, or the refusal's number, and then the leat is as it was. */
-static uint32_t step(Leat *leat)
+/* One step. Where it is refused, its number and place are kept, and the water is as it was. */
+static void step(Leat *leat)
 {
     int64_t volumes[2];
     struct bassoonsun_call call = {
@@ -172,15 +187,14 @@ static uint32_t step(Leat *leat)
         .left_q = hydrograph(leat->time), /* another in each step */
         .right = OPEN,
     };
-    uint32_t refusal = bassoonsun_step_call(leat->now, STATE, leat->next, STATE, leat->bed, CELLS + 1, leat->friction,
-                                            CELLS, call, volumes);
-    if (refusal == 0) { /* only now do next and volumes hold anything */
+    leat->refusal = bassoonsun_step_call(leat->now, STATE, leat->next, STATE, leat->bed, CELLS + 1, leat->friction,
+                                         CELLS, call, volumes, &leat->place);
+    if (leat->refusal == 0) { /* only now do next and volumes hold anything */
         memcpy(leat->now, leat->next, sizeof leat->now);
         leat->came_in += volumes[0];
         leat->went_out += volumes[1];
         leat->time += (int32_t)call.dt;
     }
-    return refusal;
 }
 
 /* Prints the flow and the water; gives what is missing of it, which is always 0. */
@@ -195,7 +209,7 @@ static int64_t balance(const Leat *leat)
     return missing;
 }
 
-/* The sign at one place of the drawing: the bed hides what is in it. */
+/* The sign at one point of the drawing: the bed hides what is in it. */
 static char sign(const Leat *leat, int line, int i)
 {
     int before = leat->before[LEVEL + i] / LINE_HEIGHT == line, flood = leat->flood[LEVEL + i] / LINE_HEIGHT == line;
@@ -204,9 +218,19 @@ static char sign(const Leat *leat, int line, int i)
     return before && flood ? '=' : flood ? '~' : before ? '-' : ' ';
 }
 
+/* Under the drawing, the place of a refusal. */
+static void mark(const Leat *leat)
+{
+    if (refusals[leat->refusal].counts == NULL)
+        return;
+    printf("      %*s^ ", (int)leat->place, "");
+    say_place(stdout, leat);
+    putchar('\n');
+}
+
 static void draw(const Leat *leat)
 {
-    puts("\n  m  # bed   - level before   ~ level in the flood   = both");
+    printf("\n  m  # bed   - level before   ~ level %s   = both\n", leat->refusal ? "when refused" : "in the flood");
     for (int line = LINES - 1; line >= 0; line--) {
         char signs[CELLS];
         int drawn = 0; /* so many signs go as far as the last that is not blank */
@@ -216,9 +240,10 @@ static void draw(const Leat *leat)
         printf("%5.3f%s%.*s\n", (double)line * LINE_HEIGHT / METRE, drawn > 0 ? " " : "", drawn, signs);
     }
     printf("      0 m%*d m\n", CELLS - 5, CELLS * CELL_LENGTH / METRE);
+    mark(leat);
 }
 
-/* A place of the picture, 10 points to the metre along and 100 up, 2 m at the top. */
+/* A point of the picture, 10 to the metre along and 100 up, 2 m at the top. */
 static void point(FILE *out, int face, int32_t height)
 {
     fprintf(out, "%d,%.1f ", 10 * face, 200 - 100.0 * height / METRE);
@@ -239,11 +264,22 @@ static void levels(FILE *out, const int32_t *state)
 #define BEFORE "fill=\"none\" stroke=\"black\" stroke-dasharray=\"4 3\""
 #define FLOOD "fill=\"none\" stroke=\"#14609c\" stroke-width=\"1.6\""
 
-static void legend(FILE *out)
+#define REFUSED "stroke=\"#b02020\" stroke-width=\"1.6\""
+
+static void legend(FILE *out, const Leat *leat)
 {
     fputs("<rect " BED " x=\"330\" y=\"-21\" width=\"24\" height=\"10\"/><text x=\"360\" y=\"-12\">bed</text>\n"
           "<path " BEFORE " d=\"M410,-16 h24\"/><text x=\"440\" y=\"-12\">level before</text>\n"
-          "<path " FLOOD " d=\"M540,-16 h24\"/><text x=\"570\" y=\"-12\">in the flood</text>\n", out);
+          "<path " FLOOD " d=\"M540,-16 h24\"/>", out);
+    fprintf(out, "<text x=\"570\" y=\"-12\">%s</text>\n", leat->refusal ? "when refused" : "in the flood");
+}
+
+/* The place of a refusal, as a line down the picture. */
+static void mark_picture(FILE *out, const Leat *leat)
+{
+    if (refusals[leat->refusal].counts == NULL)
+        return;
+    fprintf(out, "<path " REFUSED " d=\"M%u,0 v200\"/>\n", 10 * (unsigned)leat->place);
 }
 
 /* The scale of heights, with a line at each half metre. */
@@ -255,7 +291,7 @@ static void heights(FILE *out)
 }
 
 /* The scale along the leat. */
-static void places(FILE *out)
+static void distances(FILE *out)
 {
     for (int m = 0; m <= CELLS * CELL_LENGTH / METRE; m += 8)
         fprintf(out, "<text x=\"%d\" y=\"216\" text-anchor=\"middle\">%d m</text>\n", 10 * m, m);
@@ -287,23 +323,36 @@ static int write_svg(const Leat *leat, const char *path)
     fprintf(out, "<svg xmlns=\"http://www.w3.org/2000/svg\" viewBox=\"-50 -30 %d 255\" ", 10 * CELLS + 70);
     fputs("font-family=\"sans-serif\" font-size=\"11\">\n", out);
     fprintf(out, "<rect x=\"-50\" y=\"-30\" width=\"%d\" height=\"255\" fill=\"white\"/>\n", 10 * CELLS + 70);
-    fprintf(out, "<text x=\"0\" y=\"-12\">A flood comes down a leat: before it and %d s later</text>\n",
-            (DRAWN - FLOOD_COMES) / SECOND);
-    legend(out);
+    fputs("<text x=\"0\" y=\"-12\">A flood comes down a leat: ", out);
+    if (leat->refusal != 0)
+        say_place(out, leat);
+    else
+        fprintf(out, "before it and %d s later", (DRAWN - FLOOD_COMES) / SECOND);
+    fputs("</text>\n", out);
+    legend(out, leat);
     section(out, leat);
-    places(out);
+    distances(out);
+    mark_picture(out, leat);
     fputs("</svg>\n", out);
     int failed = ferror(out);
     return fclose(out) != 0 || failed;
+}
+
+/* What is drawn after a refusal: the water as it is, beside that before the flood where this has come. */
+static void keep_refused(Leat *leat)
+{
+    memcpy(leat->flood, leat->now, sizeof leat->flood);
+    if (leat->time < FLOOD_COMES)
+        memcpy(leat->before, leat->now, sizeof leat->before);
 }
 
 /* Steps on to a time, or just past it; gives 0 when no step was refused. */
 static int run_until(Leat *leat, int32_t time)
 {
     while (leat->time < time) {
-        uint32_t refusal = step(leat);
-        if (refusal != 0)
-            return say_refused(leat, refusal), 1;
+        step(leat);
+        if (leat->refusal != 0)
+            return say_refused(leat), keep_refused(leat), 1;
     }
     return 0;
 }
@@ -362,10 +411,9 @@ int main(int argc, char **argv)
         else
             picture = argv[i];
     fill(&leat);
-    if (run(&leat) != 0)
-        return 1;
+    int failed = run(&leat);
     draw(&leat);
     if (picture != NULL && write_svg(&leat, picture) != 0)
         return fprintf(stderr, "leat: %s could not be written\n", picture), 1;
-    return 0;
+    return failed;
 }

@@ -15,7 +15,7 @@
  * WHAT THE CALLER SEES TO. The contracts are proved; these few things C leaves to the caller:
  * - every pointer is non-null and aligned for its type, also where the length is 0;
  * - a length counts elements, not bytes, and at least so many elements are there;
- * - a table that is written (next, volumes, flux, root) overlaps no other table of the call.
+ * - a table that is written (next, volumes, place, flux, root) overlaps no other table of the call.
  *   now, bed and friction are only read;
  * - the processor's floating point is as a program finds it: rounding to nearest, and tiny
  *   numbers not flushed to 0. Only bassoonsun_face_double and bassoonsun_root depend on it.
@@ -68,29 +68,38 @@ extern "C" {
  *             kind 2 it is known before the step: volumes[0] is left_q*dt/dx, volumes[1] is
  *             -(right_q*dt/dx), both without their fractions. What is cut off does not come in: to
  *             lose little, choose dt so that Q*dt is a multiple of dx or just above one
+ *   place     where a refused step was refused: see below. It is written by every call, with 0 when
+ *             the step is accepted
  *
  * When 0 is given, all of next and both volumes are written, and the sum of the n mean depths of
  * next is that of now + volumes[0] - volumes[1], exactly. (The mean depth of a cell is the mean
  * of its level less half the sum of the bed at its two faces.)
  *
  * After a refusal next and volumes hold what they held before. The checks are made in this order,
- * each over the whole reach, and the first that applies is given:
+ * each over the whole reach, and the first that applies is given; place is the lowest bed value, cell
+ * or face to which it applies, counted from 0:
  *
  *   1  the tables do not fit each other: friction_len is 0 or over 1024, or now_len or next_len is
- *      not 4n, or bed_len is not n + 1
+ *      not 4n, or bed_len is not n + 1. Place 0
  *   2  dx, dt, jump, dry, left, right, left_q or right_q is outside its range, or a Q is not 0 at
- *      an end of another kind than 2
- *   3  a bed value is out of range or odd
- *   4  a friction value is over 200
- *   5  the present state has a face depth or a face discharge out of range
+ *      an end of another kind than 2. Place 0
+ *   3  a bed value is out of range or odd. Place: the bed value, 0 to n
+ *   4  a friction value is over 200. Place: its cell, 0 to n - 1
+ *   5  the present state has a face depth or a face discharge out of range. Place: the cell
  *   6  the water is faster than 32 m/s: in a cell before friction, at a face, or at a Gauss point;
- *      or Q is, at the depth of its end face, where that is over the dry depth
+ *      or Q is, at the depth of its end face, where that is over the dry depth. Place: before
+ *      friction the cell, then the face, 0 to n, on either side of which the water is too fast (face
+ *      0 or n for a Q), then the cell of the Gauss point
  *   7  the time step is too long for the top speed S at some face: 2*dt*S is over 4096*dx. Halve
- *      dt, say, and make the same call again
+ *      dt, say, and make the same call again. Place: the face
  *   8  after stage one, or at the end, a depth or a discharge is too large. It is never a depth
- *      below nought
+ *      below nought. Place: the cell
  *
- * 6 (at faces and Gauss points), 7 and 8 are made for stage one and then again for stage two. A
+ * Bed value i and face i lie i*dx from the left end, and cell i begins there; so place*dx is where to
+ * look, also for a 6, whose place may be a face or a cell.
+ *
+ * 6 (at faces and Gauss points), 7 and 8 are made for stage one and then again for stage two, each of
+ * them a check with a place of its own. A
  * dam break onto dry ground soon comes to a 6 or a 7, unless the dry depth takes the speed from its
  * thin front: over cells of 10 m with a Manning value of 0.030 and a dt of 0.3 s, 0.3 m of water ran
  * with 16 and not with 4, 1 m with 64 and not with 16, 3 m with none. A wave over a wet bed runs
@@ -120,7 +129,7 @@ uint32_t bassoonsun_step(const int32_t *now, size_t now_len, int32_t *next, size
                          const int32_t *bed, size_t bed_len, const uint16_t *friction,
                          size_t friction_len, uint32_t dx, uint32_t dt, uint32_t jump, uint32_t dry,
                          uint32_t left, uint32_t right, uint32_t left_q, uint32_t right_q,
-                         int64_t volumes[2]);
+                         int64_t volumes[2], uint32_t place[1]);
 
 /* The numbers of one step, to be filled by name, since in a row they are easily exchanged:
  *
@@ -137,10 +146,10 @@ struct bassoonsun_call {
 static inline uint32_t bassoonsun_step_call(const int32_t *now, size_t now_len, int32_t *next, size_t next_len,
                                             const int32_t *bed, size_t bed_len, const uint16_t *friction,
                                             size_t friction_len, struct bassoonsun_call call,
-                                            int64_t volumes[2])
+                                            int64_t volumes[2], uint32_t place[1])
 {
     return bassoonsun_step(now, now_len, next, next_len, bed, bed_len, friction, friction_len, call.dx, call.dt,
-                           call.jump, call.dry, call.left, call.right, call.left_q, call.right_q, volumes);
+                           call.jump, call.dry, call.left, call.right, call.left_q, call.right_q, volumes, place);
 }
 
 /* What crosses one face between water of depth hl and speed ul on its left and of depth hr and

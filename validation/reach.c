@@ -71,13 +71,13 @@ static void write_state(const Reach *reach)
     putchar('\n');
 }
 
-/* Gives 0, or the number of the refusal, and then the reach is as it was. */
-static uint32_t step(Reach *reach)
+/* Gives 0, or the number of the refusal and its place, and then the reach is as it was. */
+static uint32_t step(Reach *reach, uint32_t place[1])
 {
     size_t n = reach->cells;
     int64_t volumes[2];
     uint32_t refusal = bassoonsun_step_call(reach->now, 4 * n, reach->next, 4 * n, reach->bed, n + 1,
-                                            reach->friction, n, reach->call, volumes);
+                                            reach->friction, n, reach->call, volumes, place);
     if (refusal != 0)
         return refusal;
     memcpy(reach->now, reach->next, 4 * n * sizeof reach->now[0]);
@@ -97,9 +97,9 @@ int main(int argc, char **argv)
     write_state(&reach);
     for (long k = 1; k <= steps; k++) {
         read_inflows(&reach.call);
-        uint32_t refusal = step(&reach);
+        uint32_t place[1], refusal = step(&reach, place);
         if (refusal != 0)
-            return fprintf(stderr, "reach: step %ld is refused with %" PRIu32 "\n", k, refusal), 1;
+            return fprintf(stderr, "reach: step %ld is refused with %" PRIu32 " at %" PRIu32 "\n", k, refusal, place[0]), 1;
         if (k % every == 0)
             write_state(&reach);
     }

@@ -1,10 +1,10 @@
 /* Calls the library with every table at the very end of its pages, and again at the very start,
  * with pages behind and before them that may not be touched: a read or a write one element off
  * would end this program. The tables that are only read lie in pages that cannot be written.
- * Checks the answer, that a refused call leaves next and volumes as they were, and that an
- * accepted one keeps the water and takes in what is given at an end of kind 2. Every step is made
- * with its numbers in a row and again with them filled by name. The last line is
- * 'N passed, M failed'. */
+ * Checks the answer and its place, that a refused call leaves next and volumes as they were, and that
+ * an accepted one keeps the water and takes in what is given at an end of kind 2. Every step is made
+ * with its numbers in a row and again with them filled by name, and each with what is particular in
+ * it at one spot: the first index, the middle one, the last. The last line is 'N passed, M failed'. */
 #define _DEFAULT_SOURCE
 #include "fence.h"
 #include <bassoonsun.h>
@@ -22,30 +22,38 @@ static void check(int good, const char *what, size_t n, int at_end)
         failed++, printf("failed: %s, n %zu, tables at the %s\n", what, n, at_end ? "end" : "start");
 }
 
+/* The place that is due: 0, which a refusal of no index and an accepted call have too, the bed value or the cell of the
+ * spot, that cell's right face, or face n. A cell's left face has its index. */
+enum place { AT_0, AT_BED, AT_CELL, AT_RIGHT_FACE, AT_N };
+
 /* A call to be made: what differs from a good call on n cells, and the answer that is due. */
 typedef struct {
     const char *what;
     uint32_t due;
+    enum place place;
     int now_more, next_more, bed_more;      /* elements over what fits n */
     uint32_t dx, dt, jump, dry, left, right, left_q, right_q;
-    int32_t last_bed;                       /* the last face's bed, */
-    uint16_t last_friction;                 /* the last cell's friction, */
-    int32_t last_level, last_discharge;     /* means */
-    int32_t last_level_slope, last_discharge_slope;
+    int32_t spot_bed;                       /* of one face, */
+    uint16_t spot_friction;                 /* of one cell, */
+    int32_t spot_level, spot_discharge;     /* means */
+    int32_t spot_level_slope, spot_discharge_slope;
 } Call;
 
+enum { FIRST, MIDDLE, LAST, SPOTS };
+
 typedef struct {
-    Fenced now, next, bed, friction, volumes;
+    Fenced now, next, bed, friction, volumes, place;
     size_t now_len, next_len, bed_len, n;
+    size_t spot_cell, spot_face;
 } Lent;
 
-/* Number i of a state of n cells: level means, level slopes, discharge means, discharge slopes. */
-static int32_t number(size_t i, size_t n, const Call *c)
+/* Number i of a state: level means, level slopes, discharge means, discharge slopes. */
+static int32_t number(size_t i, const Lent *t, const Call *c)
 {
-    const int32_t last[] = {c->last_level, c->last_level_slope, c->last_discharge, c->last_discharge_slope};
-    size_t column = i / n, cell = i % n;
-    if (column < 4 && cell + 1 == n)
-        return last[column];
+    const int32_t spot[] = {c->spot_level, c->spot_level_slope, c->spot_discharge, c->spot_discharge_slope};
+    size_t column = i / t->n, cell = i % t->n;
+    if (column < 4 && cell == t->spot_cell)
+        return spot[column];
     return column > 0 ? 0 : cell < 4 ? 3 * METRE / 2 : 5 * METRE / 4;
 }
 
@@ -55,26 +63,35 @@ static void fill(const Lent *t, const Call *c)
     int32_t *now = t->now.first, *next = t->next.first, *bed = t->bed.first;
     uint16_t *friction = t->friction.first;
     int64_t *volumes = t->volumes.first;
+    uint32_t *place = t->place.first;
     for (size_t i = 0; i < t->bed_len; i++)
-        bed[i] = i == t->n ? c->last_bed : (int32_t)(i % 8) * 64;
+        bed[i] = i == t->spot_face ? c->spot_bed : (int32_t)(i % 8) * 64;
     for (size_t i = 0; i < t->now_len; i++)
-        now[i] = number(i, t->n, c);
+        now[i] = number(i, t, c);
     for (size_t i = 0; i < t->n; i++)
-        friction[i] = i + 1 == t->n ? c->last_friction : 30;
+        friction[i] = i == t->spot_cell ? c->spot_friction : 30;
     for (size_t i = 0; i < t->next_len; i++)
         next[i] = MARK;
     volumes[0] = volumes[1] = MARK;
+    place[0] = (uint32_t)MARK;
 }
 
-static Lent lend(const Call *c, size_t n, int at_end)
+/* Of so many indices the first, the middle one or the last. */
+static size_t spot_of(size_t count, int spot)
 {
-    Lent t = {.n = n};
+    return count == 0 || spot == FIRST ? 0 : spot == MIDDLE ? count / 2 : count - 1;
+}
+
+static Lent lend(const Call *c, size_t n, int spot, int at_end)
+{
+    Lent t = {.n = n, .spot_cell = spot_of(n, spot), .spot_face = spot_of(n + 1, spot)};
     t.now_len = 4 * n + c->now_more, t.next_len = 4 * n + c->next_more, t.bed_len = n + 1 + c->bed_more;
     t.now = fence(t.now_len * sizeof(int32_t), at_end);
     t.next = fence(t.next_len * sizeof(int32_t), at_end);
     t.bed = fence(t.bed_len * sizeof(int32_t), at_end);
     t.friction = fence(n * sizeof(uint16_t), at_end);
     t.volumes = fence(2 * sizeof(int64_t), at_end);
+    t.place = fence(sizeof(uint32_t), at_end);
     fill(&t, c);
     only_read(t.now);
     only_read(t.bed);
@@ -117,25 +134,41 @@ static uint32_t make_step(const Lent *t, const Call *c, int by_name)
                                    .right = c->right, .left_q = c->left_q, .right_q = c->right_q};
     if (by_name)
         return bassoonsun_step_call(t->now.first, t->now_len, t->next.first, t->next_len, t->bed.first, t->bed_len,
-                                    t->friction.first, t->n, call, t->volumes.first);
+                                    t->friction.first, t->n, call, t->volumes.first, t->place.first);
     return bassoonsun_step(t->now.first, t->now_len, t->next.first, t->next_len, t->bed.first, t->bed_len,
                            t->friction.first, t->n, c->dx, c->dt, c->jump, c->dry, c->left, c->right,
-                           c->left_q, c->right_q, t->volumes.first);
+                           c->left_q, c->right_q, t->volumes.first, t->place.first);
+}
+
+/* The place is written in every call, so that one which still holds its mark is wrong. */
+static int placed(const Lent *t, const Call *c)
+{
+    const size_t due[] = {[AT_0] = 0, [AT_BED] = t->spot_face, [AT_CELL] = t->spot_cell,
+                          [AT_RIGHT_FACE] = t->spot_cell + 1, [AT_N] = t->n};
+    const uint32_t *place = t->place.first;
+    return place[0] == due[c->place];
+}
+
+static void try_call_at(const Call *c, size_t n, int spot, int at_end)
+{
+    for (int by_name = 0; by_name <= 1; by_name++) {
+        Lent t = lend(c, n, spot, at_end);
+        uint32_t given = make_step(&t, c, by_name);
+        check(given == c->due, c->what, n, at_end);
+        check(placed(&t, c), c->what, n, at_end);
+        check(given == 0 ? keeps_water(&t) && takes_in(&t, c) : untouched(&t), c->what, n, at_end);
+        unfence(t.now), unfence(t.next), unfence(t.bed), unfence(t.friction), unfence(t.volumes), unfence(t.place);
+    }
 }
 
 static void try_call(const Call *c, size_t n, int at_end)
 {
-    for (int by_name = 0; by_name <= 1; by_name++) {
-        Lent t = lend(c, n, at_end);
-        uint32_t given = make_step(&t, c, by_name);
-        check(given == c->due, c->what, n, at_end);
-        check(given == 0 ? keeps_water(&t) && takes_in(&t, c) : untouched(&t), c->what, n, at_end);
-        unfence(t.now), unfence(t.next), unfence(t.bed), unfence(t.friction), unfence(t.volumes);
-    }
+    for (int spot = FIRST; spot < SPOTS; spot++)
+        try_call_at(c, n, spot, at_end);
 }
 
 #define GOOD .dx = DX, .dt = DT, .jump = 64, .dry = DRY, .left = 0, .right = 1, \
-             .last_bed = 128, .last_friction = 30, .last_level = 5 * METRE / 4
+             .spot_bed = 128, .spot_friction = 30, .spot_level = 5 * METRE / 4
 
 /* A later member of a list takes the place of the same one in GOOD; that is meant here. */
 #pragma GCC diagnostic ignored "-Woverride-init"
@@ -170,21 +203,30 @@ static const Call calls[] = {
     {GOOD, .what = "right Q 4294967295", .due = 2, .right = 2, .right_q = UINT32_MAX},
     {GOOD, .what = "a Q at a wall", .due = 2, .left_q = 1},
     {GOOD, .what = "a Q at an open end", .due = 2, .right_q = 1},
-    {GOOD, .what = "odd bed", .due = 3, .last_bed = 127},
-    {GOOD, .what = "bed below nought", .due = 3, .last_bed = -2},
-    {GOOD, .what = "bed too high", .due = 3, .last_bed = 1048578},
-    {GOOD, .what = "friction 201", .due = 4, .last_friction = 201},
-    {GOOD, .what = "level below the bed", .due = 5, .last_level = -1},
-    {GOOD, .what = "level too high", .due = 5, .last_level = 300000},
-    {GOOD, .what = "level too steep", .due = 5, .last_level_slope = 2 * METRE},
-    {GOOD, .what = "discharge too large", .due = 5, .last_discharge = 8388609},
-    {GOOD, .what = "discharge too steep", .due = 5, .last_discharge_slope = 8388609},
-    {GOOD, .what = "water too fast", .due = 6, .last_discharge = 8388608},
-    {GOOD, .what = "water too fast at a face", .due = 6, .last_discharge_slope = 8388608},
-    {GOOD, .what = "left inflow too fast", .due = 6, .left = 2, .left_q = 8388608},
-    {GOOD, .what = "right inflow too fast", .due = 6, .right = 2, .right_q = 8388608},
-    {GOOD, .what = "time step too long", .due = 7, .dt = 4096},
-    {GOOD, .what = "time step too long for the inflow", .due = 7, .left = 2, .left_q = 100000},
+    {GOOD, .what = "odd bed", .due = 3, .place = AT_BED, .spot_bed = 127},
+    {GOOD, .what = "bed below nought", .due = 3, .place = AT_BED, .spot_bed = -2},
+    {GOOD, .what = "bed too high", .due = 3, .place = AT_BED, .spot_bed = 1048578},
+    {GOOD, .what = "friction 201", .due = 4, .place = AT_CELL, .spot_friction = 201},
+    {GOOD, .what = "level below the bed", .due = 5, .place = AT_CELL, .spot_level = -1},
+    {GOOD, .what = "level too high", .due = 5, .place = AT_CELL, .spot_level = 300000},
+    {GOOD, .what = "level too steep", .due = 5, .place = AT_CELL, .spot_level_slope = 2 * METRE},
+    {GOOD, .what = "discharge too large", .due = 5, .place = AT_CELL, .spot_discharge = 8388609},
+    {GOOD, .what = "discharge too steep", .due = 5, .place = AT_CELL, .spot_discharge_slope = 8388609},
+    {GOOD, .what = "water too fast", .due = 6, .place = AT_CELL, .spot_discharge = 8388608},
+    {GOOD, .what = "water too fast at both faces", .due = 6, .place = AT_CELL, .spot_discharge_slope = 8388608},
+    {GOOD, .what = "water too fast at the left face", .due = 6, .place = AT_CELL,
+     .spot_discharge = -80000, .spot_discharge_slope = 90000},
+    {GOOD, .what = "water too fast at the right face", .due = 6, .place = AT_RIGHT_FACE,
+     .spot_discharge = 80000, .spot_discharge_slope = 90000},
+    {GOOD, .what = "left inflow too fast", .due = 6, .place = AT_0, .left = 2, .left_q = 8388608},
+    {GOOD, .what = "right inflow too fast", .due = 6, .place = AT_N, .right = 2, .right_q = 8388608},
+    {GOOD, .what = "left inflow and water too fast", .due = 6, .place = AT_0, .left = 2, .left_q = 8388608,
+     .spot_discharge_slope = 8388608},
+    {GOOD, .what = "right inflow and water too fast", .due = 6, .place = AT_CELL, .right = 2, .right_q = 8388608,
+     .spot_discharge_slope = 8388608},
+    {GOOD, .what = "time step too long", .due = 7, .place = AT_0, .dt = 4096},
+    {GOOD, .what = "time step too long for the left inflow", .due = 7, .place = AT_0, .left = 2, .left_q = 100000},
+    {GOOD, .what = "time step too long for the right inflow", .due = 7, .place = AT_N, .right = 2, .right_q = 100000},
 };
 
 /* The faces and the root. Their tables are fenced too, and change only where 0 is given. */

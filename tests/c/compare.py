@@ -5,9 +5,10 @@
 makes so many random calls of each kind from the seed.  COMMAND is serve, with an emulator before
 it where one is needed.  Every call is made twice, with its tables at the end of their pages and at
 their start, and everything that comes back is compared: the answer, and each table that the call
-may write, which after a refusal must hold serve's marks.
+may write, which after a refusal must hold serve's marks, but for the place of a step.  That is
+written in every call, 0 where it is accepted.
 
-A kind of call with a place of its tables is one case.  Each way a call can be answered is one more,
+A kind of call with its tables at one edge is one case.  Each way a call can be answered is one more,
 passed where it came often enough: calls that never reach a check do not test it.  The last line is
 'N passed, M failed'; the exit status is 1 when something failed.
 """
@@ -26,10 +27,11 @@ import before
 import double_faces
 import hard
 import model as m
+import places
 import roots
 
 MARK = b"\xa5"          # serve's, in every byte that a call may write
-PLACES = ("end", "start")
+EDGES = ("end", "start")
 BLOCK = 2000            # calls at a time, so that memory does not grow with their number
 SHOWN = 3               # wrong calls shown of a block
 
@@ -80,11 +82,18 @@ LONG = {m.MOST_CELLS: ", longest reach", SHORT: ", 64 cells", SHORT + 1: ", 65 c
 
 
 def worked(call):
-    """The model's number, then what it worked, or the check that refused the call."""
+    """The model's number, then what it worked, or the check that refused the call and its place."""
     try:
         return 0, m.worked(*call)
     except m.Refused as r:
-        return r.number, r.check
+        return r.number, (r.check, r.place)
+
+
+def otherwise(call, found):
+    """Whether `worked` gives another now, in more than the place."""
+    def bare(number, given):
+        return (number, given[0]) if number else (number, given)
+    return bare(*worked(call)) != bare(*found)
 
 
 def worked_and_decided(call):
@@ -101,7 +110,7 @@ def worked_and_decided(call):
     if not any(sparing):        # no marked cell was spared: the same before E2, and not worked again
         return found, False
     with before.E2():
-        return found, worked(call) != found
+        return found, otherwise(call, found)
 
 
 def decided_by_e3(call, found):
@@ -109,7 +118,7 @@ def decided_by_e3(call, found):
     if call[7] == before.FIXED_DRY:
         return False
     with before.E3():
-        return worked(call) != found
+        return otherwise(call, found)
 
 
 def decided_by_e4(call, found):
@@ -117,7 +126,7 @@ def decided_by_e4(call, found):
     if m.INFLOW not in call[8:10] and call[10:] == (0, 0):
         return False
     with before.E4():
-        return worked(call) != found
+        return otherwise(call, found)
 
 
 def decided_by_e7(call, found):
@@ -125,7 +134,7 @@ def decided_by_e7(call, found):
     if len(call[3]) == 1:       # the columns of one cell are the cell
         return False
     with before.E7():
-        return worked(call) != found
+        return otherwise(call, found)
 
 
 def dry_way(dry, number, decided):
@@ -169,12 +178,12 @@ def inflow_ways(call):
                 yield "accepted, slow inflow"
 
 
-def end_ways(call, number, given):
+def end_ways(call, number, way):
     """How a call was answered with its kinds of end and Qs."""
     left, right = call[8:10]
     one = ", one cell" if len(call[3]) == 1 else ""
     if m.INFLOW in (left, right):
-        yield "with an inflow, %s" % ("%d %s" % (number, given) if number else "accepted")
+        yield "with an inflow, %s" % way
     if number == 0:
         yield "accepted, ends %d %d" % (left, right)
         yield "accepted, ends %d %d%s" % (left, right, one)
@@ -185,18 +194,51 @@ def end_ways(call, number, given):
         yield "8 stage one, more comes in than 32 bits hold"
 
 
+def face_ways(met, call):
+    """What the lowest face that is too fast was chosen from, in the stage that refuses."""
+    reach, place = m.Call(len(call[3]), *call[2:]), min(met.indices)
+    lefts, rights = places.fast_left_sides(met.cells, reach), places.fast_right_sides(met.cells, reach)
+    inflows, points = places.fast_inflows(met.cells, reach), places.fast_points(met.cells, reach)
+    if place in lefts - rights:
+        yield "by a left side alone"
+    if place in rights - lefts:
+        yield "by a right side alone"
+    if 0 in inflows and (lefts | rights) - {0}:
+        yield "left inflow, and a side elsewhere"
+    if place < reach.n and reach.n in inflows:
+        yield "right inflow, and a lower face"
+    if points and min(points) < place:
+        yield "above a Gauss point"
+
+
+def place_ways(call, way, check, place):
+    """Where a call was refused, and what the place was chosen from."""
+    position, met = places.position(check, place, len(call[3])), places.met(call)
+    if position:
+        yield "%s, %s index" % (way, position)
+    if len(met.indices) > 1:
+        yield "%s, lowest of several" % way
+    if place > 255:
+        yield "a place beyond a byte"
+    if met.name.startswith("face speed"):
+        yield from ("6 %s, %s" % (met.name, way) for way in face_ways(met, call))
+
+
 def step_due(call):
     next_len, friction, dry = call[1], call[3], call[7]
     (number, given), by_e2 = worked_and_decided(call)
     by_e3, by_e4, by_e7 = (decided(call, (number, given)) for decided in (decided_by_e3, decided_by_e4, decided_by_e7))
     size = ", long tables" if len(friction) > SHORT else ""
-    also = [way for way in (by_e2 and "decided by E2" + size, by_e3 and "decided by E3" + size, by_e4 and "decided by E4" + size,
-                            by_e7 and "decided by E7" + size, dry_way(dry, number, by_e3),
-                            *set(end_ways(call, number, given))) if way]
+    check, place = given if number else (None, 0)
+    way = "%d %s" % (number, check) if number else "accepted"
+    also = [each for each in (by_e2 and "decided by E2" + size, by_e3 and "decided by E3" + size, by_e4 and "decided by E4" + size,
+                              by_e7 and "decided by E7" + size, dry_way(dry, number, by_e3), *set(end_ways(call, number, way))) if each]
+    if number > 2:
+        also += place_ways(call, way, check, place)
     if number:
-        return Due(number, "%d %s" % (number, given), MARK * (4 * next_len + 16), also)
+        return Due(number, way, table("I", [place]) + MARK * (4 * next_len + 16), also)
     state, left, right = given
-    return Due(0, "accepted" + LONG.get(len(friction), ""), table("i", state) + table("q", (left, right)), also)
+    return Due(0, way + LONG.get(len(friction), ""), table("I", [place]) + table("i", state) + table("q", (left, right)), also)
 
 
 # Each check, and once in how many calls it must refuse one.
@@ -207,11 +249,33 @@ CHECKS = {
     "6 face speed, stage 2": 100, "6 inflow speed, stage 2": 150, "6 inner-point speed, stage 2": 200,
     "7 faces, stage 2": 50, "8 end state": 1000,
 }
+
+# Once in how many calls each must refuse at the first index, at a middle one, at the last, and at the lowest of several.
+# An inflow is at an end.
+INDEX_WAYS = ("first index", "middle index", "last index", "lowest of several")
+PLACES = {
+    "3 bed": (300, 1000, 500, 600), "4 friction": (500, 1200, 800, 1200), "5 present state": (600, 1500, 800, 1200),
+    "6 friction speed": (500, 150, 600, 500), "6 face speed, stage 1": (500, 150, 800, 800),
+    "6 inflow speed, stage 1": (100, None, 100, 1000), "6 inner-point speed, stage 1": (1200, 1000, 1700, 5000),
+    "7 faces, stage 1": (100, 100, 300, 100), "8 stage one": (50, 100, 100, 50),
+    "6 face speed, stage 2": (150, 100, 300, 100), "6 inflow speed, stage 2": (200, None, 250, 1700),
+    "6 inner-point speed, stage 2": (400, 1000, 500, 600),
+    "7 faces, stage 2": (60, 150, 100, 100), "8 end state": (1000, 2500, 1200, 2500),
+}
+FACES = {
+    "6 face speed, stage 1, by a left side alone": 200, "6 face speed, stage 2, by a left side alone": 100,
+    "6 face speed, stage 1, by a right side alone": 200, "6 face speed, stage 2, by a right side alone": 150,
+    "6 face speed, stage 1, above a Gauss point": 500, "6 face speed, stage 2, above a Gauss point": 150,
+    "6 face speed, stage 1, left inflow, and a side elsewhere": 1700, "6 face speed, stage 2, left inflow, and a side elsewhere": 5000,
+    "6 face speed, stage 1, right inflow, and a lower face": 800, "6 face speed, stage 2, right inflow, and a lower face": 1700,
+}
 PAIRS = ["accepted, ends %d %d" % pair for pair in itertools.product((m.WALL, m.OPEN, m.INFLOW), repeat=2)]
 
 STEP_WAYS = {
     "accepted": 4, "accepted, longest reach": 5000, "accepted, 64 cells": 1000, "accepted, 65 cells": 1000,
     **CHECKS,
+    **{"%s, %s" % (check, way): share for check, shares in PLACES.items() for way, share in zip(INDEX_WAYS, shares) if share},
+    **FACES, "a place beyond a byte": 1000,
     "decided by E2": 50, "decided by E2, long tables": 2500,
     "decided by E3": 25, "decided by E3, long tables": 2500,
     "decided by E4": 4, "decided by E4, long tables": 500,
@@ -316,7 +380,7 @@ def blocks(calls):
 
 
 def differing(due, given):
-    """The place and the answer of each call whose answer or tables are not what is due."""
+    """The index and the answer of each call whose answer or tables are not what is due."""
     at = 0
     for k, d in enumerate(due):
         wanted = table("I", [d.answer]) + d.tables
@@ -328,20 +392,20 @@ def differing(due, given):
         yield len(due) - 1, given[at:]
 
 
-def show(kind, place, number, call, due, found):
+def show(kind, edge, number, call, due, found):
     answer = struct.unpack("<I", found[:4])[0] if len(found) >= 4 else "none"
     right = len(os.path.commonprefix([found[4:], due.tables]))
     print("wrong: %s %d, tables at the %s: answer %d due, %s given; of the %d bytes it may write the first %d are right; "
-          "asked %s" % (kind.name, number, place, due.answer, answer, len(due.tables), right, str(call)[:400]))
+          "asked %s" % (kind.name, number, edge, due.answer, answer, len(due.tables), right, str(call)[:400]))
 
 
-def wrong_calls(kind, place, first, block, due, command):
+def wrong_calls(kind, edge, first, block, due, command):
     """How many calls of the block were answered wrongly; a serve that fails is one more."""
     asked = b"".join(map(kind.asked, block))
-    ran = subprocess.run(command + [kind.name, place], input=asked, stdout=subprocess.PIPE)
+    ran = subprocess.run(command + [kind.name, edge], input=asked, stdout=subprocess.PIPE)
     wrong = list(differing(due, ran.stdout))
     for k, found in wrong[:SHOWN]:
-        show(kind, place, first + k, block[k], due[k], found)
+        show(kind, edge, first + k, block[k], due[k], found)
     if ran.returncode != 0:
         print("wrong: %s ended with %d in calls %d to %d" % (kind.name, ran.returncode, first, first + len(block) - 1))
     return len(wrong) + (ran.returncode != 0)
@@ -353,13 +417,13 @@ def compare(kind, seed, count, command):
         due = [kind.due(call) for call in block]
         answers.update(d.answer for d in due)
         ways.update(way for d in due for way in (d.way, *d.also))
-        for place in PLACES:
-            wrong[place] += wrong_calls(kind, place, first, block, due, command)
+        for edge in EDGES:
+            wrong[edge] += wrong_calls(kind, edge, first, block, due, command)
         first += len(block)
     spread = ", ".join("%d: %d" % pair for pair in sorted(answers.items()))
-    for place in PLACES:
-        case(first == count and wrong[place] == 0, "%s, tables at the %s: %d calls, %d wrong; answers %s"
-             % (kind.name, place, first, wrong[place], spread))
+    for edge in EDGES:
+        case(first == count and wrong[edge] == 0, "%s, tables at the %s: %d calls, %d wrong; answers %s"
+             % (kind.name, edge, first, wrong[edge], spread))
     for way, share in kind.ways.items():
         least = max(1, count // share)
         case(ways[way] >= least, "%s, %s: %d calls, at least %d wanted" % (kind.name, way, ways[way], least))

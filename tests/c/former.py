@@ -5,8 +5,9 @@
 COMMAND is serve, with an emulator before it where one is needed.  The calls of the programs answers
 and steps are made again, one at a time, as steps draws the next by the answer.  What comes back in
 `next` is exchanged into cells, and the lines of both programs are written from it: they must be those
-of tests/former, byte for byte.  Cases that are new since have no line there and are left out.  A
-refused call must leave serve's marks in next and volumes.
+of tests/former, byte for byte.  Cases that are new since have no line there and are left out, and
+so is the place of a refusal, which had none.  A refused call must leave serve's marks in next and
+volumes.
 
 The last line is 'N passed, M failed'; the exit status is 1 when something failed.
 """
@@ -43,7 +44,7 @@ class Serve:
         next_len, n = call[1], len(call[3])
         self.program.stdin.write(step_asked(call))
         self.program.stdin.flush()
-        number = struct.unpack("<I", self.taken(4))[0]
+        number, _ = struct.unpack("<2I", self.taken(8))      # a place came with E13, later
         tables = self.taken(4 * next_len + 16)
         if number:
             self.refused += 1

@@ -11,15 +11,15 @@
  *   root    is one double
  *
  * and its answer is the library's own number as u32, then every table that the call may write:
- * next and volumes, the flux, or the root. They are filled with MARK before the call, so that the
- * answer shows what was written and what was not. Every table lies at the end of its pages or at
+ * place, next and volumes, the flux, or the root. They are filled with MARK before the call, so that
+ * the answer shows what was written and what was not. Every table lies at the end of its pages or at
  * their start, as the second argument says. */
 #define _DEFAULT_SOURCE
 #include "fence.h"
 #include <bassoonsun.h>
 #include <string.h>
 
-/* As a number of next, 0xA5A5A5A5 is far outside what a state may hold: no step writes it. */
+/* As a number of next, 0xA5A5A5A5 is far outside what a state may hold, and as a place, any reach: no step writes it. */
 enum { MARK = 0xA5 };
 
 /* Reads so many bytes; gives 0 where the calls have come to their end. */
@@ -74,15 +74,17 @@ static void serve_steps(int at_end)
         Fenced friction = lent(c.friction_len * sizeof(uint16_t), at_end);
         Fenced next = marked(c.next_len * sizeof(int32_t), at_end);
         Fenced volumes = marked(2 * sizeof(int64_t), at_end);
+        Fenced place = marked(sizeof(uint32_t), at_end);
         uint32_t answer = bassoonsun_step(now.first, c.now_len, next.first, c.next_len,
                                           bed.first, c.bed_len, friction.first, c.friction_len,
                                           c.dx, c.dt, c.jump, c.dry, c.left, c.right, c.left_q, c.right_q,
-                                          volumes.first);
+                                          volumes.first, place.first);
         give(&answer, sizeof answer);
+        give(place.first, sizeof(uint32_t));
         give(next.first, c.next_len * sizeof(int32_t));
         give(volumes.first, 2 * sizeof(int64_t));
         fflush(stdout);      /* so that the first call without an answer is the one that faulted */
-        unfence(now), unfence(bed), unfence(friction), unfence(next), unfence(volumes);
+        unfence(now), unfence(bed), unfence(friction), unfence(next), unfence(volumes), unfence(place);
     }
 }
 

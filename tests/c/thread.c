@@ -15,6 +15,7 @@ enum { KIB = 1024, STACK = 512 * KIB, MOST_CELLS = 1024, SHORT_CELLS = 64, SHORT
 static int32_t now[4 * MOST_CELLS], next[4 * MOST_CELLS], bed[MOST_CELLS + 1];
 static uint16_t friction[MOST_CELLS];
 static int64_t volumes[2];
+static uint32_t place[1];
 
 typedef struct {
     size_t cells;
@@ -29,7 +30,7 @@ static void *make_step(void *given)
     Trial *trial = given;
     size_t n = trial->cells;
     trial->refusal = bassoonsun_step(now, 4 * n, next, 4 * n, bed, n + 1, friction, n, 4096, 204, 64, 4, 2, 1, 4096, 0,
-                                     volumes);
+                                     volumes, place);
     const uint64_t *lowest = trial->stack;
     while (*lowest == PATTERN)
         lowest++;

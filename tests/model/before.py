@@ -5,8 +5,9 @@ depth.  `before.E3()` is one in which the model knows no dry depth: the argument
 and a fixed 4 stands in every place.  `before.E4()` is one in which it knows no inflow: the two Qs
 are not looked at, and an end is a wall or open.  `before.E6()` is one in which the papers'
 correction of a face level below the bed is made.  `before.E7()` is one in which a lent state lies
-cell by cell; `into_cells` and `into_columns` exchange the two ways.  Each leaves the other requests
-as they stand.  Where E2's and E3's are both wanted, E2's is the inner one.
+cell by cell; `into_cells` and `into_columns` exchange the two ways.  `before.E13()` is one in which
+a refusal has no place.  Each leaves the other requests as they stand.  Where E2's and E3's are both
+wanted, E2's is the inner one.
 """
 
 import contextlib
@@ -70,7 +71,7 @@ def check_friction_speeds(cells, call):
     for i, cell in enumerate(cells):
         h0 = m.depth_mean(cell, call.bed[i], call.bed[i + 1])
         if h0 > FIXED_DRY:
-            m.checked_speed(cell.q0, h0, call.dry, "friction speed")
+            m.checked_speed(cell.q0, h0, call.dry, i, "friction speed")
 
 
 def any_dry(dry):
@@ -93,7 +94,7 @@ def any_inflow(kind, Q):
     return True
 
 
-def none_to_check(sides, call, which):
+def none_to_check(kind, Q, inner, dry, place, which):
     pass
 
 
@@ -107,7 +108,7 @@ def right_end(kind, Q, inner, dry):
 
 def E4():
     """01 has two kinds of end, and the step is given no Q."""
-    return replaced(kind_in_list=wall_or_open, inflow_in_list=any_inflow, check_inflow_speeds=none_to_check,
+    return replaced(kind_in_list=wall_or_open, inflow_in_list=any_inflow, check_inflow_speed=none_to_check,
                     left_end=left_end, right_end=right_end)
 
 
@@ -170,3 +171,28 @@ def into_columns(n, table):
 def into_cells(n, table):
     """What lies in four columns of n, cell by cell; a table of another length is left as it is."""
     return [table[k * n + i] for i in range(n) for k in range(4)] if len(table) == 4 * n else table
+
+
+# ---- E13: a bare number
+
+def face_speeds(cells, call, which):
+    """The sides are tried cell by cell and the inflows after them, since nobody asks where."""
+    sides = []
+    for i, cell in enumerate(cells):
+        f = m.cell_faces(cell, call.bed[i], call.bed[i + 1])
+        ul, ur = (m.checked_speed(q, h, call.dry, None, "face speed, stage %d" % which) for h, q in ((f.hl, f.ql), (f.hr, f.qr)))
+        sides.append((m.Side(f.hl, ul), m.Side(f.hr, ur)))
+    m.check_inflow_speed(call.left, call.left_q, sides[0][0], call.dry, None, which)
+    m.check_inflow_speed(call.right, call.right_q, sides[-1][1], call.dry, None, which)
+    return sides
+
+
+def bare(answer):
+    """What a step answers, if a refusal without its place."""
+    return answer[:2] if answer[0] == "refused" else answer
+
+
+def E13():
+    """A refused step answers its number alone."""
+    step = m.step
+    return replaced(face_speeds=face_speeds, step=lambda *call: bare(step(*call)))

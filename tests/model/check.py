@@ -12,6 +12,7 @@ from collections import Counter
 import before
 import hard
 import model as m
+import places
 
 DRY = 4     # the dry depth of 01's own numbers, which were fixed before E3
 DRY_DEPTHS = range(m.LEAST_DRY, m.MOST_DRY + 1)
@@ -39,7 +40,7 @@ def rows():
     case("row 2: c at h0 = 5, 4096", [m.cube_root(h) for h in (5, 4096)], [437, 4096])
     case("row 3: speed of 5000 at 4, of 160 at 5", [m.speed(5000, 4, DRY), m.speed(160, 5, DRY)], [0, 131072])
     fast = m.step([5, 0, 161, 0], 4, [0, 0], [0], 4096, 1, 0, DRY, 0, 0, 0, 0)
-    case("row 4: speed of 161 at 5, so refusal 6", [m.speed(161, 5, DRY), fast], [131891, ("refused", 6)])
+    case("row 4: speed of 161 at 5, so refusal 6", [m.speed(161, 5, DRY), fast], [131891, ("refused", 6, 0)])
     case("row 5: (0,0 | 0,0)", tuple(m.face(0, 0, 0, 0)), (0, 0, 0, 0))
     case("row 6: (4096,0 | 4096,0)", tuple(m.face(4096, 0, 4096, 0)), (0, 16777216, 0, 12829))
     case("row 7: (4096,0 | 0,0)", tuple(m.face(4096, 0, 0, 0)), (8552, 11184810, 0, 25658))
@@ -61,18 +62,18 @@ def still(n, level, z, dx, dt, dry=DRY, ends=(0, 0, 0, 0)):
 def runs():
     now, answer = still(1, 4096, 0, 4096, 653)
     case("run: one flat cell, dt 653 accepted and unchanged", answer, ("accepted", now, 0, 0))
-    case("run: one flat cell, dt 654", still(1, 4096, 0, 4096, 654)[1], ("refused", 7))
+    case("run: one flat cell, dt 654", still(1, 4096, 0, 4096, 654)[1], ("refused", 7, 0))
     # 01 leaves the ends of this case open: the inner face decides, whatever they are
     dam = [4096, 0, 0, 0, 0, 0, 0, 0]
     case("run: levels 4096 and 0, dt 327", [m.step(dam, 8, [0] * 3, [0] * 2, 4096, 327, 0, DRY, *kinds, 0, 0) for kinds in PAIRS],
-         [("refused", 7)] * 9)
+         [("refused", 7, 1)] * 9)
     now, answer = still(1024, 4096, 0, 4096, 653)
     case("run: 1,024 cells", answer, ("accepted", now, 0, 0))
-    case("run: 1,025 cells", still(1025, 4096, 0, 4096, 653)[1], ("refused", 1))
+    case("run: 1,025 cells", still(1025, 4096, 0, 4096, 653)[1], ("refused", 1, 0))
     now, answer = still(1, 1048576 + 4096, 1048576, 4096, 653)
     case("run: bed 1,048,576", answer, ("accepted", now, 0, 0))
     for z in (1048575, 1048578):
-        case("run: bed %d" % z, still(1, z + 4096, z, 4096, 653)[1], ("refused", 3))
+        case("run: bed %d" % z, still(1, z + 4096, z, 4096, 653)[1], ("refused", 3, 0))
 
 
 # ---- Limits of the public rules
@@ -169,7 +170,7 @@ def sparing_holds(seed, count):
 
 def dry_list():
     case("E3: a step with a dry depth of 0, 65, 4294967295", [still(2, 900, 0, 4096, 653, d)[1] for d in NOT_IN_LIST],
-         [("refused", 2)] * 3)
+         [("refused", 2, 0)] * 3)
     still_there = [still(2, 900, 0, 4096, 653, d) for d in DRY_DEPTHS]
     case("E3: a step with a dry depth of 1 to 64", [answer for _, answer in still_there],
          [("accepted", now, 0, 0) for now, _ in still_there])
@@ -250,14 +251,14 @@ def end_list():
     case("E4: ends of each pair of kinds", [still(1, 900, 0, 4096, 653, ends=(*kinds, 0, 0))[1] for kinds in PAIRS],
          [("accepted", [900, 0, 0, 0], 0, 0)] * 9)
     case("E4: an end of kind 3 and 4294967295", [at_either_end(kind, 0, 900, 4096, 653) for kind in (3, 4294967295)],
-         [[("refused", 2)] * 2] * 2)
+         [[("refused", 2, 0)] * 2] * 2)
     # dry ground, on which the greatest brings 8 in, and at that dry depth has no speed
     case("E4: Q of 0, 1 and 8388608", [at_either_end(2, Q, 0, 1048576, 1, 64) for Q in (0, 1, 8388608)],
          [[("accepted", [0, 0, 0, 0], 0, 0)] * 2] * 2 + [[("accepted", [8, -8, 0, 0], 8, 0), ("accepted", [8, 8, 0, 0], 0, -8)]])
     case("E4: Q of 8388609 and 4294967295", [at_either_end(2, Q, 0, 1048576, 1, 64) for Q in (8388609, 4294967295)],
-         [[("refused", 2)] * 2] * 2)
+         [[("refused", 2, 0)] * 2] * 2)
     case("E4: a Q at a wall or an open end", [at_either_end(kind, Q, 900, 4096, 100) for kind in (0, 1) for Q in (1, 8388608, 8388609)],
-         [[("refused", 2)] * 2] * 6)
+         [[("refused", 2, 0)] * 2] * 6)
 
 
 def both_ends(Q, h, u, dry=DRY):
@@ -283,11 +284,11 @@ def end_faces():
 
 
 def told_apart(call):
-    """The check that refuses a call, with its number, and what an accepted one gives."""
+    """The check that refuses a call, with its number, and its place; or None, and what an accepted one gives."""
     try:
         return None, m.worked(*call)
     except m.Refused as r:
-        return (r.number, r.check), None
+        return (r.number, r.check), r.place
 
 
 def fast_inflow(Q, h, dry, side):
@@ -316,8 +317,9 @@ def turned_call(call):
 
 
 def turned_answer(answer):
+    """From the other end the number is the same; the lowest place is another."""
     if answer[0] == "refused":
-        return answer
+        return before.bare(answer)
     _, new, W0, Wn = answer
     return "accepted", m.table_of(mirrored(m.cells_of(new))), -Wn, -W0
 
@@ -329,7 +331,7 @@ def turning_holds(seed, count):
         # a table of another length has no other end, and the least i32 no other sign
         if len(call[0]) % 4 == 0 and -hard.I32 not in call[0]:
             answer = m.step(*call)
-            wrong += m.step(*turned_call(call)) != turned_answer(answer)
+            wrong += before.bare(m.step(*turned_call(call))) != turned_answer(answer)
             inflows[call[8] == m.INFLOW, call[9] == m.INFLOW] += answer[0] == "accepted" and call[10] + call[11] > 0
     seen = inflows[True, False], inflows[False, True], inflows[True, True]
     case("E4: from the other end the same, in %d calls; accepted with an inflow at the left, the right, both: %d, %d, %d"
@@ -345,13 +347,13 @@ def without_inflow_holds(seed, count):
             old = m.step(*call)
         if m.INFLOW in call[8:10]:
             seen["new"] += found != old
-            seen["not a 2"] += old not in (("refused", 1), ("refused", 2))
+            seen["not a 2"] += old not in (("refused", 1, 0), ("refused", 2, 0))
         elif call[10:] == (0, 0):
             seen["otherwise"] += found != old
             seen["accepted"] += old[0] == "accepted"
         else:
             # one that has no Q to give would have been stepped
-            seen["refused"] += found == ("refused", 2) and old != found
+            seen["refused"] += found == ("refused", 2, 0) and old != found
     case("E4: without inflow the step answers as before it, %d calls accepted" % seen["accepted"], seen["otherwise"], 0)
     case("E4: an end of the third kind was a 2 before it, unless a 1", seen["not a 2"], 0)
     case("E4: that kind decides %d of %d calls, and a Q where none belongs %d" % (seen["new"], count, seen["refused"]),
@@ -370,7 +372,7 @@ def inflow_holds(seed, count):
     for call in hard.calls(seed, count):
         n, (dx, dt), (left, right, left_q, right_q) = len(call[3]), call[4:6], call[8:]
         check, given = told_apart(call)
-        if given is None:
+        if check:
             if m.INFLOW in (left, right):
                 refusing.add(check)
             continue
@@ -457,7 +459,7 @@ def columns():
 
 
 def columns_hold(seed, count):
-    """On columns the step gives the columns of what it gave cell by cell, or the refusal of the same check."""
+    """On columns the step gives the columns of what it gave cell by cell, or the refusal of the same check and place."""
     answers, otherwise, decided, exchanged = Counter(), 0, 0, 0
     for now, *others in hard.calls(seed, count):
         n = len(others[2])
@@ -465,7 +467,7 @@ def columns_hold(seed, count):
         with before.E7():
             check, given = told_apart((before.into_cells(n, now), *others))
             decided += told_apart((now, *others)) != found      # the columns taken for what lay cell by cell
-        if given is not None:
+        if check is None:
             state, W0, Wn = given
             given = before.into_columns(n, state), W0, Wn
             exchanged += given[0] != state
@@ -477,6 +479,125 @@ def columns_hold(seed, count):
          % (answers[0], ", ".join(str(answers[k]) for k in range(1, 9))), [k for k in range(9) if answers[k] == 0], [])
     case("E7: the layout decides the answer of %d of them, and where %d put what they write" % (decided, exchanged),
          decided >= count // 3 and exchanged >= count // 8, True)
+
+
+# ---- E13: the place of each check at the first, a middle and the last index, the lowest of several, and random calls
+
+SHORT_REACH = 5
+# One cell among still ones of some depth, on a flat bed between walls: the check that refuses, how far its place lies
+# beyond the cell's index, the depth of the others, the cell, and dx, dt and J.  A cell's right side is at the face beyond it.
+ODD_CELLS = (
+    (5, "present state", 0, 1000, (1000, 1001, 0, 0), 4096, 1, 0),
+    (6, "friction speed", 0, 1000, (1000, 0, 32001, 0), 4096, 1, 0),
+    (6, "face speed, stage 1", 0, 1000, (1000, 0, -16000, 17000), 4096, 1, 0),
+    (6, "face speed, stage 1", 1, 1000, (1000, 0, 16000, 17000), 4096, 1, 0),
+    (6, "inner-point speed, stage 1", 0, 1000, (1000, 996, 31000, 0), 4096, 1, 0),
+    (7, "faces, stage 1", 0, 1000, (3000, -1000, 0, 0), 4096, 700, 0),
+    (7, "faces, stage 1", 1, 1000, (3000, 1000, 0, 0), 4096, 700, 0),
+    (8, "stage one", 0, 262144, (262144, 0, 60000, 0), 1000, 1, 0),
+    (6, "face speed, stage 2", 0, 100, (50, 50, -500, 0), 4096, 10, 262144),
+    (6, "face speed, stage 2", 1, 4, (10, -10, 160, 0), 1000, 10, 262144),
+    (6, "inner-point speed, stage 2", 0, 6, (20, 0, 640, 0), 100, 1, 262144),
+    (7, "faces, stage 2", 0, 0, (50, -50, 0, -375), 10, 1, 0),
+    (7, "faces, stage 2", 1, 6, (5, -5, 80, 40), 100, 10, 262144),
+)
+
+
+def odd_reach(odd, depth, dx=4096, dt=1, jump=0, ends=(0, 0, 0, 0), n=SHORT_REACH):
+    """Still cells of some depth, and others at some of their indices."""
+    cells = [odd.get(i, (depth, 0, 0, 0)) for i in range(n)]
+    return m.table_of(cells), 4 * n, [0] * (n + 1), [0] * n, dx, dt, jump, DRY, *ends
+
+
+def at_each_cell():
+    for number, check, beyond, depth, cell, dx, dt, jump in ODD_CELLS:
+        def place(n, *indices):
+            return told_apart(odd_reach(dict.fromkeys(indices, cell), depth, dx, dt, jump, n=n))
+        what = "%d %s, %s" % (number, check, ("at the cell or its left face", "at its right face")[beyond])
+        case("E13: %s, by each cell of 1, 3 and 5" % what, [place(n, i) for n in (1, 3, 5) for i in range(n)],
+             [((number, check), i + beyond) for n in (1, 3, 5) for i in range(n)])
+        case("E13: %s, by two and three cells of 9: the lowest" % what, [place(9, *indices) for indices in ((1, 8), (4, 8), (0, 4, 8))],
+             [((number, check), i + beyond) for i in (1, 4, 0)])
+
+
+def with_one(table, k, odd):
+    return table[:k] + [odd] + table[k + 1:]
+
+
+def pit_call(full, moving):
+    """A lake at rest, one cell of which is full; one two cells beside it runs toward it, which stage one does not tell it."""
+    bed = [1000] * (SHORT_REACH + 1)
+    bed[full] = bed[full + 1] = 0
+    cells = [(m.DEEPEST, 0, 10000 * (full - moving) if i == moving else 0, 0) for i in range(SHORT_REACH)]
+    return m.table_of(cells), 4 * SHORT_REACH, bed, [0] * SHORT_REACH, 1000, 10, m.GREATEST_JUMP, DRY, 0, 0, 0, 0
+
+
+def at_each_other():
+    now, room, bed, friction, *given = odd_reach({}, 1000)
+    indices = range(SHORT_REACH + 1)
+    case("E13: 3 at each bed value", [m.step(now, room, with_one(bed, k, z), friction, *given) for z in (-2, 1, 1048578) for k in indices],
+         [("refused", 3, k) for k in indices] * 3)
+    case("E13: 4 at each friction value", [m.step(now, room, bed, with_one(friction, i, 201), *given) for i in indices[:-1]],
+         [("refused", 4, i) for i in indices[:-1]])
+    case("E13: of several bed or friction values the lowest", [m.step(now, room, [0, 0, 1, 0, -2, 3], friction, *given),
+                                                               m.step(now, room, bed, [0, 201, 0, 999, 201], *given)],
+         [("refused", 3, 2), ("refused", 4, 1)])
+    pits = (0, 2), (1, 3), (2, 0), (2, 4), (3, 1), (4, 2)
+    case("E13: 8 of the end state at each cell", [told_apart(pit_call(*pit)) for pit in pits],
+         [((8, "end state"), full) for full, _ in pits])
+    case("E13: 6 of an inflow at either end, in stage one and in stage two",
+         [told_apart(odd_reach({}, depth, ends=ends)) for depth, Q in ((1000, 32002), (0, 368640))
+          for ends in ((2, 0, Q, 0), (0, 2, 0, Q))],
+         [((6, "inflow speed, stage %d" % which), k) for which in (1, 2) for k in (0, SHORT_REACH)])
+    case("E13: 1 and 2 have place 0", [m.step(now, room + 1, bed, friction, *given), m.step(now, room, bed, friction, *given[:-1], 1)],
+         [("refused", 1, 0), ("refused", 2, 0)])
+
+
+# A cell that is too fast at its left face alone, at its right face, at both, at a Gauss point, at its right face and a point.
+LEFT, RIGHT, BOTH_SIDES = (1000, 0, -16000, 17000), (1000, 0, 16000, 17000), (1000, 0, 0, 33000)
+POINT, RIGHT_AND_POINT = (1000, 996, 31000, 0), (1000, 0, 16000, 28000)
+FAST = 70000        # as an inflow
+
+
+def faces_in_order():
+    """Of the faces the lowest, and a Gauss point after all of them: F for a cell's side, Q for an inflow, G for a Gauss point."""
+    def shown(odd, left_q=0, right_q=0):
+        (_, check), place = told_apart(odd_reach(odd, 1000, ends=(2, 2, left_q, right_q)))
+        return {"face": "F", "inflow": "Q", "inner-point": "G"}[check.split()[0]] + str(place)
+    case("E13: a cell's left face before its right", [shown({2: cell}) for cell in (LEFT, RIGHT, BOTH_SIDES)], ["F2", "F3", "F2"])
+    case("E13: faces with a cell on either side", [shown(odd) for odd in ({2: RIGHT, 3: LEFT}, {2: LEFT, 3: LEFT}, {1: LEFT, 2: RIGHT})],
+         ["F3", "F2", "F1"])
+    odd = {1: POINT, 3: LEFT}, {0: POINT, 4: RIGHT}, {2: RIGHT_AND_POINT}, {3: POINT, 1: LEFT}, {1: POINT}, {3: POINT, 1: POINT}
+    case("E13: faces before Gauss points", [shown(each) for each in odd], ["F3", "F5", "F3", "F1", "G1", "G1"])
+    case("E13: an inflow at the left before every other face", [shown(each, FAST) for each in ({3: RIGHT}, {1: POINT}, {})]
+         + [shown({4: LEFT}, FAST, FAST)], ["Q0"] * 4)
+    case("E13: an inflow at the right after every other face",
+         [shown(each, 0, FAST) for each in ({3: RIGHT}, {4: LEFT}, {4: POINT}, {})], ["F4", "F4", "Q5", "Q5"])
+    case("E13: an inflow and a cell's side at one face", [shown({0: LEFT}, FAST), shown({4: RIGHT}, 0, FAST)], ["F0", "F5"])
+
+
+POSITIONS = ("first", "middle", "last")
+
+
+def places_hold(seed, count):
+    """The second writing, and the first without places, on random calls."""
+    wrong, numbers, several, seen = 0, 0, Counter(), Counter()
+    for call in hard.calls(seed, count):
+        (refused, given), check = told_apart(call), places.met(call)
+        with before.E13():
+            numbers += m.step(*call) != (("refused", refused[0]) if refused else ("accepted", *given))
+        wrong += (refused and (refused[0], given)) != (check and (check.number, min(check.indices)))
+        if refused and check:
+            number, name = refused
+            several[number] += len(check.indices) > 1
+            seen[name, places.position(name, given, len(call[3]))] += 1
+    case("E13: the place is the lowest of all to which the check applies, in %d calls; of several for 3 to 8: %s"
+         % (count, ", ".join(str(several[k]) for k in range(3, 9))), (wrong, [k for k in range(3, 9) if several[k] == 0]), (0, []))
+    case("E13: the number is that of before it, same calls", numbers, 0)
+    wanted = {(name, position) for number, name in CHECKS for position in POSITIONS
+              if number > 2 and not (name.startswith("inflow") and position == "middle")}
+    case("E13: every check came at the first, a middle and the last index, an inflow at the first and the last",
+         sorted(wanted - set(seen)), [])
 
 
 # ---- Demand 3 on random calls
@@ -567,7 +688,7 @@ def rest_holds(seed, count):
                 shallow += any(0 < h <= dry for h in depths(now, bed))
                 moved += answer != ("accepted", now, 0, 0)
             else:
-                otherwise += answer != ("refused", 7)
+                otherwise += answer[1] != 7
     case("demand 3: lake at rest stays, %d accepted of %d steps, %d with water no deeper than the dry depth, %d with a Q of 0"
          % (accepted, 3 * count, shallow, given), moved, 0)
     case("demand 3: a lake at rest is refused by 7 alone", otherwise, 0)
@@ -642,6 +763,10 @@ def main():
     uncorrected_holds(11, 3000)
     columns()
     columns_hold(12, 4000)
+    at_each_cell()
+    at_each_other()
+    faces_in_order()
+    places_hold(13, 4000)
     calls_hold(3, 3000)
     rest_holds(4, 800)
     runs_hold(5, 250)

@@ -18,6 +18,18 @@ import model as m
 I32 = 2 ** 31
 
 
+# ---- Indices
+
+def spot(rnd, count):
+    """The first of so many indices, the last, or any."""
+    return rnd.choice((0, count - 1, rnd.randrange(count)))
+
+
+def spots(rnd, count):
+    """One index or two, as of several the lowest is a refusal's place (E13)."""
+    return [spot(rnd, count) for _ in range(rnd.choice((1, 1, 2)))] if count else []
+
+
 # ---- Dry depths
 
 def dry_depths(rnd):
@@ -213,6 +225,21 @@ def shore(rnd, n, dry):
     return bed, m.table_of(cells)
 
 
+def pit(rnd, n, dry):
+    """A lake at rest but for one cell, two cells from the deepest one, which is full.
+
+    Stage one leaves the deepest cell as it is, and stage two does not: it may be too full at the end alone.
+    """
+    low, i = 2 * rnd.randrange(20000), spot(rnd, n)
+    bed = [low + 2 * rnd.randint(5000, 40000) for _ in range(n + 1)]
+    bed[i] = bed[i + 1] = low
+    cells = [[low + m.DEEPEST, 0, 0, 0] for _ in range(n)]
+    moving = rnd.choice([k for k in (i - 2, i + 2) if 0 <= k < n] or [i])
+    most = rnd.choice((90000, 2000000))
+    cells[moving][2] = rnd.randint(-most, most)
+    return bed, m.table_of(cells)
+
+
 def with_cell(now, n, i, cell):
     """The state with other numbers in cell i of its n."""
     now = list(now)
@@ -392,54 +419,50 @@ def fault_numbers(rnd, c):
 
 
 def fault_bed(rnd, c):
-    if c["bed"]:
-        k = rnd.choice((0, len(c["bed"]) - 1, rnd.randrange(len(c["bed"]))))
-        bed = list(c["bed"])
+    bed = list(c["bed"])
+    for k in spots(rnd, len(bed)):
         bed[k] = rnd.choice((-1, -2, 1, m.HIGHEST_BED - 1, m.HIGHEST_BED + 1, m.HIGHEST_BED + 2,
                              bed[k] | 1, -I32, I32 - 1))
-        c["bed"] = bed
+    c["bed"] = bed
 
 
 def fault_friction(rnd, c):
-    if c["friction"]:
-        k = rnd.choice((0, len(c["friction"]) - 1, rnd.randrange(len(c["friction"]))))
-        friction = list(c["friction"])
-        friction[k] = rnd.choice((m.ROUGHEST + 1, 255, 65535))
-        c["friction"] = friction
+    friction = list(c["friction"])
+    for i in spots(rnd, len(friction)):
+        friction[i] = rnd.choice((m.ROUGHEST + 1, 255, 65535))
+    c["friction"] = friction
+
+
+def out_of_range(rnd, cell, zl, zr):
+    """The cell with one face depth or discharge one beyond its range, or a number as wide as an i32."""
+    cell, how = list(cell), rnd.randrange(6)
+    if how == 0:
+        cell[rnd.randrange(4)] = rnd.choice((-I32, I32 - 1, -I32 + 1))
+        return cell
+    z0, z1 = (zl + zr) // 2, (zr - zl) // 2
+    h0, h1, q0, q1 = cell[0] - z0, cell[1] - z1, cell[2], cell[3]
+    sign = rnd.choice((-1, 1))
+    if how == 1:
+        h1 = sign * (h0 + 1)
+    elif how == 2:
+        h0, h1 = m.DEEPEST - 7, sign * 8
+    elif how == 3:
+        h0, h1 = -1, 0
+    elif how == 4:
+        q0, q1 = sign * (m.GREATEST_Q + 1), 0
+    else:
+        q0, q1 = sign * (m.GREATEST_Q - 7), rnd.choice((-8, 8))
+    return [max(-I32, min(I32 - 1, v)) for v in (h0 + z0, h1 + z1, q0, q1)]
 
 
 def fault_range(rnd, c):
-    """One face depth or discharge one beyond its range, or a number as wide as an i32."""
-    now, bed = c["now"], c["bed"]
-    n = len(bed) - 1
-    i = rnd.randrange(n)
-    cell = now[i::n]
-    how = rnd.randrange(6)
-    if how == 0:
-        cell[rnd.randrange(4)] = rnd.choice((-I32, I32 - 1, -I32 + 1))
-    else:
-        z0, z1 = (bed[i] + bed[i + 1]) // 2, (bed[i + 1] - bed[i]) // 2
-        h0, h1, q0, q1 = cell[0] - z0, cell[1] - z1, cell[2], cell[3]
-        sign = rnd.choice((-1, 1))
-        if how == 1:
-            h1 = sign * (h0 + 1)
-        elif how == 2:
-            h0, h1 = m.DEEPEST - 7, sign * 8
-        elif how == 3:
-            h0, h1 = -1, 0
-        elif how == 4:
-            q0, q1 = sign * (m.GREATEST_Q + 1), 0
-        else:
-            q0, q1 = sign * (m.GREATEST_Q - 7), rnd.choice((-8, 8))
-        cell = [h0 + z0, h1 + z1, q0, q1]
-    c["now"] = with_cell(now, n, i, [max(-I32, min(I32 - 1, v)) for v in cell])
+    bed, n = c["bed"], len(c["bed"]) - 1
+    for i in spots(rnd, n):
+        c["now"] = with_cell(c["now"], n, i, out_of_range(rnd, c["now"][i::n], bed[i], bed[i + 1]))
 
 
-def fault_speed(rnd, c):
-    """A mean, face or Gauss speed beyond the limit in a state that is in range."""
-    bed, dry = c["bed"], c["dry"]
-    n = len(bed) - 1
-    i = rnd.randrange(n)
+def too_fast(rnd, dry):
+    """Of a cell in range, a mean, face or Gauss speed beyond the limit, and either way round."""
     h0 = rnd.randint(dry + 1, 3000)
     h1, q0, q1 = rnd.choice((
         (0, 32 * h0 + 1 + h0 // 4096, 0),       # mean
@@ -448,11 +471,23 @@ def fault_speed(rnd, c):
         (0, 16 * h0, 28 * h0),                  # face and Gauss point
         (h0 - dry, 31 * h0, 0),                 # the Gauss point alone: the face has no speed
     ))
-    c["now"] = with_cell(c["now"], n, i, placed(bed[i], bed[i + 1], h0, h1, q0, q1))
+    return rnd.choice(((h0, h1, q0, q1), (h0, -h1, -q0, q1)))
+
+
+def fault_speed(rnd, c):
+    bed, n, same = c["bed"], len(c["bed"]) - 1, too_fast(rnd, c["dry"])
+    for i in spots(rnd, n):
+        cell = rnd.choice((same, too_fast(rnd, c["dry"])))
+        c["now"] = with_cell(c["now"], n, i, placed(bed[i], bed[i + 1], *cell))
 
 
 def fault_inflow(rnd, c):
-    """An inflow whose speed is beyond the limit, just or by far, or would be if the water there were deeper than the dry depth."""
+    """An inflow whose speed is beyond the limit, just or by far, or would be if the water there were deeper than the dry depth.
+
+    In half of them some cell is too fast too, and the lower face counts.
+    """
+    if rnd.randrange(2):
+        fault_speed(rnd, c)
     end = rnd.randrange(2)
     name = ("left", "right")[end]
     h = max(0, inner_depths(c["now"], c["bed"])[end])
@@ -488,22 +523,47 @@ def flooded(rnd, c):
 ORDER = ("now", "next_len", "bed", "friction", "dx", "dt", "jump", "dry", "left", "right", "left_q", "right_q")
 
 
-def hard_call(rnd):
-    n = rnd.choice((1, 1, 1, 2, 2, 2, 3, 3, 3, 16, 16, rnd.randint(4, 12)))
+def number_of_cells(rnd):
     if rnd.randrange(400) == 0:
-        n = m.MOST_CELLS
-    elif rnd.randrange(100) == 0:
-        n = rnd.choice((64, 65))    # the longest reach on short tables, and the shortest on long ones
-    dry = dry_depths(rnd)
+        return m.MOST_CELLS
+    if rnd.randrange(100) == 0:
+        return rnd.choice((64, 65))     # the longest reach on short tables, and the shortest on long ones
+    return rnd.choice((1, 1, 1, 2, 2, 2, 3, 3, 3, 16, 16, rnd.randint(4, 12)))
+
+
+def reach_of(rnd, n, dry):
+    """A bed and a state over it: few of the short ones are chosen whole, and most of the long ones."""
+    if 3 <= n <= 16 and rnd.randrange(20) == 0:
+        return pit(rnd, n, dry)
     if rnd.randrange(4) < (3 if n > 16 else 1):
-        bed, now = rnd.choice((gentle, shore))(rnd, n, dry)
-    else:
-        bed = beds(rnd, n)
-        now = states(rnd, bed, dry)
+        return rnd.choice((gentle, shore))(rnd, n, dry)
+    bed = beds(rnd, n)
+    return bed, states(rnd, bed, dry)
+
+
+def roughnesses(rnd, n):
+    rough = rnd.choice((0, 0, 1, 30, m.ROUGHEST))
+    return [rnd.randint(0, rough) if rnd.randrange(2) else rough for _ in range(n)]
+
+
+def far_call(rnd):
+    """A long reach that nothing but a fault refuses, and that before stage one is over: so its place may be far along (E13)."""
+    n, dry = rnd.choice((65, 300, m.MOST_CELLS)), dry_depths(rnd)
+    bed, now = gentle(rnd, n, dry)
+    c = dict(now=now, next_len=4 * n, bed=bed, friction=roughnesses(rnd, n), dx=m.UNIT, dt=1, jump=0, dry=dry,
+             left=rnd.randrange(2), right=rnd.randrange(2), left_q=0, right_q=0)
+    rnd.choice((fault_bed, fault_friction, fault_range, fault_speed))(rnd, c)
+    return c
+
+
+def hard_call(rnd):
+    if rnd.randrange(120) == 0:
+        return far_call(rnd)
+    n, dry = number_of_cells(rnd), dry_depths(rnd)
+    bed, now = reach_of(rnd, n, dry)
     if rnd.randrange(6) == 0:
         now = thin_end(rnd, now, bed, dry)
-    rough = rnd.choice((0, 0, 1, 30, m.ROUGHEST))
-    friction = [rnd.randint(0, rough) if rnd.randrange(2) else rough for _ in range(n)]
+    friction = roughnesses(rnd, n)
     ends = ends_of(rnd, now, bed)
     dx, dt = lengths_and_times(rnd, now, bed, friction, dry, ends)
     ends = onto_dry(rnd, now, bed, dx, dt, ends)

@@ -4,11 +4,11 @@ compared with the library.
 Exact integers throughout, in 01's order and with 01's letters.  It shares nothing
 with the library, so an answer that both give was worked twice.  Where 01 has a depth
 of 4 the argument `dry` stands (E3), an end may be given a discharge Q into the reach (E4),
-nothing is taken from a face level that lies below the bed (E6), and a lent state is four
-columns (E7).  What a rule said before a request is in before.py.
+nothing is taken from a face level that lies below the bed (E6), a lent state is four
+columns (E7), and a refusal has a place (E13).  What a rule said before a request is in before.py.
 
 Public rules answer None where 01 refuses them "with no number".  `step` answers
-("refused", number) or ("accepted", next, W0, Wn).  Labels such as S7 are those of
+("refused", number, place) or ("accepted", next, W0, Wn).  Labels such as S7 are those of
 docs/DECISIONS.md.
 """
 
@@ -36,11 +36,16 @@ Call = namedtuple("Call", "n bed friction dx dt jump dry left right left_q right
 
 
 class Refused(Exception):
-    """A refusal of the step: its number, and which check gave it (for statistics)."""
+    """A refusal of the step: its number, its place, and which check gave it (for statistics).
 
-    def __init__(self, number, check):
-        super().__init__(number, check)
+    The place is "the lowest to which it applies within the check that refused" (E13): a bed value,
+    a cell or a face by its index, and 0 where the check is of none of them.
+    """
+
+    def __init__(self, number, place, check):
+        super().__init__(number, place, check)
         self.number = number
+        self.place = place
         self.check = check
 
 
@@ -204,30 +209,39 @@ def gauss_points(cell, zl, zr):
 
 # ---- One stage
 
-def checked_speed(q, h, dry, check):
+def checked_speed(q, h, dry, place, check):
     u = speed(q, h, dry)
     if not within(u, FASTEST):          # the truncated speed is what is checked, S1
-        raise Refused(6, check)
+        raise Refused(6, place, check)
     return u
 
 
-def check_inflow_speeds(sides, call, which):
-    """E4: the speed of Q at each end's inner depth is one of the face speeds."""
-    for kind, Q, inner in ((call.left, call.left_q, sides[0][0]), (call.right, call.right_q, sides[-1][1])):
-        if kind == INFLOW:
-            checked_speed(Q, inner.h, call.dry, "inflow speed, stage %d" % which)
+def check_inflow_speed(kind, Q, inner, dry, place, which):
+    """E4: the speed of Q at the end's inner depth is one of the speeds of that face."""
+    if kind == INFLOW:
+        checked_speed(Q, inner.h, dry, place, "inflow speed, stage %d" % which)
 
 
 def face_speeds(cells, call, which):
-    """Each cell's two sides; the whole reach is read before the Gauss points are."""
-    sides = []
-    for i, cell in enumerate(cells):
-        f = cell_faces(cell, call.bed[i], call.bed[i + 1])
-        ul = checked_speed(f.ql, f.hl, call.dry, "face speed, stage %d" % which)
-        ur = checked_speed(f.qr, f.hr, call.dry, "face speed, stage %d" % which)
-        sides.append((Side(f.hl, ul), Side(f.hr, ur)))
-    check_inflow_speeds(sides, call, which)
-    return sides
+    """Each cell's two sides.  All faces are tried, the lowest first, before the Gauss points are (E13).
+
+    A face shows the right side of the cell on its left and the left side of the cell on its right.
+    """
+    shown = [cell_faces(cell, call.bed[i], call.bed[i + 1]) for i, cell in enumerate(cells)]
+
+    def side(h, q, k):
+        return Side(h, checked_speed(q, h, call.dry, k, "face speed, stage %d" % which))
+    lefts, rights = [], []
+    for k in range(call.n + 1):
+        if k > 0:
+            rights.append(side(shown[k - 1].hr, shown[k - 1].qr, k))
+        if k < call.n:
+            lefts.append(side(shown[k].hl, shown[k].ql, k))
+        if k == 0:
+            check_inflow_speed(call.left, call.left_q, lefts[0], call.dry, k, which)
+        if k == call.n:
+            check_inflow_speed(call.right, call.right_q, rights[-1], call.dry, k, which)
+    return list(zip(lefts, rights))
 
 
 def gauss_sums(cells, call, which):
@@ -236,7 +250,7 @@ def gauss_sums(cells, call, which):
     for i, cell in enumerate(cells):
         total = 0
         for h, q in gauss_points(cell, call.bed[i], call.bed[i + 1]):
-            u = checked_speed(q, h, call.dry, "inner-point speed, stage %d" % which)
+            u = checked_speed(q, h, call.dry, i, "inner-point speed, stage %d" % which)
             total += quo(q * u, UNIT)
         sums.append(total)
     return sums
@@ -249,9 +263,9 @@ def fluxes(sides, call, which):
         L, R = sides[i][1], sides[i + 1][0]
         found.append(face(L.h, L.u, R.h, R.u))
     found.append(right_end(call.right, call.right_q, sides[-1][1], call.dry))
-    for f in found:
+    for k, f in enumerate(found):
         if 2 * call.dt * f.S > UNIT * call.dx:
-            raise Refused(7, "faces, stage %d" % which)
+            raise Refused(7, k, "faces, stage %d" % which)
     return found
 
 
@@ -384,7 +398,7 @@ def check_friction_speeds(cells, call):
     for i, cell in enumerate(cells):
         h0 = depth_mean(cell, call.bed[i], call.bed[i + 1])
         if h0 > call.dry:
-            checked_speed(cell.q0, h0, call.dry, "friction speed")
+            checked_speed(cell.q0, h0, call.dry, i, "friction speed")
 
 
 def after_friction(cells, call):
@@ -403,7 +417,7 @@ def after_friction(cells, call):
 def check_lengths(now, next_len, bed, friction):
     n = len(friction)
     if not 1 <= n <= MOST_CELLS or len(now) != 4 * n or next_len != 4 * n or len(bed) != n + 1:
-        raise Refused(1, "lengths")
+        raise Refused(1, 0, "lengths")
 
 
 def kind_in_list(kind):
@@ -419,25 +433,25 @@ def check_numbers(dx, dt, jump, dry, left, right, left_q, right_q):
     if not (1 <= dx <= LONGEST_DX and 1 <= dt <= LONGEST_DT and 0 <= jump <= GREATEST_JUMP
             and dry_in_list(dry) and kind_in_list(left) and kind_in_list(right)
             and inflow_in_list(left, left_q) and inflow_in_list(right, right_q)):
-        raise Refused(2, "numbers")
+        raise Refused(2, 0, "numbers")
 
 
 def check_bed(bed):
-    for z in bed:
+    for k, z in enumerate(bed):
         if not 0 <= z <= HIGHEST_BED or z % 2 != 0:
-            raise Refused(3, "bed")
+            raise Refused(3, k, "bed")
 
 
 def check_friction(friction):
-    for f in friction:
+    for i, f in enumerate(friction):
         if not 0 <= f <= ROUGHEST:
-            raise Refused(4, "friction")
+            raise Refused(4, i, "friction")
 
 
 def check_range(cells, call, number, check):
     for i, cell in enumerate(cells):
         if not in_range(cell, call.bed[i], call.bed[i + 1]):
-            raise Refused(number, check)
+            raise Refused(number, i, check)
 
 
 def cells_of(table):
@@ -485,4 +499,4 @@ def step(now, next_len, bed, friction, dx, dt, jump, dry, left, right, left_q, r
     try:
         return ("accepted",) + worked(now, next_len, bed, friction, dx, dt, jump, dry, left, right, left_q, right_q)
     except Refused as r:
-        return "refused", r.number
+        return "refused", r.number, r.place

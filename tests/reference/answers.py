@@ -5,7 +5,8 @@
 
 The check that gave each refusal goes to standard error. Where a name says that one refusal comes
 before another, both are looked for here, and it is an error if either does not apply. So it is where
-a case has the same line under a reading of E2, E3, E4 or E7 that it is to tell from the rule.
+a case has the same line under a reading of E2, E3, E4, E7 or E13 that it is to tell from the rule, and
+where a name that begins with a refusal and its place, such as "7 at 2", is not what is answered.
 """
 import collections
 import contextlib
@@ -50,7 +51,7 @@ BOTH = {
     "8 before inflow 6": ("stage one", "inflow speed, stage 2"),
 }
 
-# the readings of E2, E3, E4 and E7 that a case tells from the rule
+# the readings of E2, E3, E4, E7 and E13 that a case tells from the rule
 TOLD = {
     "bank on the right": ("none spared", "itself alone", "left and itself"),
     "bank on the left": ("none spared", "itself alone", "right and itself"),
@@ -155,6 +156,60 @@ TOLD = {
     "6 by a discharge mean": ("discharge means every fourth", "mean columns exchanged", "cell by cell"),
     "7 by a discharge slope": ("discharge slopes every fourth", "slope columns exchanged"),
     "8 by a level mean": ("level means every fourth", "mean columns exchanged", "cell by cell"),
+    "state short": ("n for 1 and 2", "no place"),
+    "faults 2 2": ("n for 1 and 2", "no place"),
+    "3 at 0": ("one too high", "no place"),
+    "3 at 2": ("one too high", "no place"),
+    "3 at 3": ("one too high", "a bed value by its cell"),
+    "3 at 1, of two": ("the highest", "one too high"),
+    "3 at 11, 1024 cells": ("the highest", "one too high"),
+    "4 at 1, of two": ("the highest", "one too high"),
+    "5 at 1, of two": ("the highest", "one too high"),
+    "6 at 1, friction, of two": ("the highest", "one too high"),
+    "6 at 0, left side": ("right of a fast left side", "one too high"),
+    "6 at 1, left side": ("right of a fast left side", "one too high"),
+    "6 at 2, left side": ("right of a fast left side", "one too high"),
+    "6 at 1, right side": ("left of a fast right side", "the cell of a fast side"),
+    "6 at 2, right side": ("left of a fast right side", "the cell of a fast side"),
+    "6 at 3, right side": ("left of a fast right side", "the cell of a fast side"),
+    "6 at 1, point, of two": ("the highest", "one too high"),
+    "6 at 1, both sides": ("the highest", "right of a fast left side"),
+    "6 at 2, of one face": ("left of a fast right side", "the cell of a fast side"),
+    "6 at 1, of two sides": ("the highest", "right of a fast left side"),
+    "6 at 2, above a point": ("Gauss points before faces",),
+    "6 at 3, beside a point": ("Gauss points before faces", "left of a fast right side"),
+    "6 at 3, right Q": ("a right Q at the last cell",),
+    "6 at 0, left Q and a side": ("the highest", "sides before inflows"),
+    "6 at 2, a side and right Q": ("the highest", "inflows before sides"),
+    "6 at 0, both Qs": ("the highest",),
+    "6 at 3, right Q, a point": ("Gauss points before faces", "a right Q at the last cell"),
+    "6 at 64, right Q": ("a right Q at the last cell",),
+    "6 at 65, right Q": ("a right Q at the last cell",),
+    "6 at 1024, right Q": ("a right Q at the last cell",),
+    "7 at 1, left face": ("the cell left of a face", "one too high"),
+    "7 at 1, right face": ("the cell left of a face", "one too high"),
+    "7 at 3, right face": ("the cell left of a face", "the cell right of a face"),
+    "7 at 1, and the last": ("the highest", "ends before inner faces"),
+    "7 at 1, less busy": ("the highest", "the busiest face"),
+    "7 at 1024, right Q": ("the cell left of a face", "the cell right of a face"),
+    "8 at 1, of three": ("the highest", "one too high"),
+    "8 at 1023": ("one too high",),
+    "6 at 1, two, left side": ("right of a fast left side", "stage one's place in stage two"),
+    "6 at 2, two, left side": ("right of a fast left side", "stage one's place in stage two"),
+    "6 at 1, two, right side": ("left of a fast right side", "stage one's place in stage two"),
+    "6 at 3, two, right side": ("left of a fast right side", "stage one's place in stage two"),
+    "6 at 1, two, of two": ("the highest", "stage one's place in stage two"),
+    "6 at 1, two, point": ("the highest", "stage one's place in stage two"),
+    "6 at 2, two, point": ("stage one's place in stage two",),
+    "6 at 1, two, of three points": ("the highest", "stage one's place in stage two"),
+    "6 at 4, two, above a point": ("Gauss points before faces", "stage one's place in stage two"),
+    "6 at 3, two, right Q": ("a right Q at the last cell", "stage one's place in stage two"),
+    "7 at 1, two, left face": ("the cell left of a face", "stage one's place in stage two"),
+    "7 at 3, two, right face": ("the cell right of a face", "stage one's place in stage two"),
+    "7 at 1, two, of two": ("the highest", "stage one's place in stage two"),
+    "8 at 2, end": ("stage one's place in stage two",),
+    "8 at 4, end": ("stage one's place in stage two",),
+    "8 at 0, end, of four": ("the highest",),
 }
 
 
@@ -163,7 +218,7 @@ def without_limits(found):
     """The model works on past its checks of speeds and faces; those that apply are found."""
     kept = model.DEEPEST, model.GREATEST_Q, model.FASTEST, model.checked_speed, model.fluxes
 
-    def checked_speed(q, h, dry, check):
+    def checked_speed(q, h, dry, place, check):
         u = model.speed(q, h, dry)
         if abs(u) > kept[2]:
             found.append(check)
@@ -248,7 +303,7 @@ def line(case, step):
         _, table[:room], w, v = answer
         said = "%s: accepted %d %d" % (name, w, v)
     else:
-        said = "%s: refused %d" % (name, answer[1])
+        said = "%s: refused %s" % (name, " at ".join(map(str, answer[1:])))
     if shown > MOST_SHOWN:
         return "%s, sum of next %d" % (said, sum(map(abs, table[:shown])))
     return " ".join([said + ", next", *map(str, table[:shown])])
@@ -260,7 +315,7 @@ def report(case):
         model.worked(*case.call)
         print("%-30s accepted" % case.name, file=sys.stderr)
     except model.Refused as r:
-        print("%-30s %d %s" % (case.name, r.number, r.check), file=sys.stderr)
+        print("%-30s %d at %d, %s" % (case.name, r.number, r.place, r.check), file=sys.stderr)
 
 
 def hold(case):
@@ -271,6 +326,8 @@ def hold(case):
         found = applying(now, bed, friction, *given)
         for check in wanted:
             assert check in found, (name, check, found)
+    if said := re.match(r"(\d) at (\d+)\b", name):
+        assert model.step(*case.call) == ("refused", *map(int, said.groups())), name
     if name in TOLD:
         told = variants.otherwise_under(lambda: line(case, model.step))
         assert set(TOLD[name]) <= set(told), (name, TOLD[name], told)

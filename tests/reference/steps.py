@@ -5,7 +5,8 @@
 
 It draws the same calls as the program, and the model answers each. A number with a sign is one here,
 where the program keeps its 64 bits. How the answers are spread goes to standard error. It is an error
-if some check refuses no call that has an inflow, or if some pair of ends is not accepted on one cell.
+if some check refuses no call that has an inflow, if some pair of ends is not accepted on one cell, or
+if some check never refuses at the first, a middle or the last index of those that it has.
 """
 import collections
 import itertools
@@ -14,6 +15,7 @@ import sys
 
 sys.path.insert(0, os.path.join(os.path.dirname(os.path.abspath(__file__)), "..", "model"))
 import model
+import places
 
 BLOCKS, CALLS = 100, 200
 WORD = (1 << 64) - 1
@@ -422,6 +424,7 @@ INFLOW = "with an inflow, "
 checks = collections.Counter()
 sizes = collections.Counter()
 pairs = collections.Counter()
+positions = collections.Counter()
 
 
 def counted_step(now, next_len, bed, friction, *given):
@@ -430,7 +433,9 @@ def counted_step(now, next_len, bed, friction, *given):
     try:
         answer, check = ("accepted", *model.worked(now, next_len, bed, friction, *given)), "accepted"
     except model.Refused as r:
-        answer, check = ("refused", r.number), "%d %s" % (r.number, r.check)
+        answer, check = ("refused", r.number, r.place), "%d %s" % (r.number, r.check)
+        if r.number > 2:
+            positions[check, places.position(r.check, r.place, n)] += 1
     checks[check] += 1
     pairs[g.left, g.right, n == 1] += answer[0] == "accepted"
     if model.INFLOW in (g.left, g.right):
@@ -454,7 +459,9 @@ def one(t, s, total, x, step):
         _, after_call[:l.next], w, v = answer
         number, total = 0, mixed(mixed(mixed(total, 0), w), v)
     else:
-        number, total = answer[1], mixed(total, answer[1])
+        number = answer[1]
+        for said in answer[1:]:     # its place after it
+            total = mixed(total, said)
     for y in after_call:
         total = mixed(total, y)
     return number, total
@@ -484,6 +491,10 @@ def main():
     seen = {check for check in checks if not check.startswith(INFLOW)}
     assert all(INFLOW + check in checks for check in seen), seen
     assert all(pairs[left, right, True] for left, right in PAIRS), pairs
+    for check in sorted({check for check, _ in positions}):
+        found = [positions[check, position] for position in ("first", "middle", "last")]
+        assert found[0] and found[2] and (found[1] or "inflow speed" in check), (check, found)
+        print("%s: %d at the first index, %d between, %d at the last" % (check, *found), file=sys.stderr)
     for check in sorted(checks):
         print("%6d  %5.1f %%  %s" % (checks[check], 100 * checks[check] / (BLOCKS * CALLS), check), file=sys.stderr)
     for n in sorted({n for n, _ in sizes}):

@@ -1,4 +1,4 @@
-"""Readings of E2, E3, E4 and E7 that are not their own, each a context in which the model follows it.
+"""Readings of E2, E3, E4, E7 and E13 that are not their own, each a context in which the model follows it.
 
 A case whose line is another under one of them tells that reading from the rule.
 """
@@ -10,6 +10,7 @@ import sys
 sys.path.insert(0, os.path.join(os.path.dirname(os.path.abspath(__file__)), "..", "model"))
 import before
 import model as m
+import places
 from before import replaced
 
 
@@ -147,11 +148,10 @@ def inflow_speed(speed):
         uQ = speed(Q, inner.h, dry)
         return m.Flux(inward * Q, inner.h * inner.h, m.quo(Q * uQ, m.UNIT), m.inflow_S(uQ, inner))
 
-    def checked(sides, call, which):
-        for kind, Q, inner in ((call.left, call.left_q, sides[0][0]), (call.right, call.right_q, sides[-1][1])):
-            if kind == m.INFLOW and speed(Q, inner.h, call.dry) > m.FASTEST:
-                raise m.Refused(6, "inflow speed, stage %d" % which)
-    return replaced(inflow=flux, check_inflow_speeds=checked)
+    def checked(kind, Q, inner, dry, place, which):
+        if kind == m.INFLOW and speed(Q, inner.h, dry) > m.FASTEST:
+            raise m.Refused(6, place, "inflow speed, stage %d" % which)
+    return replaced(inflow=flux, check_inflow_speed=checked)
 
 
 def speed_over(Q, h, over):
@@ -165,8 +165,8 @@ def speed_of_stage_one():
     def flux(Q, inner, dry, inward):
         uQ = first.setdefault(inward, m.speed(Q, inner.h, dry))
         return m.Flux(inward * Q, inner.h * inner.h, m.quo(Q * uQ, m.UNIT), m.inflow_S(uQ, inner))
-    rule = m.check_inflow_speeds
-    return replaced(inflow=flux, check_inflow_speeds=lambda sides, call, which: which == 1 and rule(sides, call, which))
+    rule = m.check_inflow_speed
+    return replaced(inflow=flux, check_inflow_speed=lambda *end: end[-1] == 1 and rule(*end))
 
 
 def by_mean_depth():
@@ -197,11 +197,10 @@ def wall_without(Q, inner, dry, inward, own):
     return own if Q else m.left_end(m.WALL, 0, inner, dry) if inward == 1 else m.right_end(m.WALL, 0, inner, dry)
 
 
-def exactly_fast(sides, call, which):
+def exactly_fast(kind, Q, inner, dry, place, which):
     """The exact quotient is checked, not the speed that is cut toward nought."""
-    for kind, Q, inner in ((call.left, call.left_q, sides[0][0]), (call.right, call.right_q, sides[-1][1])):
-        if kind == m.INFLOW and inner.h > call.dry and Q * m.UNIT > m.FASTEST * inner.h:
-            raise m.Refused(6, "inflow speed, stage %d" % which)
+    if kind == m.INFLOW and inner.h > dry and Q * m.UNIT > m.FASTEST * inner.h:
+        raise m.Refused(6, place, "inflow speed, stage %d" % which)
 
 
 # ---- Where and when Q stands
@@ -280,6 +279,80 @@ def columns_apart(more):
     return replaced(**read(lambda k, i, n: k * (n + more) + i))
 
 
+# ---- Where a refusal is
+
+def placed(place):
+    """The place is another: of all indices to which the refusing check applies, that check and the call."""
+    rule = m.step
+
+    def step(*call):
+        answer = rule(*call)
+        if answer[0] == "accepted":
+            return answer
+        check = places.met(call)
+        return (*answer[:2], place(check.indices, check, m.Call(len(call[3]), *call[2:])))
+    return replaced(step=step)
+
+
+def of_check(name, place):
+    """The place of those checks alone whose name begins so is another."""
+    return placed(lambda indices, check, call: place(indices, check, call) if check.name.startswith(name) else min(indices))
+
+
+def of_faces(left=0, right=0, right_q=0):
+    """A fast left side, a fast right side or a fast inflow at the right is said to be so much beyond its face."""
+    def place(indices, check, call):
+        inflows = places.fast_inflows(check.cells, call)
+        return min({k + left for k in places.fast_left_sides(check.cells, call)}
+                   | {k + right for k in places.fast_right_sides(check.cells, call)}
+                   | {k + right_q if k else k for k in inflows})
+    return of_check("face speed", place)
+
+
+def tried_first(some):
+    """Of the faces of 6 those that `some` gives of the cells and the call are tried before the others."""
+    return of_check("face speed", lambda indices, check, call: min(some(check.cells, call) or indices))
+
+
+def sides_alone(cells, call):
+    return places.fast_left_sides(cells, call) | places.fast_right_sides(cells, call)
+
+
+def ends_first(indices, check, call):
+    return min(indices & {0, call.n} or indices)
+
+
+def busiest(indices, check, call):
+    """The face with the greatest S, and of several the lowest."""
+    flux = m.fluxes(m.face_speeds(check.cells, call, 1), call._replace(dt=0), 1)
+    return max(indices, key=lambda k: (flux[k].S, -k))
+
+
+def by_stage_one(indices, check, call):
+    """In stage two the place is looked for where it was in stage one, and none is found."""
+    return 0 if check.name.endswith(("stage 2", "end state")) else min(indices)
+
+
+PLACES = {
+    "no place": before.E13,
+    "the highest": lambda: placed(lambda indices, check, call: max(indices)),
+    "one too high": lambda: placed(lambda indices, check, call: min(indices) + (check.number > 2)),
+    "n for 1 and 2": lambda: placed(lambda indices, check, call: call.n if check.number <= 2 else min(indices)),
+    "a bed value by its cell": lambda: of_check("bed", lambda indices, check, call: min(call.n - 1, min(indices))),
+    "Gauss points before faces": lambda: tried_first(places.fast_points),
+    "the cell of a fast side": lambda: of_faces(right=-1, right_q=-1),
+    "left of a fast right side": lambda: of_faces(right=-1),
+    "right of a fast left side": lambda: of_faces(left=1),
+    "a right Q at the last cell": lambda: of_faces(right_q=-1),
+    "sides before inflows": lambda: tried_first(sides_alone),
+    "inflows before sides": lambda: tried_first(places.fast_inflows),
+    "the cell left of a face": lambda: of_check("faces", lambda indices, check, call: max(0, min(indices) - 1)),
+    "the cell right of a face": lambda: of_check("faces", lambda indices, check, call: min(call.n - 1, min(indices))),
+    "ends before inner faces": lambda: of_check("faces", ends_first),
+    "the busiest face": lambda: of_check("faces", busiest),
+    "stage one's place in stage two": lambda: placed(by_stage_one),
+}
+
 COLUMNS = {
     "cell by cell": before.E7,
     "read cell by cell": lambda: replaced(**read(by_cells)),
@@ -342,8 +415,8 @@ READINGS = {
     "S without the inner speed": lambda: topped(lambda uQ, u, a: max(uQ, a)),
     "S of the greater speed": lambda: topped(lambda uQ, u, a: max(uQ, u) + a),
     "S of the speed of Q": lambda: topped(lambda uQ, u, a: uQ),
-    "no 6 of an inflow": lambda: replaced(check_inflow_speeds=before.none_to_check),
-    "6 of the exact speed": lambda: replaced(check_inflow_speeds=exactly_fast),
+    "no 6 of an inflow": lambda: replaced(check_inflow_speed=before.none_to_check),
+    "6 of the exact speed": lambda: replaced(check_inflow_speed=exactly_fast),
     "speed at every depth": lambda: inflow_speed(lambda Q, h, dry: speed_over(Q, h, 0)),
     "speed at the dry depth": lambda: inflow_speed(lambda Q, h, dry: speed_over(Q, h, dry - 1)),
     "4 in the speed of Q": lambda: inflow_speed(lambda Q, h, dry: speed_over(Q, h, 4)),
@@ -365,6 +438,7 @@ READINGS = {
     "kinds without end": lambda: kinds_to(2 ** 32),
     "no inflow": before.E4,
     **COLUMNS,
+    **PLACES,
 }
 
 
