@@ -5,9 +5,9 @@
  *
  * Each time step is a third of a cell, as bassoonsun.h advises, unless N is given, in 1/4096 s; with 500
  * a step is refused when the flood comes: the run says why, where and what to change, and the section is drawn
- * as it is then, with the place marked. With a file, the section is also written there as a picture. The exit status is 0 when every step was accepted, every
- * unit of water was found again and the picture, where one is asked for, was written; 1 when not; 2 when
- * the words above are not understood. */
+ * as it is then, with the place marked. With a file, the section is also written there as a picture. The exit
+ * status is 0 when every step was accepted, every unit of water was found again and the picture, where one is
+ * asked for, was written; 1 when not; 2 when the words above are not understood. */
 #include <bassoonsun.h>
 #include <ctype.h>
 #include <errno.h>

@@ -98,7 +98,8 @@ pub place-small : (l : Lent) (k p : ℕ) → Refused k p ≡ answer (stepOf l) �
 unfolding answer stepOf placed
 place-small l k p e = go (eqb (number l) 0) (ap placed e) (place-most l)
   where
-    go : (b : Bool) → p ≡ placed (answer (cond b (accepted (filled l) (crossed l 0) (crossed l (cellsOf l))) (refused (number l) (place l))))
+    go : (b : Bool)
+        → p ≡ placed (answer (cond b (accepted (filled l) (crossed l 0) (crossed l (cellsOf l))) (refused (number l) (place l))))
         → place l ≤ 1024 → p ≤ 1024
     go true e m = omega arith
     go false e m = omega arith

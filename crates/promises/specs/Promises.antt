@@ -161,8 +161,8 @@ pub accepted-rules : (l : Lent) (w v : ℤ) (old new : List ℤ) → Gives (step
 accepted-rules l w v old new g = let t = taken l w v old new g in (t .table, t .left, t .right)
 
 -- ---- what E13 changed: a refusal has a place
--- without it every call is answered as before: the same number, or the same table and volumes. What follows of earlier requests says so too,
--- since a refusal had no place then
+-- without it every call is answered as before: the same number, or the same table and volumes. What follows of other requests is said of the
+-- answer without it too, since a refusal had no place then
 pub number-as-before : (l : Lent) → unplaced (stepOf l) ≡ before-E13.stepOf l
 number-as-before l = without-place l
 

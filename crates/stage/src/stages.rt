@@ -35,29 +35,21 @@ pub fn stage(
     requires { ⌜ Numbers reach call ⌝ }
     requires { ⌜ Ranged (now bed) (reach .n) (seen (now t)) ⌝ }
     ensures { λ r. ⌜ ((ρ : ℕ → ℤ) →
-        StageSays (reachIn reach (now (bed .entry))) (callOn call ρ) (seen (now (t .entry))) (foundIn r) (now (f .exit)) (now (u .exit))) ⌝ }
+        StageSays (reachIn reach (now (bed .entry))) (callOn call ρ) (seen (now (t .entry))) (foundIn r)
+        (now (f .exit)) (now (u .exit))) ⌝ }
 {
     let n = reach.n;
-    let fast_face = face_speeds(t, bed, reach, call, d);
-    if fast_face <= n {
-        return Found {
-            no: 6,
-            place: fast_face,
-        };
+    let fast = face_speeds(t, bed, reach, call, d);
+    if fast <= n {
+        return Found { no: 6, place: fast };
     }
-    let fast_point = points(t, bed, reach, call, g);
-    if fast_point < n {
-        return Found {
-            no: 6,
-            place: fast_point,
-        };
+    let cell = points(t, bed, reach, call, g);
+    if cell < n {
+        return Found { no: 6, place: cell };
     }
-    let long_face = faces(d, reach, call, f);
-    if long_face <= n {
-        return Found {
-            no: 7,
-            place: long_face,
-        };
+    let long = faces(d, reach, call, f);
+    if long <= n {
+        return Found { no: 7, place: long };
     }
     update(t, bed, f, g, reach, call, u);
     Found { no: 0, place: 0 }

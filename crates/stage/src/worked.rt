@@ -53,33 +53,21 @@ fn ready(t: &[Cell], bed: &[i32], friction: &[u16], reach: Reach, call: Call) ->
         ≡ found (readyChecks (call .dry) (reach .n) (now (bed .entry)) (now (friction .entry)) (seen (now (t .entry)))) ⌝ }
 {
     let n = reach.n;
-    let bed_value = bad_bed(bed);
-    if bed_value <= n {
-        return Found {
-            no: 3,
-            place: bed_value,
-        };
+    let z = bad_bed(bed);
+    if z <= n {
+        return Found { no: 3, place: z };
     }
-    let rough = bad_friction(friction);
-    if rough < n {
-        return Found {
-            no: 4,
-            place: rough,
-        };
+    let f = bad_friction(friction);
+    if f < n {
+        return Found { no: 4, place: f };
     }
-    let outside = off(t, bed, reach);
-    if outside < n {
-        return Found {
-            no: 5,
-            place: outside,
-        };
+    let i = off(t, bed, reach);
+    if i < n {
+        return Found { no: 5, place: i };
     }
-    let too_fast = fast(t, bed, reach, call);
-    if too_fast < n {
-        return Found {
-            no: 6,
-            place: too_fast,
-        };
+    let j = fast(t, bed, reach, call);
+    if j < n {
+        return Found { no: 6, place: j };
     }
     Found { no: 0, place: 0 }
 }

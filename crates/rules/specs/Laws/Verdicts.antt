@@ -97,7 +97,8 @@ unfolding verdict spot some
 stops-at xs i p c e l = ap (at (checkAt xs i .no)) e
     ∙ go xs i c (lowest-below (checkAt xs i .at) (checkAt xs i .many) (subst (λ (m : ℕ). m < checkAt xs i .many) e l))
   where
-    go : (ys : List Check) (j : ℕ) → ClearTo ys j → applies (checkAt ys j) ≡ true → at (checkAt ys j .no) (lowestOf (checkAt ys j)) ≡ found ys
+    go : (ys : List Check) (j : ℕ) → ClearTo ys j → applies (checkAt ys j) ≡ true
+        → at (checkAt ys j .no) (lowestOf (checkAt ys j)) ≡ found ys
     go [] j c e = clash e
     go (y ∷ ys) zero c e = rw e
     go (y ∷ ys) (suc j) c e = rw (c .0) (go ys j (c .1) e)

@@ -16,7 +16,8 @@ use Rattle.rules.specs.Laws.Verdicts.{Found, found, stopped, went-on}
 use Rattle.rules.specs.Laws.Alike as alike
 use Rattle.rules.specs.Laws.Alike.{also, same-found}
 use Rattle.stage.specs.Rows.{faceRow, volumeOf, volumeAt}
-use Rattle.stage.specs.Says.{rangeCheck, halfChecks, Shows, FacesOf, StageDone, StageSays, JoinSays, EndSays, HalfSays, BothDone, StepSays}
+use Rattle.stage.specs.Says.{rangeCheck, halfChecks, Shows, FacesOf, StageDone, StageSays, JoinSays, EndSays, HalfSays}
+use Rattle.stage.specs.Says.{BothDone, StepSays}
 
 -- ---- a half, in a reach and a call of any kind
 module _ {r : Reach} {c : Call} (o : 0 < r .n) where
@@ -33,7 +34,8 @@ module _ {r : Reach} {c : Call} (o : 0 < r .n) where
     half-stops h {t} = record { found = stopped (stageChecks r c s) (rangeCheck r t) k found-one h; done = λ z. absurd (h z) }
 
     -- or go on and end with a state v that is finished to t
-    pub half-ends : k .no ≡ 0 → {v t : State} {m : Found} {b : List (List ℤ)} → Same r (finish r c v) t → EndSays r c v m b → HalfSays r c s t m f b
+    pub half-ends : k .no ≡ 0 → {v t : State} {m : Found} {b : List (List ℤ)} → Same r (finish r c v) t → EndSays r c v m b
+        → HalfSays r c s t m f b
     unfolding stageChecks
     half-ends z {v} {t} d end = record {
       found = end .found
@@ -69,7 +71,8 @@ module _ {r : Reach} {c : Call} (o : 0 < r .n) where
           ∙ (λ k. joinedCell (sa i l k) (after i l k) (across i (omega arith) k) (across (suc i) (omega arith) k)))
 
 -- ---- both
-module _ {r : Reach} {c : Call} (s : State) {k : Found} {f b : List (List ℤ)} (one : HalfSays r c (rubbed r c s) (stageOne r c s) k f b) where
+module _ {r : Reach} {c : Call} (s : State) {k : Found} {f b : List (List ℤ)}
+    (one : HalfSays r c (rubbed r c s) (stageOne r c s) k f b) where
   pub both-stop : (k .no ≡ 0 → ⊥) → {h y : List (List ℤ)} → StepSays r c s k f h y
   both-stop z = record {
     found = stopped (halfChecks r c (rubbed r c s) (stageOne r c s)) (halfChecks r c (stageOne r c s) (next r c s)) k (one .found) z;

@@ -1,4 +1,4 @@
--- The left end is tried beside the first cell's left side, then the sides of the cells, then the right end beside the last one's right side.
+-- The left end is tried beside the first cell's left side, then the cells' sides, then the right end beside the last one's right side.
 use mathlib.Core.Path.{_≡_, sym, _∙_, ap, subst}
 use mathlib.Core.List.{List, []}
 use Prim.Native.Nat.{suc, _+_}

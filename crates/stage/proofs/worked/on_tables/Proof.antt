@@ -24,7 +24,8 @@ module _ (w : tie.After-ready) where
   s = loaded .before .before .before
 
   lent : let p = s .args in
-      Loaded (p .reach) (p .call) (now (p .bed)) (now (p .friction)) (now (p .state)) (loaded .load .last .1 .1 .0) (foundIn (w .ready .result))
+      Loaded (p .reach) (p .call) (now (p .bed)) (now (p .friction)) (now (p .state)) (loaded .load .last .1 .1 .0)
+      (foundIn (w .ready .result))
   lent = record { cells = loaded .load .ensures .cells .below; found = w .ready .ensures }
 
 returns : tie.Need-returns

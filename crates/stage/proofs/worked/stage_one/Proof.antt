@@ -11,8 +11,8 @@ use Rattle.stage.proofs.worked.stage_one.Tie as tie
 
 stage-requires : tie.Need-stage-requires
 stage-requires c κs =
-    let s = c .before .before .before .before in
-    ((s .pre .0 .some, s .pre .0 .most, omega arith, omega arith, omega arith), ((omega arith, omega arith), (s .pre .0 .numbers, s .pre .1 .1)))
+    let s = c .before .before .before .before in let order = s .pre .0 in
+    ((order .some, order .most, omega arith, omega arith, omega arith), ((omega arith, omega arith), (order .numbers, s .pre .1 .1)))
 
 module _ (w : tie.After-stage) where
   abbrev start : tie.Start

@@ -10,8 +10,8 @@ use Rattle.stage.proofs.worked.stage_two.Tie as tie
 
 stage-requires : tie.Need-stage-requires
 stage-requires c κs =
-    let s = c .before .before .before .before .before in let ranged = s .pre .1 .1 .1 in
-    ((s .pre .0 .some, s .pre .0 .most, omega arith, omega arith, omega arith), ((omega arith, omega arith), (s .pre .0 .numbers, ranged .0 .1)))
+    let s = c .before .before .before .before .before in let order = s .pre .0 in let ranged = s .pre .1 .1 .1 in
+    ((order .some, order .most, omega arith, omega arith, omega arith), ((omega arith, omega arith), (order .numbers, ranged .0 .1)))
 
 module _ (w : tie.After-stage) where
   abbrev start : tie.Start
