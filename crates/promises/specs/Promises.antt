@@ -11,7 +11,7 @@ use mathlib.Core.Path.{_≡_, refl, sym, _∙_, ap, ap₂, subst}
 use mathlib.Core.Bool.{Bool, true, false}
 use mathlib.Core.List.{List}
 use mathlib.Core.Logic.{_⊎_, inl, inr, ⊎-elim}
-use Prim.Native.Nat.{ℕ, _+_, _*_, _≤_, _<_}
+use Prim.Native.Nat.{ℕ, _*_, _≤_, _<_}
 use lib.ListN.{length}
 use lib.IntN.{ℤ, pos, negℤ, _+ℤ_, _-ℤ_}
 use lib.Signed.{_≤ℤ_, _<ℤ_}
@@ -161,8 +161,8 @@ pub accepted-rules : (l : Lent) (w v : ℤ) (old new : List ℤ) → Gives (step
 accepted-rules l w v old new g = let t = taken l w v old new g in (t .table, t .left, t .right)
 
 -- ---- what E13 changed: a refusal has a place
--- without it every call is answered as before: the same number, or the same table and volumes. What follows of other requests is said of the
--- answer without it too, since a refusal had no place then
+-- without it every call is answered as before: the same number, or the same table and volumes. What follows of other requests is said of
+-- the answer without it too, since a refusal had no place then
 pub number-as-before : (l : Lent) → unplaced (stepOf l) ≡ before-E13.stepOf l
 number-as-before l = without-place l
 

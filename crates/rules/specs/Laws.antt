@@ -6,8 +6,8 @@ pub mod Face
 pub mod Sizes
 pub mod Shown
 pub mod Ends
-pub mod EndChecks
 pub mod FastFaces
+pub mod EndChecks
 pub mod EndSizes
 pub mod Inside
 pub mod Accept

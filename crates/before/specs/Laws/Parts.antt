@@ -21,7 +21,7 @@ use Rattle.rules.specs.Ends.{leftEnd, rightEnd}
 use Rattle.rules.specs.Reach.{Reach, Call, State, Bed, under, sideL, sideR}
 use Rattle.rules.specs.Stage.{atLeft, atRight, faceAt, update, stage}
 use Rattle.rules.specs.Step.{rubbed, stageOne, half, carry, joinedCell, joined, next}
-use Rattle.rules.specs.Refusals.{badCall, badBed, badRough, off, fastFriction, fastSide, fastInflow, fastFace, fastGauss}
+use Rattle.rules.specs.Refusals.{badCall, badBed, badRough, off, fastFriction, fastSide, fastInflow, fastFace}
 use Rattle.rules.specs.Refusals.{tooLong, Check, each, ofCall, verdict, stageChecks, early, checks, refusal}
 use Rattle.rules.specs.Lent.{Lent, cellsOf, reachOf, callOf, misfits}
 use Rattle.rules.specs.Laws.Shown.{last, at-same}

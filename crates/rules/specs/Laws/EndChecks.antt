@@ -1,21 +1,21 @@
 -- What the checks leave of an end: by check 2 a kind from 0 to 2, and Q within its list, nought at an end of another kind; by the check of
 -- the face speeds an inflow that is not too fast.
 -- Assumes nothing.
-use mathlib.Core.Path.{_≡_}
-use mathlib.Core.Bool.{false, cond}
+use mathlib.Core.Path.{_≡_, sym, _∙_}
+use mathlib.Core.Bool.{false}
 use Prim.Native.Nat.{ℕ, suc, _-_, _≤_, _<_}
 use native.Mathlib.Omega.{arith}
-use borrow.Author.Tests.{ltb-false, eq-eqb, ne-eqb}
+use borrow.Author.Tests.{ltb-false, ne-eqb}
 use lib.Dec.{eqb, eqb→eq}
 use Rattle.whole.specs.Flags.{held, not-f, or-l, or-r}
 use Rattle.tables.specs.Some.{some, some-none}
 use Rattle.rules.specs.Limits.{largestInflow}
-use Rattle.rules.specs.Face.{Side}
 use Rattle.rules.specs.Ends.{End, inflowKind}
 use Rattle.rules.specs.Reach.{Reach, Call, State}
 use Rattle.rules.specs.Stage.{atLeft, atRight}
-use Rattle.rules.specs.Refusals.{endTests, badEnd, fastSide, fastInflow, fastFace}
+use Rattle.rules.specs.Refusals.{endTests, badEnd, fastInflow, fastFace}
 use Rattle.rules.specs.Laws.Accept.{flagAt, none-at}
+use Rattle.rules.specs.Laws.FastFaces.{leftFast, rightFast, inflowLeft, inflowRight, last-face}
 
 -- ---- check 2
 module _ (e : End) (ok : badEnd e ≡ false) where
@@ -39,21 +39,7 @@ pub record SlowInflows (r : Reach) (c : Call) (s : State) : Type 0 where
 
 pub slow-inflows : (r : Reach) (c : Call) (s : State) → 0 < r .n → some (fastFace r c s) (suc (r .n)) ≡ false → SlowInflows r c s
 unfolding fastFace
-slow-inflows r c s o ok = record { left = or-l (fastInflow (c .dry) (c .left) first) (fastSide first) (fails 0 (omega arith)); right = end }
-  where
-    fails : (i : ℕ) → i < suc (r .n) → fastFace r c s i ≡ false
-    fails = some-none (fastFace r c s) (suc (r .n)) ok
-
-    m : ℕ
-    m = r .n - 1
-
-    first : Side
-    first = atLeft r c s 0
-
-    last : Side
-    last = atRight r c s m
-
-    end : fastInflow (c .dry) (c .right) last ≡ false
-    end = rw (eq-eqb (suc m) (r .n) (omega arith)) at
-        (or-r (fastSide last) (cond (eqb (suc m) (r .n)) (fastInflow (c .dry) (c .right) last) (fastSide (atLeft r c s (suc m))))
-        (fails (suc m) (omega arith)))
+slow-inflows r c s o ok = let fails = some-none (fastFace r c s) (suc (r .n)) ok in record {
+  left = or-l (inflowLeft r c s) (leftFast r c s 0) (fails 0 (omega arith));
+  right = or-r (rightFast r c s (r .n - 1)) (inflowRight r c s) (sym (last-face r c s o) ∙ fails (r .n) (omega arith));
+}

@@ -28,6 +28,12 @@ module _ (r : Reach) (c : Call) (s : State) where
   abbrev pub inflowRight : Bool
   inflowRight = fastInflow (c .dry) (c .right) (atRight r c s (r .n - 1))
 
+  -- the last face, behind the last cell
+  pub last-face : 0 < r .n → fastFace r c s (r .n) ≡ (rightFast (r .n - 1) || inflowRight)
+  unfolding fastFace
+  last-face o = let last = r .n - 1 in let e : suc last ≡ r .n = omega arith in
+      subst (λ (j : ℕ). fastFace r c s j ≡ (rightFast last || inflowRight)) e (rw (eq-eqb (suc last) (r .n) e))
+
   -- no cell below i has a fast side
   abbrev pub SlowBelow : ℕ → Type 0
   SlowBelow i = (k : ℕ) → k < i → (leftFast k ≡ false) × (rightFast k ≡ false)
@@ -69,19 +75,10 @@ module _ (r : Reach) (c : Call) (s : State) where
 
     -- no cell has a fast side
     module _ (o : 0 < r .n) (w : SlowBelow (r .n)) where
-      abbrev last : ℕ
-      last = r .n - 1
-
-      -- the last face, behind the last cell
-      last-face : fastFace r c s (r .n) ≡ (rightFast last || inflowRight)
-      unfolding fastFace
-      last-face = let e : suc last ≡ r .n = omega arith in
-          subst (λ (j : ℕ). fastFace r c s j ≡ (rightFast last || inflowRight)) e (rw (eq-eqb (suc last) (r .n) e))
-
       pub right-inflow : inflowRight ≡ true → Lowest (r .n)
       right-inflow f = record {
         below = omega arith;
-        has = last-face ∙ rw f (or-true (rightFast last));
+        has = last-face o ∙ rw f (or-true (rightFast (r .n - 1)));
         under = slow-faces (r .n) (omega arith) w;
       }
 
@@ -89,5 +86,5 @@ module _ (r : Reach) (c : Call) (s : State) where
       no-face f = none-some (fastFace r c s) (suc (r .n)) (λ j l. at j l (ℕ-discrete j (r .n)))
         where
           at : (j : ℕ) → j < suc (r .n) → Dec (j ≡ r .n) → fastFace r c s j ≡ false
-          at j l (yes d) = ap (fastFace r c s) d ∙ last-face ∙ rw (w last (omega arith) .1, f)
+          at j l (yes d) = ap (fastFace r c s) d ∙ last-face o ∙ rw (w (r .n - 1) (omega arith) .1, f)
           at j l (no d) = slow-faces (r .n) (omega arith) w j (omega (arith, d))

@@ -3,7 +3,7 @@
 use mathlib.Core.Path.{_≡_, refl, ap, subst}
 use mathlib.Core.Bool.{Bool, true, false, cond}
 use mathlib.Core.List.{List, [], _∷_}
-use Prim.Native.Nat.{ℕ, suc, _≤_, _<_}
+use Prim.Native.Nat.{ℕ, suc, _≤_}
 use native.Mathlib.Omega.{arith}
 use borrow.Author.Tests.{eq-eqb}
 use lib.Dec.{T, eqb, leb, leb→le}
@@ -33,15 +33,17 @@ unfolding checks early stageChecks
 checks-within r c s = let face : suc (r .n) ≤ suc (r .n) = omega arith in let cell : r .n ≤ suc (r .n) = omega arith in
     (omega arith, (face, (cell, (cell, (cell, (face, (cell, (face, (cell, (face, (cell, (face, (cell, tt)))))))))))))
 
+-- a 1 has the place 0
+first-place : (a : Lent) → misfits a ≡ true → 0 ≡ place a
+first-place a e = ap (λ (k : Found). k .place) (first-found a e)
+
 pub place-within : (a : Lent) → place a ≤ cellsOf a
-place-within a = by (misfits a)
-    (λ e. let z : 0 ≡ place a = ap (λ (k : Found). k .place) (first-found a e) in omega arith)
+place-within a = by (misfits a) (λ e. let z = first-place a e in omega arith)
     (λ e. subst (λ (m : ℕ). m ≤ cellsOf a) (ap (λ (k : Found). k .place) (later-found a e))
     (spot-within (cellsOf a) (checks (reachOf a) (callOf a) (stateOf a)) (checks-within (reachOf a) (callOf a) (stateOf a))))
 
 pub place-most : (a : Lent) → place a ≤ 1024
-place-most a = by (misfits a)
-    (λ e. let z : 0 ≡ place a = ap (λ (k : Found). k .place) (first-found a e) in omega arith)
+place-most a = by (misfits a) (λ e. let z = first-place a e in omega arith)
     (λ e. let w = place-within a in
     let f = fitted (length (a .now)) (a .room) (length (a .bed)) (cellsOf a) e .most in omega arith)
 

@@ -7,7 +7,7 @@ use borrow.Author.Needs.{needs}
 use denote.Ref.{now}
 use lib.ListN.{getD}
 use lib.IntN.{ℤ, pos}
-use Rattle.whole.specs.Machine.{back, back64}
+use Rattle.whole.specs.Machine.{back, back64, rd}
 use Rattle.tables.specs.Filling.{Filling, fill-none, fill-more, fill-stops, fill-ends}
 use Rattle.tables.specs.Cells.{seen}
 use Rattle.rules.specs.Refusals.{fastPoints}
@@ -53,19 +53,23 @@ module _ (f : tie.After-either-fast Inv-loop μ-loop) where
   fast = let y = f .before in let x = y .before in
       sym (rw (back (x .either-fast-arg .given), back (y .either-fast-arg2 .given), row pointed) at (f .either-fast .ensures))
 
+  momentum : let l = turn .before in let s = l .before in
+      rd (getD (pointed .points-of .result) 2 (pos 0))
+      ≡ momentumAt (s .args .call .dry) (now (s .args .bed)) (seen (now (s .args .t))) (l .loop .i)
+  unfolding pointRow
+  momentum = back64 (f .before .before .before .g .given) (ap (λ (r : List ℤ). getD r 2 (pos 0)) (row pointed))
+
 returns : tie.Need-returns Inv-loop μ-loop
-unfolding pointRow
 returns c =
     let f = c .before in let e = turn f in let l = e .before in let s = l .before in
     fill-stops (pos 0) _ _ _ _ (l .loop .g) (l .loop .i) _ (s .pre .0 .1) (e .loop-test .taken) (l .loop .inv)
-    (back64 (f .before .before .before .g .given) (ap (λ (r : List ℤ). getD r 2 (pos 0)) (row (pointed f)))) (fast f ∙ c .if1 .taken)
+    (momentum f) (fast f ∙ c .if1 .taken)
 
 loop-again : tie.Need-loop-again Inv-loop μ-loop
-unfolding pointRow
 loop-again c =
     let f = c .before in let e = turn f in let l = e .before in let s = l .before in
     fill-more (pos 0) _ _ _ _ (l .loop .g) (l .loop .i) _ (s .pre .0 .1) (e .loop-test .taken) (l .loop .inv)
-    (back64 (f .before .before .before .g .given) (ap (λ (r : List ℤ). getD r 2 (pos 0)) (row (pointed f)))) (fast f ∙ c .if1 .left)
+    (momentum f) (fast f ∙ c .if1 .left)
 
 returns-2 : tie.Need-returns-2 Inv-loop μ-loop
 returns-2 c = let l = c .before .loop in fill-ends (pos 0) _ _ _ _ (l .g) (l .i) (omega arith) (l .inv)
