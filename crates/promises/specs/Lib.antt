@@ -2,4 +2,5 @@
 pub mod Seen
 pub mod First
 pub mod Outcomes
+pub mod OtherEnd
 pub mod Promises

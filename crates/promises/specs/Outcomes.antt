@@ -9,7 +9,7 @@ use native.Mathlib.Omega.{arith}
 use borrow.Author.Tests.{eq-eqb, ne-eqb, eqb-false}
 use lib.Dec.{eqb, eqb→eq}
 use lib.ListN.{length, getD}
-use lib.IntN.{ℤ, pos, negℤ, _+ℤ_}
+use lib.IntN.{ℤ, pos, _+ℤ_}
 use lib.Signed.{_≤ℤ_}
 use Rattle.whole.specs.Flags.{by, held, clash}
 use Rattle.tables.specs.Cells.{Cell, cellIn, tableOf, length-table, cellIn-table}
@@ -31,15 +31,15 @@ use Rattle.rules.specs.Laws.Positive.{Nonneg, Wet}
 use Rattle.rules.specs.Laws.Balance as balance
 use Rattle.rules.specs.Laws.Face.{lawful}
 use Rattle.rules.specs.Laws.EndChecks.{kind-in, inflow-in, inflow-only}
-use Rattle.rules.specs.Laws.EndVolumes.{left-shut, right-shut, left-brought, right-brought}
+use Rattle.rules.specs.Laws.EndVolumes.{left-shut, left-brought}
 use Rattle.rules.specs.Laws.Runs.{Run, stop, step, accepted-ends, Depths, depths, TooLarge, Large}
 use Rattle.before.specs.Laws.E6 as before-E6
-use Rattle.step.specs.Gives.{lend, code, placed, atLeft, atRight, Gives, answer, leaves}
+use Rattle.step.specs.Gives.{code, placed, atLeft, atRight, Gives, answer, leaves}
 use Rattle.step.specs.declared.Answer.{Answer}
 use Rattle.step.specs.declared.Answer.the-variants.{Refused, Accepted}
 use Rattle.promises.specs.Seen.{at, level, levelSlope, discharge, dischargeSlope, meanBed, bedSlope, meanDepth, leftDepth}
 use Rattle.promises.specs.Seen.{rightDepth, NoneBelow, Excess, NoShortfall, total, water, Listed, brought, Lake}
-use Rattle.promises.specs.Seen.{Called, Calls, none, more}
+use Rattle.promises.specs.Seen.{Called, lent, Calls, none, more}
 
 -- ---- an outcome by its number
 -- all the checks of a call, in their order
@@ -206,33 +206,21 @@ written-calm l {new} e i m d =
     (ap (λ (x : Cell). x .q0) is ∙ calm .0, ap (λ (x : Cell). x .q1) is ∙ calm .1)
 
 -- ---- the ends of an accepted call
-module _ (l : Lent) (accepted : number l ≡ 0) where
-  listed : (e : End) → badEnd e ≡ false → Listed e
-  listed e b = record { kind = kind-in e b; q = inflow-in e b; other = inflow-only e b }
+pub both-listed : (l : Lent) → number l ≡ 0 → Listed (l .left) × Listed (l .right)
+both-listed l e = let p = accepted-ends (reachOf l) (callOf l) (stateOf l) (unrefused l e) in
+    (listed (l .left) (p .0), listed (l .right) (p .1))
+  where
+    listed : (e : End) → badEnd e ≡ false → Listed e
+    listed e b = record { kind = kind-in e b; q = inflow-in e b; other = inflow-only e b }
 
-  pub both-listed : Listed (l .left) × Listed (l .right)
-  both-listed = let p = accepted-ends (reachOf l) (callOf l) (stateOf l) (unrefused l accepted) in
-      (listed (l .left) (p .0), listed (l .right) (p .1))
+-- nothing crosses a wall, and an inflow brings in what is known before the step
+pub wall-left : (l : Lent) → l .left .kind ≡ 0 → crossed l 0 ≡ pos 0
+unfolding crossed
+wall-left l e = left-shut (reachOf l) lawful (callOf l) e (stateOf l)
 
-  some-cell : 0 < cellsOf l
-  some-cell = fitted (length (l .now)) (l .room) (length (l .bed)) (cellsOf l) (fits l accepted) .some
-
-  -- nothing crosses a wall, and an inflow brings in what is known before the step
-  pub wall-left : l .left .kind ≡ 0 → crossed l 0 ≡ pos 0
-  unfolding crossed
-  wall-left e = left-shut (reachOf l) lawful (callOf l) e (stateOf l)
-
-  pub wall-right : l .right .kind ≡ 0 → crossed l (cellsOf l) ≡ pos 0
-  unfolding crossed
-  wall-right e = right-shut (reachOf l) lawful (callOf l) some-cell e (stateOf l)
-
-  pub inflow-left : l .left .kind ≡ inflowKind → crossed l 0 ≡ brought l (l .left)
-  unfolding crossed brought
-  inflow-left e = left-brought (reachOf l) lawful (callOf l) e (stateOf l)
-
-  pub inflow-right : l .right .kind ≡ inflowKind → crossed l (cellsOf l) ≡ negℤ (brought l (l .right))
-  unfolding crossed brought
-  inflow-right e = right-brought (reachOf l) lawful (callOf l) some-cell e (stateOf l)
+pub inflow-left : (l : Lent) → l .left .kind ≡ inflowKind → crossed l 0 ≡ brought l (l .left)
+unfolding crossed brought
+inflow-left l e = left-brought (reachOf l) lawful (callOf l) e (stateOf l)
 
 -- ---- an accepted call as a step of the rules
 pub record One (bed : List ℤ) (n dx : ℕ) (c : Call) (s m : List ℤ) (w v : ℤ) : Type 0 where
@@ -244,13 +232,9 @@ pub record One (bed : List ℤ) (n dx : ℕ) (c : Call) (s m : List ℤ) (w v : 
   pub left : w ≡ carry (reachAt bed n dx) c (cellIn n s) 0
   pub right : v ≡ carry (reachAt bed n dx) c (cellIn n s) n
 
-module _ {bed : List ℤ} {n dx : ℕ} {s : List ℤ} {a : Answer} {old m : List ℤ} (c : Called bed n dx s a old m) where
-  -- what was lent to a call, and what it may change
-  abbrev pub lent : Lent
-  lent = lend s (length old) bed (c .friction) dx (c .dt) (c .jump) (c .dry) (c .left) (c .right)
-
-  abbrev pub call : Call
-  call = callOf lent
+-- what it may change
+abbrev pub call : {bed : List ℤ} {n dx : ℕ} {s : List ℤ} {a : Answer} {old m : List ℤ} → Called bed n dx s a old m → Call
+call c = callOf (lent c)
 
 pub one : (bed : List ℤ) (n dx : ℕ) (s : List ℤ) (w v : ℤ) (old m : List ℤ) (c : Called bed n dx s (Accepted w v) old m)
     → One bed n dx (call c) s m w v

@@ -13,7 +13,7 @@ use mathlib.Core.List.{List}
 use mathlib.Core.Logic.{_⊎_, inl, inr, ⊎-elim}
 use Prim.Native.Nat.{ℕ, _*_, _≤_, _<_}
 use lib.ListN.{length}
-use lib.IntN.{ℤ, pos, negℤ, _+ℤ_, _-ℤ_}
+use lib.IntN.{ℤ, pos, negℤ, negℤ-negℤ, _+ℤ_, _-ℤ_}
 use lib.Signed.{_≤ℤ_, _<ℤ_}
 use lib.Ieee.{Float}
 use Rattle.rules.specs.Face.{Side}
@@ -36,15 +36,18 @@ use Rattle.before.specs.Laws.E13.{without-place}
 use Rattle.before.specs.E7 as before-E7
 use Rattle.before.specs.E7.{ColumnsOfOne, lentInColumns, lentInCells, givenInColumns}
 use Rattle.before.specs.Laws.E7.{of-one, in-columns, from-cells}
-use Rattle.rules.specs.Laws.Lengths.{foundOf, unrefused}
+use Rattle.rules.specs.Laws.Lengths.{fitted, foundOf, unrefused}
 use Rattle.rules.specs.Laws.Within.{place-within}
 use Rattle.rules.specs.Step.{rubbed, stageOne, next}
 use Rattle.rules.specs.Refusals.{checks, early, stageChecks}
-use Rattle.rules.specs.Lent.{Lent, cellsOf, reachOf, callOf, stateOf, place, filled, crossed, stepOf}
+use Rattle.rules.specs.Lent.{Lent, cellsOf, reachOf, callOf, stateOf, misfits, place, filled, crossed, stepOf}
 use Rattle.rules.specs.Laws.Accept.{Clear}
 use Rattle.rules.specs.Laws.Verdicts.{at, cleared}
 use Rattle.rules.specs.Laws.Face.{lawful}
 use Rattle.rules.specs.Laws.Runs.{Large, depths, eight, accepted-depths, run-balanced, run-wet, accepted-rest}
+use Rattle.survey.specs.Turned.{turnedTable, turnedCall}
+use Rattle.survey.specs.Laws.Twice.{call-twice}
+use Rattle.survey.specs.Laws.Lent.{number-turned}
 use Rattle.speeds.specs.Given.{speedGiven, waveGiven, cubeGiven}
 use Rattle.face.specs.Given.{faceGiven}
 use Rattle.face.specs.Answers.{flux}
@@ -71,12 +74,13 @@ use Rattle.step.specs.declared.Answer.{Answer}
 use Rattle.step.specs.declared.Answer.the-variants.{Refused, Accepted}
 use Rattle.promises.specs.Seen.{discharge, dischargeSlope, meanDepth, NoneBelow, Excess, stageTable, frictionTable}
 use Rattle.promises.specs.Seen.{correctedStageTable, NoShortfall, water, Listed, brought, Lake}
-use Rattle.promises.specs.Seen.{Called, Calls, none, more, NoInflow}
+use Rattle.promises.specs.Seen.{Called, lent, Calls, none, more, NoInflow, Words, Turnable, FromOtherEnd}
 use Rattle.promises.specs.First.{FirstMet, first-verdict, verdict-first, first-listed, FirstMetAt, first-of, first-found, found-first}
 use Rattle.promises.specs.Outcomes.{allChecks, found-is, number-is, refuses-with, refused-number, refused-some, refused-place}
 use Rattle.promises.specs.Outcomes.{whole-place}
-use Rattle.promises.specs.Outcomes.{refused-table, refused-later, Taken, taken, reachAt, lent, call, one, none-below}
-use Rattle.promises.specs.Outcomes.{both-listed, wall-left, wall-right, inflow-left, inflow-right}
+use Rattle.promises.specs.Outcomes.{refused-table, refused-later, Taken, taken, reachAt, call, one, none-below}
+use Rattle.promises.specs.Outcomes.{both-listed, wall-left, inflow-left}
+use Rattle.promises.specs.OtherEnd.{other-gives, other-run, turned-words}
 use Rattle.promises.specs.Outcomes.{none-below-table, none-short-table, excess-table, wet, water-is, at-rest, written-calm, run}
 
 -- ---- demand 1: one answer, one content of the table
@@ -220,22 +224,28 @@ module _ (l : Lent) (w v : ℤ) (old new : List ℤ) (g : Gives (stepOf l) (Acce
   abbrev went : Taken l w v new
   went = taken l w v old new g
 
+  -- what crosses the right end is what crosses the left one of the call turned round
+  right-is : {x : ℤ} → crossed (turnedCall l) 0 ≡ x → v ≡ negℤ x
+  right-is e = let there = taken (turnedCall l) (negℤ v) (negℤ w) old (turnedTable (cellsOf l) new) (other-gives l w v old new g old) in
+      sym (negℤ-negℤ v) ∙ ap negℤ (there .left ∙ e)
+
   -- the ends of an accepted call are in their lists, and Q is nought at an end of another kind
   pub ends-listed : Listed (l .left) × Listed (l .right)
   ends-listed = both-listed l (went .number)
 
   -- what an inflow brought in is known before the step: Q·dt/dx, whatever the state; nothing crosses a wall
   pub left-inflow : l .left .kind ≡ 2 → w ≡ brought l (l .left)
-  left-inflow e = went .left ∙ inflow-left l (went .number) e
+  left-inflow e = went .left ∙ inflow-left l e
 
   pub right-inflow : l .right .kind ≡ 2 → v ≡ negℤ (brought l (l .right))
-  right-inflow e = went .right ∙ inflow-right l (went .number) e
+  unfolding brought
+  right-inflow e = right-is (inflow-left (turnedCall l) e)
 
   pub left-wall : l .left .kind ≡ 0 → w ≡ pos 0
-  left-wall e = went .left ∙ wall-left l (went .number) e
+  left-wall e = went .left ∙ wall-left l e
 
   pub right-wall : l .right .kind ≡ 0 → v ≡ pos 0
-  right-wall e = went .right ∙ wall-right l (went .number) e
+  right-wall e = right-is (wall-left (turnedCall l) e)
 
 -- ---- what E6 took out: where a level at a face fell short of the bed, the shortfall was taken from both
 -- no level does: not in the state after friction, where a call passes checks 1 to 5, nor in the finished stage one, where it passes its 8;
@@ -310,3 +320,31 @@ module _ (bed : List ℤ) (n dx : ℕ) where
       let e : m ≡ s = table-is n m (cellIn n s) (o .size) (λ i l. o .same i l ∙ z .0 i l) ∙ table-cells n s (o .now) in
       let rest = lake-rests q (d .2) (subst (λ (x : List ℤ). Lake bed x n) (sym e) k) in
       (rest .0 ∙ e, ap₂ _+ℤ_ (o .left ∙ z .1) (rest .1), ap₂ _+ℤ_ (o .right ∙ z .2) (rest .2))
+
+-- ---- E9: the same reach, surveyed from the other end
+-- a call turned round has its cells, bed and friction from the last to the first, its level slopes and discharge means with their signs
+-- changed, and its ends exchanged; turned round twice, one whose lengths fit is as it was,
+pub turned-twice : (l : Lent) → misfits l ≡ false → turnedCall (turnedCall l) ≡ l
+turned-twice l fit = call-twice l fit
+
+-- and it can be lent, as its numbers are i32 too, where no level slope and no discharge mean is -2^31
+pub turned-lendable : (l : Lent) → misfits l ≡ false → Words (l .now) → Turnable (l .now) (cellsOf l) → Words (turnedCall l .now)
+turned-lendable l fit words ok = let size = fitted (length (l .now)) (l .room) (length (l .bed)) (cellsOf l) fit .now in
+    turned-words (cellsOf l) (l .now) size words ok
+
+-- it is refused with the same number, at the place that is the lowest from there;
+pub turned-refused : (l : Lent) → misfits l ≡ false → (k p : ℕ) (old new : List ℤ) → Gives (stepOf l) (Refused k p) old new
+    → (a : Answer) (old′ new′ : List ℤ) → Gives (stepOf (turnedCall l)) a old′ new′ → a ≡ Refused k (place (turnedCall l))
+turned-refused l fit k p old new g a old′ new′ g′ =
+    refuses-with (turnedCall l) k a old′ new′ (number-turned l fit ∙ refused-number l k p old new g) (refused-some l k p old new g) g′
+
+-- or it is accepted with the turned table, and the volumes exchanged with their signs changed;
+pub turned-accepted : (l : Lent) (w v : ℤ) (old new : List ℤ) → Gives (stepOf l) (Accepted w v) old new
+    → (a : Answer) (old′ new′ : List ℤ) → Gives (stepOf (turnedCall l)) a old′ new′
+    → (a ≡ Accepted (negℤ v) (negℤ w)) × (new′ ≡ turnedTable (cellsOf l) new)
+turned-accepted l w v old new g a old′ new′ g′ =
+    let there = other-gives l w v old new g old′ in (one-answer g′ there, one-table g′ there)
+
+-- and so it is over any number of accepted calls, each turned round
+pub turned-calls : {bed : List ℤ} {n dx : ℕ} {s t : List ℤ} {a b : ℤ} (k : Calls bed n dx s t a b) → FromOtherEnd k
+turned-calls k = other-run k

@@ -1,10 +1,10 @@
 -- What a caller sees: the depths and the water of the lent tables, and calls one after another.
 use mathlib.Core.Path.{_≡_}
-use mathlib.Core.List.{List}
+use mathlib.Core.List.{List, reverse}
 use mathlib.Core.Logic.{_⊎_}
 use Prim.Native.Nat.{ℕ, zero, suc, _*_, _≤_, _<_}
 use lib.ListN.{length, getD}
-use lib.IntN.{ℤ, pos, _+ℤ_, _-ℤ_, _*ℤ_}
+use lib.IntN.{ℤ, pos, negsuc, negℤ, _+ℤ_, _-ℤ_, _*ℤ_}
 use lib.Signed.{quotZ, _≤ℤ_, _<ℤ_}
 use Rattle.whole.specs.Choice.{sizeZ}
 use Rattle.tables.specs.Columns.{inColumn}
@@ -15,6 +15,7 @@ use Rattle.rules.specs.Step.{rubbed, stageOne}
 use Rattle.rules.specs.Lent.{Lent, cellsOf, reachOf, callOf, stateOf, stepOf}
 use Rattle.before.specs.E6 as before-E6
 use Rattle.before.specs.E7 as before-E7
+use Rattle.survey.specs.Turned.{turnedTable, turnedCall}
 use Rattle.step.specs.Gives.{lend, Gives}
 use Rattle.step.specs.declared.Answer.{Answer}
 use Rattle.step.specs.declared.Answer.the-variants.{Accepted}
@@ -124,6 +125,11 @@ pub record Called (bed : List ℤ) (n dx : ℕ) (now : List ℤ) (a : Answer) (o
   pub right : End
   pub gave : Gives (stepOf (lend now (length old) bed friction dx dt jump dry left right)) a old new
 
+-- what was lent to it
+module _ {bed : List ℤ} {n dx : ℕ} {s : List ℤ} {a : Answer} {old m : List ℤ} (c : Called bed n dx s a old m) where
+  abbrev pub lent : Lent
+  lent = lend s (length old) bed (c .friction) dx (c .dt) (c .jump) (c .dry) (c .left) (c .right)
+
 -- any number of accepted calls, each lent what the one before wrote, and with a friction, a time step, a jump, a dry depth and ends of its
 -- own; a and b: the sums of W at face 0 and at face n
 pub data Calls (bed : List ℤ) (n dx : ℕ) : List ℤ → List ℤ → ℤ → ℤ → Type 0 where
@@ -135,3 +141,29 @@ pub data Calls (bed : List ℤ) (n dx : ℕ) : List ℤ → List ℤ → ℤ →
 abbrev pub NoInflow : {bed : List ℤ} {n dx : ℕ} {s t : List ℤ} {a b : ℤ} → Calls bed n dx s t a b → Type 0
 NoInflow (none t) = Unit {0}
 NoInflow (more s m t old w v a b c k) = (c .left .q ≡ 0) × (c .right .q ≡ 0) × NoInflow k
+
+-- ---- the other end
+-- every number of a table is an i32, and so are all that change their sign when it is turned round
+abbrev pub Words : List ℤ → Type 0
+Words t = (j : ℕ) → j < length t → (negsuc 2147483647 ≤ℤ at t j) × (at t j ≤ℤ pos 2147483647)
+
+abbrev pub Turnable : List ℤ → ℕ → Type 0
+Turnable t n = (i : ℕ) → i < n → (negsuc 2147483647 <ℤ levelSlope t n i) × (negsuc 2147483647 <ℤ discharge t n i)
+
+-- as many calls as others, and each of them the turned one
+abbrev pub EachTurned : {bed bed′ : List ℤ} {n dx : ℕ} {s t s′ t′ : List ℤ} {a b a′ b′ : ℤ}
+    → Calls bed n dx s t a b → Calls bed′ n dx s′ t′ a′ b′ → Type 0
+EachTurned (none t) (none t′) = Unit {0}
+EachTurned (none t) (more s′ m′ t′ old′ w′ v′ a′ b′ c′ k′) = ⊥
+EachTurned (more s m t old w v a b c k) (none t′) = ⊥
+EachTurned (more s m t old w v a b c k) (more s′ m′ t′ old′ w′ v′ a′ b′ c′ k′) = (lent c′ ≡ turnedCall (lent c)) × EachTurned k k′
+
+-- those calls are accepted too: they lead from the turned table to the turned table, and what crosses either end is what crossed the other,
+-- with its sign changed
+pub record FromOtherEnd {bed : List ℤ} {n dx : ℕ} {s t : List ℤ} {a b : ℤ} (k : Calls bed n dx s t a b) : Type 0 where
+  pub left : ℤ
+  pub right : ℤ
+  pub calls : Calls (reverse bed) n dx (turnedTable n s) (turnedTable n t) left right
+  pub each : EachTurned k calls
+  pub left-is : left ≡ negℤ b
+  pub right-is : right ≡ negℤ a

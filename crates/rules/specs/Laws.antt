@@ -21,6 +21,7 @@ pub mod Positive
 pub mod Balance
 pub mod EvenBed
 pub mod Rest
+pub mod Minmod
 pub mod Limiter
 pub mod DryDepth
 pub mod Runs

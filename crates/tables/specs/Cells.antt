@@ -8,7 +8,7 @@ use lib.Dec.{lit<}
 use lib.ListN.{length, getD}
 use lib.IntN.{ℤ, pos}
 use Rattle.tables.specs.Rows.{row, Written}
-use Rattle.tables.specs.Columns.{columns, column, inColumn, length-columns, columns-show, columns-are}
+use Rattle.tables.specs.Columns.{columns, column, inColumn, length-columns, columns-show, columns-are, columns-each}
 use Rattle.tables.specs.Columns.{putFrom, length-put, Stores, stores-more}
 
 -- the working state of one cell: level mean, level slope, discharge mean, discharge slope
@@ -85,6 +85,14 @@ module _ (n : ℕ) where
   -- states that agree below n have one table
   pub table-same : (s t : ℕ → Cell) → ((k : ℕ) → k < n → s k ≡ t k) → tableOf n s ≡ tableOf n t
   table-same s t h = table-is (tableOf n s) t (length-table s) (λ k l. cellIn-table s k l ∙ h k l)
+
+  -- what is so of each number of its cells is so of each of a table
+  pub table-each : (s : ℕ → Cell) (P : ℤ → Type 0)
+      → ((i : ℕ) → i < n → P (s i .e0) × P (s i .e1) × P (s i .q0) × P (s i .q1))
+      → (j : ℕ) → j < 4 * n → P (getD (tableOf n s) j (pos 0))
+  unfolding tableOf
+  table-each s P h j l = columns-each n (columnsOf s) P (λ m k b i. let x = h k i in
+      of-each (λ m. P (column (columnsOf s) m k)) (x .0) (x .1) (x .2) (x .3) m b) j l
 
   -- ---- the table with cell i put, by a loop that has stored those before it
   abbrev pub putCell : List ℤ → ℕ → Cell → List ℤ

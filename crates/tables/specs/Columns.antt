@@ -1,6 +1,6 @@
 -- A lent table in columns of n numbers, one after another: what it shows, and what a loop has stored of it.
 -- Assumes nothing.
-use mathlib.Core.Path.{_≡_, refl, sym, ap, _∙_}
+use mathlib.Core.Path.{_≡_, refl, sym, ap, _∙_, subst}
 use mathlib.Core.List.{List, [], _∷_, _++_}
 use Prim.Native.Nat.{ℕ, zero, suc, _+_, _-_, _*_, _≤_, _<_}
 use native.Mathlib.Nat.{not-suc-le-zero}
@@ -82,6 +82,12 @@ module _ (n : ℕ) where
     where
       go : (j : ℕ) → Placed (length fs) j → getD t j (pos 0) ≡ getD (columns n fs) j (pos 0)
       go j p = rw (← p .is) (h (p .col) (p .at) (p .within) (p .below) ∙ sym (columns-show fs (p .col) (p .at) (p .within) (p .below)))
+
+  -- and what is so of each number of the columns is so of each of their table
+  pub columns-each : (fs : List (ℕ → ℤ)) (P : ℤ → Type 0) → ((m k : ℕ) → m < length fs → k < n → P (column fs m k))
+      → (j : ℕ) → j < length fs * n → P (getD (columns n fs) j (pos 0))
+  columns-each fs P h j l = let p = placed (length fs) j l in
+      rw (← p .is) (subst P (sym (columns-show fs (p .col) (p .at) (p .within) (p .below))) (h (p .col) (p .at) (p .within) (p .below)))
 
   -- ---- stores: the numbers of place i, one into each column from m on
   abbrev pub putFrom : ℕ → List ℤ → ℕ → List ℤ → List ℤ

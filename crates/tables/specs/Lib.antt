@@ -4,4 +4,5 @@ pub mod Scan
 pub mod Rows
 pub mod Filling
 pub mod Columns
+pub mod Reversed
 pub mod Cells

@@ -2,7 +2,7 @@
 -- Assumes nothing.
 use mathlib.Core.Path.{_≡_, refl, sym, _∙_, ap₂}
 use mathlib.Core.Bool.{Bool, true, false, cond, _||_}
-use Prim.Native.Nat.{ℕ, zero, suc, _≤_, _<_}
+use Prim.Native.Nat.{ℕ, zero, suc, _+_, _-_, _≤_, _<_}
 use native.Mathlib.Omega.{arith}
 use native.Mathlib.Decide.{ℕ-discrete, decLt}
 use Rattle.whole.specs.Flags.{or-l, or-r, clash, by}
@@ -50,6 +50,15 @@ pub some-same : (p q : ℕ → Bool) (n : ℕ) → ((i : ℕ) → i < n → p i 
 unfolding some
 some-same p q zero e = refl
 some-same p q (suc n) e = ap₂ _||_ (some-same p q n (λ i l. e i (omega arith))) (e n (omega arith))
+
+-- two properties, each of which is the other from the last place to the first
+pub some-reversed : (p q : ℕ → Bool) (n : ℕ) → ((i j : ℕ) → suc (i + j) ≡ n → q i ≡ p j) → some q n ≡ some p n
+some-reversed p q n f = by (some p n)
+    (λ e. let k = some-yes p n e in has (k .0) (k .1) (k .2) ∙ sym e)
+    (λ e. none-some q n (λ i l. f i (n - suc i) (omega arith) ∙ some-none p n e (n - suc i) (omega arith)) ∙ sym e)
+  where
+    has : (j : ℕ) → j < n → p j ≡ true → some q n ≡ true
+    has j l e = yes-some q n (n - suc j) (omega arith) (f (n - suc j) j (omega arith) ∙ e)
 
 -- ---- the lowest place has the property, and none below it
 pub record IsLowest (p : ℕ → Bool) (n i : ℕ) : Type 0 where

@@ -70,6 +70,11 @@ pub by : {P : Type 0} (b : Bool) → (b ≡ true → P) → (b ≡ false → P) 
 by true f g = f refl
 by false f g = g refl
 
+-- a function of a choice is the choice between its values
+pub cond-map : {A B : Type 0} (f : A → B) (b : Bool) (x y : A) → cond b (f x) (f y) ≡ f (cond b x y)
+cond-map f true x y = refl
+cond-map f false x y = refl
+
 pub cond-same : {A : Type 0} (b : Bool) (x y z : A) → x ≡ z → y ≡ z → cond b x y ≡ z
 cond-same true x y z p q = p
 cond-same false x y z p q = q

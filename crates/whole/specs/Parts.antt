@@ -181,6 +181,10 @@ pub dn-zero : {z : ℤ} → pos 0 ≤ℤ z → dn z ≡ 0
 dn-zero {z = pos n} h = refl
 dn-zero {z = negsuc n} h = absurd (h .le)
 
+pub up-zero : {z : ℤ} → z ≤ℤ pos 0 → up z ≡ 0
+up-zero {z = pos n} h = omega (arith, of-le h)
+up-zero {z = negsuc n} h = refl
+
 pub b-nonneg : {z : ℤ} {A : ℕ} → pos 0 ≤ℤ z → z ≤ℤ pos A → Within A z
 b-nonneg {z} {A} h k = record { abs = omega (arith, of-le h, of-le k, abs-parts z, dn-zero h) }
 

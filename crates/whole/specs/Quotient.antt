@@ -27,6 +27,9 @@ quot-neg (pos (suc n)) (negsuc b) = sym (negℤ-negℤ (pos (suc n / suc b)))
 quot-neg (negsuc n) (pos b) = sym (negℤ-negℤ (pos (suc n / b)))
 quot-neg (negsuc n) (negsuc b) = refl
 
+pub quot-odd : {a : ℤ} (b d : ℤ) → a ≡ negℤ b → quotZ a d ≡ negℤ (quotZ b d)
+quot-odd b d e = ap (λ (z : ℤ). quotZ z d) e ∙ quot-neg b d
+
 pub abs-quot-le : (a b : ℤ) → natAbs (quotZ a b) * natAbs b ≤ natAbs a
 abs-quot-le a b = rw abs-quot (NatL.div-mul-le-self (natAbs a) (natAbs b))
 

@@ -40,8 +40,13 @@ no-le a b h = fails (leZ a b) (λ t. let k : a ≤ℤ b = record { le = t } in l
 pub no-lt : (a b : ℤ) → b ≤ℤ a → ltZ a b ≡ false
 no-lt a b h = fails (ltZ a b) (λ t. let k : a <ℤ b = record { lt = t } in let z : ⊥ = omega (arith, of-le h, of-lt k) in z)
 
--- a test of numbers with their signs changed
+-- tests of numbers with their signs changed
 pub le-neg : (a b : ℤ) → leZ (negℤ a) (negℤ b) ≡ leZ b a
 le-neg a b = by (leZ b a)
     (λ e. yes-le (negℤ a) (negℤ b) (le! (⊖ (at a)) (⊖ (at b)) (omega (arith, of-le (le-yes b a e)))) ∙ sym e)
     (λ e. no-le (negℤ a) (negℤ b) (lt! (⊖ (at b)) (⊖ (at a)) (omega (arith, of-lt (le-no b a e)))) ∙ sym e)
+
+pub lt-neg : (a b : ℤ) → ltZ (negℤ a) (negℤ b) ≡ ltZ b a
+lt-neg a b = by (ltZ b a)
+    (λ e. yes-lt (negℤ a) (negℤ b) (lt! (⊖ (at a)) (⊖ (at b)) (omega (arith, of-lt (lt-yes b a e)))) ∙ sym e)
+    (λ e. no-lt (negℤ a) (negℤ b) (le! (⊖ (at b)) (⊖ (at a)) (omega (arith, of-le (lt-no b a e)))) ∙ sym e)

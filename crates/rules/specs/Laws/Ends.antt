@@ -96,17 +96,11 @@ module _ (face : Side → Side → Flux) (law : Lawful face) (d : ℤ) (e : End)
   right-end-still z h p = let s = left-end-still z h p in
       subst (Still h) (sym (right-turned (resting h))) (record { F≡ = ap negℤ (s .F≡); K≡ = s .K≡; A≡ = s .A≡ })
 
-  -- ---- the mass that crosses: none at a wall, and at an inflow what is given
+  -- ---- the mass that crosses the left one: none at a wall, and at an inflow what is given
   pub left-wall : e .kind ≡ 0 → (x : Side) → leftEnd face d e x .F ≡ pos 0
   unfolding leftEnd outer
   left-wall z x = rw z (wall face law x)
 
-  pub right-wall : e .kind ≡ 0 → (x : Side) → rightEnd face d e x .F ≡ pos 0
-  right-wall z x = ap (λ (f : Flux). f .F) (right-turned x) ∙ ap negℤ (left-wall z (mirror x))
-
   pub left-inflow : e .kind ≡ inflowKind → (x : Side) → leftEnd face d e x .F ≡ pos (e .q)
   unfolding leftEnd inflow
   left-inflow z x = rw z
-
-  pub right-inflow : e .kind ≡ inflowKind → (x : Side) → rightEnd face d e x .F ≡ negℤ (pos (e .q))
-  right-inflow z x = ap (λ (f : Flux). f .F) (right-turned x) ∙ ap negℤ (left-inflow z (mirror x))

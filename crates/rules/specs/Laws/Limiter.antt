@@ -16,7 +16,7 @@ use Rattle.rules.specs.Reach.{Reach, Call, State, el, er, under, h0}
 use Rattle.rules.specs.Finishing.{parted, marked, shallowAt, shallowLeft, shallowRight, spared, isLimited, limit, cut, dried, finish}
 use Rattle.rules.specs.Laws.Shown.{inside}
 
-not-last : (i n : ℕ) → suc i < n → eqb (suc i) n ≡ false
+pub not-last : (i n : ℕ) → suc i < n → eqb (suc i) n ≡ false
 not-last i n l = ne-eqb (suc i) n (λ e. let z : ⊥ = omega arith in z)
 
 -- ---- where the levels at an inner face differ by more than J both its cells are marked, spared or not

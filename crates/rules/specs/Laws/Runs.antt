@@ -66,6 +66,10 @@ brief : (r : Reach) (c : Call) (s : State) → some (tooLong r c s) (suc (r .n))
 unfolding tooLong
 brief r c s e i l = lt-no (pos 4096 *ℤ r .dx) (pos 2 *ℤ c .dt *ℤ faceAt r c s i .S) (some-none (tooLong r c s) (suc (r .n)) e i l)
 
+pub stage-brief : (r : Reach) (c : Call) (s : State) → Clear (stageChecks r c s) → Brief r c s
+unfolding stageChecks
+stage-brief r c s k = brief r c s (clear-at (stageChecks r c s) k order.faces)
+
 -- the checks after `early`
 abbrev late : Reach → Call → State → List Check
 late r c s =
@@ -78,7 +82,7 @@ pub record Early (r : Reach) (c : Call) (s : State) : Type 0 where
   pub wet : Wet r s
   pub brief : Brief r c (rubbed r c s)
 
-early-of : (r : Reach) (c : Call) (s : State) → Clear (early r c s) → Early r c s
+pub early-of : (r : Reach) (c : Call) (s : State) → Clear (early r c s) → Early r c s
 unfolding early stageChecks
 early-of r c s k =
     let clear = clear-at (early r c s) k in
@@ -138,8 +142,7 @@ module _ (r : Reach) (law : Lawful (r .face)) (c : Call) (s : State) where
       (λ d. inl (large-of r (stageOne r c s) (wet-stageOne k) d))
       (λ d.
       let q = passed 8 (stageChecks r c (stageOne r c s)) (each 8 (r .n) (off r (next r c s)) ∷ []) tt (rw d at (p .1)) in
-      let clear = clear-at (stageChecks r c (stageOne r c s)) (q .0) in
-      inr (large-of r (next r c s) (wet-next k (brief r c (stageOne r c s) (clear order.faces)))
+      inr (large-of r (next r c s) (wet-next k (stage-brief r c (stageOne r c s) (q .0)))
       (by b (λ x. x) (λ x. let z : _≡_ {A = ℕ} 0 8 = rw x at (q .1) in let y : ⊥ = omega arith in absurd y))))
 
 -- ---- an accepted call

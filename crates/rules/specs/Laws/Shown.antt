@@ -4,16 +4,15 @@
 -- Assumes nothing.
 use mathlib.Core.Path.{_≡_, sym, _∙_, ap, ap₂, subst}
 use mathlib.Core.Bool.{true, false, cond}
-use Prim.Native.Nat.{ℕ, zero, suc, _-_, _<_}
+use Prim.Native.Nat.{ℕ, zero, suc, _<_}
 use native.Mathlib.Omega.{arith}
-use borrow.Author.Tests.{eq-eqb}
 use lib.Dec.{T, eqb, eqb-refl, eqb→eq}
 use lib.IntN.{ℤ, pos, negℤ, _+ℤ_, _-ℤ_, _*ℤ_}
 use lib.Signed.{quotZ, _≤ℤ_, _<ℤ_}
 use Rattle.whole.specs.Flags.{holds, held, clash, by, cond-ind}
 use Rattle.whole.specs.Parts.{lt-le, cross}
 use Rattle.whole.specs.Difference.{at, lit, nonneg, _⊞_, _⊟_, ⊖, _⊠_, le!, eq!, le?, none-times}
-use Rattle.whole.specs.Quotient.{mul-cancel-le, half-le, quot-neg, quot-none}
+use Rattle.whole.specs.Quotient.{mul-cancel-le, half-le, quot-odd, quot-none}
 use Rattle.rules.specs.Face.{Side, Flux}
 use Rattle.rules.specs.Lawful.{Still, resting, flip, Lawful}
 use Rattle.rules.specs.Shown.{Shown, crossRight, crossAt, volume}
@@ -33,17 +32,6 @@ inside i n l e = omega (arith, differ)
 pub last : {A : Type 0} (i n : ℕ) → i < n → (x y x′ y′ : A) → x ≡ x′ → (suc i < n → y ≡ y′)
     → cond (eqb (suc i) n) x y ≡ cond (eqb (suc i) n) x′ y′
 last i n l x y x′ y′ p q = by (eqb (suc i) n) (λ e. rw e p) (λ e. rw e (q (inside i n l e)))
-
--- the last face is the right end, beside the last cell
-pub last-face : (w : Shown) → 0 < w .n → crossAt w (w .n) ≡ w .right (w .toRight (w .n - 1))
-unfolding crossAt crossRight
-last-face w o = ap (crossAt w) e ∙ rw (eq-eqb (suc m) (w .n) (sym e))
-  where
-    m : ℕ
-    m = w .n - 1
-
-    e : w .n ≡ suc m
-    e = omega arith
 
 -- rows that differ only in sides that do not count have one flux at each face
 module _ (w : Shown) (a b : ℕ → Side) (p : (i : ℕ) → i < w .n → w .toLeft i ≡ a i) (q : (i : ℕ) → i < w .n → w .toRight i ≡ b i) where
@@ -83,8 +71,7 @@ InTime dx dt f = (pos 2 *ℤ dt *ℤ f .S) ≤ℤ (pos 4096 *ℤ dx)
 
 pub volume-flip : (dx dt : ℤ) (f : Flux) → volume dx dt (flip f) ≡ negℤ (volume dx dt f)
 unfolding volume
-volume-flip dx dt f =
-    ap (λ (z : ℤ). quotZ z dx) (eq! (⊖ (at (f .F)) ⊠ at dt) (⊖ (at (f .F) ⊠ at dt)) (omega arith)) ∙ quot-neg (f .F *ℤ dt) dx
+volume-flip dx dt f = quot-odd (f .F *ℤ dt) dx (eq! (⊖ (at (f .F)) ⊠ at dt) (⊖ (at (f .F) ⊠ at dt)) (omega arith))
 
 module _ (dx dt : ℤ) (dx>0 : pos 0 <ℤ dx) (dt≥0 : pos 0 ≤ℤ dt) (h : ℤ) (h≥0 : pos 0 ≤ℤ h) where
   -- over a step that is short enough at most half of the depth is taken

@@ -1,0 +1,120 @@
+-- Calls from the other end: what a turned call gives, by what the call itself gave.
+-- Assumes nothing.
+use mathlib.Core.Path.{_≡_, refl, sym, _∙_, ap, subst}
+use mathlib.Core.List.{List, reverse}
+use Prim.Native.Nat.{ℕ, suc, _+_, _-_, _*_}
+use native.Mathlib.Omega.{arith}
+use lib.ListN.{length, length-reverse}
+use lib.IntN.{ℤ, pos, negsuc, negℤ, _+ℤ_}
+use lib.Signed.{_≤ℤ_, _<ℤ_}
+use Rattle.whole.specs.Difference.{at, lit, nlit, _⊞_, ⊖, le!, eq!, le?, lt?}
+use Rattle.tables.specs.Columns.{inColumn}
+use Rattle.tables.specs.Cells.{Cell, cellIn, length-table, table-each}
+use Rattle.rules.specs.Lent.{Lent, Outcome, cellsOf, number, stepOf}
+use Rattle.rules.specs.Laws.Lengths.{fits}
+use Rattle.survey.specs.Turned.{turnedCell, turnedTable, turnedCall}
+use Rattle.survey.specs.Laws.Lent.{number-turned, filled-turned, left-turned, right-turned}
+use Rattle.step.specs.Gives.{Gives, answer, leaves}
+use Rattle.step.specs.declared.Answer.the-variants.{Accepted}
+use Rattle.promises.specs.Seen.{Called, lent, Calls, none, more, Words, Turnable, FromOtherEnd}
+use Rattle.promises.specs.Outcomes.{accepts, taken}
+
+-- an accepted call
+pub other-gives : (l : Lent) (w v : ℤ) (old new : List ℤ) → Gives (stepOf l) (Accepted w v) old new → (old′ : List ℤ)
+    → Gives (stepOf (turnedCall l)) (Accepted (negℤ v) (negℤ w)) old′ (turnedTable (cellsOf l) new)
+unfolding answer leaves
+other-gives l w v old new g old′ =
+    let t = taken l w v old new g in let ok = t .number in let fit = fits l ok in
+    let is = sym (accepts (turnedCall l) (number-turned l fit ∙ ok)) in
+    let left = ap negℤ (t .right) ∙ sym (left-turned l fit ok) in let right = ap negℤ (t .left) ∙ sym (right-turned l fit ok) in
+    record {
+      says = (λ m. Accepted (left m) (right m)) ∙ ap answer is;
+      table = ap (turnedTable (cellsOf l)) (t .table) ∙ sym (filled-turned l fit ok) ∙ ap (λ (o : Outcome). leaves o old′) is;
+    }
+
+-- a run of them: each turned call is lent the turned table that the one before wrote, and a table to write that is as long
+module _ {bed : List ℤ} {n dx : ℕ} {s : List ℤ} {w v : ℤ} {old m : List ℤ} (c : Called bed n dx s (Accepted w v) old m) where
+  other-lent : (k : ℕ) → Lent
+  other-lent k = record {
+    now = turnedTable k s;
+    room = length old;
+    bed = reverse bed;
+    friction = reverse (c .friction);
+    dx = dx;
+    dt = c .dt;
+    jump = c .jump;
+    dry = c .dry;
+    left = c .right;
+    right = c .left;
+  }
+
+  other-call : Called (reverse bed) n dx (turnedTable n s) (Accepted (negℤ v) (negℤ w)) old (turnedTable n m)
+  unfolding other-lent
+  other-call = record {
+    friction = reverse (c .friction);
+    cells = length-reverse (c .friction) ∙ c .cells;
+    dt = c .dt;
+    jump = c .jump;
+    dry = c .dry;
+    left = c .right;
+    right = c .left;
+    gave = subst (λ (k : ℕ). Gives (stepOf (other-lent k)) (Accepted (negℤ v) (negℤ w)) old (turnedTable k m)) (c .cells)
+        (other-gives (lent c) w v old m (c .gave) old);
+  }
+
+  is-turned : lent other-call ≡ turnedCall (lent c)
+  unfolding other-call
+  is-turned = λ i. record {
+    now = turnedTable (sym (c .cells) i) s;
+    room = length old;
+    bed = reverse bed;
+    friction = reverse (c .friction);
+    dx = dx;
+    dt = c .dt;
+    jump = c .jump;
+    dry = c .dry;
+    left = c .right;
+    right = c .left;
+  }
+
+pub other-run : {bed : List ℤ} {n dx : ℕ} {s t : List ℤ} {a b : ℤ} (k : Calls bed n dx s t a b) → FromOtherEnd k
+other-run {n = n} (none t) = record {
+  left = pos 0;
+  right = pos 0;
+  calls = none (turnedTable n t);
+  each = tt;
+  left-is = refl;
+  right-is = refl;
+}
+other-run {n = n} (more s m t old w v a b c k) = let rest = other-run k in record {
+  left = negℤ v +ℤ rest .left;
+  right = negℤ w +ℤ rest .right;
+  calls = more (turnedTable n s) (turnedTable n m) (turnedTable n t) old (negℤ v) (negℤ w) (rest .left) (rest .right)
+      (other-call c) (rest .calls);
+  each = (is-turned c, rest .each);
+  left-is = ap (λ (z : ℤ). negℤ v +ℤ z) (rest .left-is) ∙ eq! (⊖ (at v) ⊞ ⊖ (at b)) (⊖ (at v ⊞ at b)) (omega arith);
+  right-is = ap (λ (z : ℤ). negℤ w +ℤ z) (rest .right-is) ∙ eq! (⊖ (at w) ⊞ ⊖ (at a)) (⊖ (at w ⊞ at a)) (omega arith);
+}
+
+-- ---- the turned table is one of i32
+module _ (n : ℕ) (t : List ℤ) (size : length t ≡ 4 * n) (words : Words t) (ok : Turnable t n) where
+  abbrev Word : ℤ → Type 0
+  Word z = (negsuc 2147483647 ≤ℤ z) × (z ≤ℤ pos 2147483647)
+
+  turned-word : (z : ℤ) → Word z → negsuc 2147483647 <ℤ z → Word (negℤ z)
+  turned-word z w l = (
+    le! (nlit 2147483647) (⊖ (at z)) (omega (arith, le? (at z) (lit 2147483647) (w .1))),
+    le! (⊖ (at z)) (lit 2147483647) (omega (arith, lt? (nlit 2147483647) (at z) l)),
+  )
+
+  abbrev cells : ℕ → Cell
+  cells i = turnedCell (cellIn n t (n - suc i))
+
+  pub turned-words : Words (turnedTable n t)
+  unfolding turnedTable
+  turned-words j l = table-each n cells Word (λ i b. let k = n - suc i in let turns = ok k (omega arith) in (
+    words (0 * n + k) (omega arith),
+    turned-word (inColumn n t 1 k) (words (1 * n + k) (omega arith)) (turns .0),
+    turned-word (inColumn n t 2 k) (words (2 * n + k) (omega arith)) (turns .1),
+    words (3 * n + k) (omega arith),
+  )) j (omega (arith, length-table n cells))

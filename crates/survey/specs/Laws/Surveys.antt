@@ -1,0 +1,49 @@
+-- One reach and a call on it, surveyed from both ends. What is so of either survey is so of the other: a law of the left is turned for the
+-- right by `other`.
+-- Assumes nothing.
+use mathlib.Core.Path.{_≡_, sym, _∙_, ap}
+use Prim.Native.Nat.{ℕ, suc, _+_}
+use native.Mathlib.Omega.{arith}
+use lib.IntN.{ℤ}
+use Rattle.rules.specs.Reach.{Reach, Call, State, under}
+use Rattle.survey.specs.Turned.{turnedCell}
+use Rattle.survey.specs.Laws.Cell.{turnedBed, cell-twice}
+
+-- the one as it stands, and of the other its bed and friction: only those at faces 0 to n and of cells below n count
+pub record Surveys : Type 0 where
+  pub reach : Reach
+  pub call : Call
+  pub bed : ℕ → ℤ
+  pub rough : ℕ → ℤ
+  pub beds : (i j : ℕ) → i + j ≡ reach .n → bed i ≡ reach .bed j
+  pub roughs : (i j : ℕ) → suc (i + j) ≡ reach .n → rough i ≡ call .rough j
+
+-- all else that the other says: the ends are exchanged
+abbrev pub otherReach : Surveys → Reach
+otherReach v = record { n = v .reach .n; dx = v .reach .dx; bed = v .bed; face = v .reach .face }
+
+abbrev pub otherCall : Surveys → Call
+otherCall v = let c = v .call in
+    record { dt = c .dt; jump = c .jump; dry = c .dry; rough = v .rough; left = c .right; right = c .left }
+
+-- the other one first
+abbrev pub other : Surveys → Surveys
+other v = record {
+  reach = otherReach v;
+  call = otherCall v;
+  bed = v .reach .bed;
+  rough = v .call .rough;
+  beds = λ i j o. sym (v .beds j i (omega arith));
+  roughs = λ i j o. sym (v .roughs j i (omega arith));
+}
+
+-- cell i of the other is cell j turned: the bed under it, and what it holds in a state t that is s turned round
+pub under-turned : (v : Surveys) (i j : ℕ) → suc (i + j) ≡ v .reach .n → under (otherReach v) i ≡ turnedBed (under (v .reach) j)
+under-turned v i j o =
+    let l = v .beds i (suc j) (omega arith) in let r = v .beds (suc i) j (omega arith) in λ m. record { zl = l m; zr = r m }
+
+abbrev pub Turned : Surveys → State → State → Type 0
+Turned v s t = (i j : ℕ) → suc (i + j) ≡ v .reach .n → t i ≡ turnedCell (s j)
+
+pub turned-back : (v : Surveys) (s t : State) → Turned v s t → Turned (other v) t s
+turned-back v s t w i j o = sym (ap turnedCell (w j i (omega arith)) ∙ cell-twice (s i))
