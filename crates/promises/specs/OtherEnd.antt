@@ -5,9 +5,12 @@ use mathlib.Core.List.{List, reverse}
 use Prim.Native.Nat.{ℕ, suc, _+_, _-_, _*_}
 use native.Mathlib.Omega.{arith}
 use lib.ListN.{length, length-reverse}
-use lib.IntN.{ℤ, pos, negsuc, negℤ, _+ℤ_}
-use lib.Signed.{_≤ℤ_, _<ℤ_}
+use lib.IntN.{ℤ, pos, negℤ, _+ℤ_}
+use lib.Signed.{ltZ, _≤ℤ_}
+use Rattle.whole.specs.Flags.{by}
 use Rattle.whole.specs.Difference.{at, lit, nlit, _⊞_, ⊖, le!, eq!, le?, lt?}
+use Rattle.whole.specs.Tests.{lt-yes, lt-no}
+use Rattle.whole.specs.Choice.{antisym}
 use Rattle.tables.specs.Columns.{inColumn}
 use Rattle.tables.specs.Cells.{Cell, cellIn, length-table, table-each}
 use Rattle.rules.specs.Lent.{Lent, Outcome, cellsOf, number, stepOf}
@@ -16,7 +19,7 @@ use Rattle.survey.specs.Turned.{turnedCell, turnedTable, turnedCall}
 use Rattle.survey.specs.Laws.Lent.{number-turned, filled-turned, left-turned, right-turned}
 use Rattle.step.specs.Gives.{Gives, answer, leaves}
 use Rattle.step.specs.declared.Answer.the-variants.{Accepted}
-use Rattle.promises.specs.Seen.{Called, lent, Calls, none, more, Words, Turnable, FromOtherEnd}
+use Rattle.promises.specs.Seen.{Called, lent, Calls, none, more, leastI32, FitsI32, NoneLeast, FromOtherEnd}
 use Rattle.promises.specs.Outcomes.{accepts, taken}
 
 -- an accepted call
@@ -97,24 +100,26 @@ other-run {n = n} (more s m t old w v a b c k) = let rest = other-run k in recor
 }
 
 -- ---- the turned table is one of i32
-module _ (n : ℕ) (t : List ℤ) (size : length t ≡ 4 * n) (words : Words t) (ok : Turnable t n) where
-  abbrev Word : ℤ → Type 0
-  Word z = (negsuc 2147483647 ≤ℤ z) × (z ≤ℤ pos 2147483647)
+abbrev Word : ℤ → Type 0
+Word z = (leastI32 ≤ℤ z) × (z ≤ℤ pos 2147483647)
 
-  turned-word : (z : ℤ) → Word z → negsuc 2147483647 <ℤ z → Word (negℤ z)
-  turned-word z w l = (
-    le! (nlit 2147483647) (⊖ (at z)) (omega (arith, le? (at z) (lit 2147483647) (w .1))),
-    le! (⊖ (at z)) (lit 2147483647) (omega (arith, lt? (nlit 2147483647) (at z) l)),
-  )
+opposite-word : (z : ℤ) → Word z → (z ≡ leastI32 → ⊥) → Word (negℤ z)
+opposite-word z w f = (
+  le! (nlit 2147483647) (⊖ (at z)) (omega (arith, le? (at z) (lit 2147483647) (w .1))),
+  by (ltZ leastI32 z)
+      (λ e. le! (⊖ (at z)) (lit 2147483647) (omega (arith, lt? (nlit 2147483647) (at z) (lt-yes leastI32 z e))))
+      (λ e. absurd (f (antisym z leastI32 (lt-no leastI32 z e) (w .0)))),
+)
 
+module _ (n : ℕ) (t : List ℤ) (size : length t ≡ 4 * n) (words : FitsI32 t) (ok : NoneLeast t n) where
   abbrev cells : ℕ → Cell
   cells i = turnedCell (cellIn n t (n - suc i))
 
-  pub turned-words : Words (turnedTable n t)
+  pub turned-fits : FitsI32 (turnedTable n t)
   unfolding turnedTable
-  turned-words j l = table-each n cells Word (λ i b. let k = n - suc i in let turns = ok k (omega arith) in (
+  turned-fits j l = table-each n cells Word (λ i b. let k = n - suc i in let turns = ok k (omega arith) in (
     words (0 * n + k) (omega arith),
-    turned-word (inColumn n t 1 k) (words (1 * n + k) (omega arith)) (turns .0),
-    turned-word (inColumn n t 2 k) (words (2 * n + k) (omega arith)) (turns .1),
+    opposite-word (inColumn n t 1 k) (words (1 * n + k) (omega arith)) (turns .0),
+    opposite-word (inColumn n t 2 k) (words (2 * n + k) (omega arith)) (turns .1),
     words (3 * n + k) (omega arith),
   )) j (omega (arith, length-table n cells))

@@ -11,13 +11,13 @@ use mathlib.Core.Path.{_≡_, refl, sym, _∙_, ap, ap₂, subst}
 use mathlib.Core.Bool.{Bool, true, false}
 use mathlib.Core.List.{List}
 use mathlib.Core.Logic.{_⊎_, inl, inr, ⊎-elim}
-use Prim.Native.Nat.{ℕ, _*_, _≤_, _<_}
+use Prim.Native.Nat.{ℕ, suc, _-_, _*_, _≤_, _<_}
 use lib.ListN.{length}
 use lib.IntN.{ℤ, pos, negℤ, negℤ-negℤ, _+ℤ_, _-ℤ_}
 use lib.Signed.{_≤ℤ_, _<ℤ_}
 use lib.Ieee.{Float}
 use Rattle.rules.specs.Face.{Side}
-use Rattle.tables.specs.Cells.{cellIn, tableOf, table-is, table-cells}
+use Rattle.tables.specs.Cells.{Cell, cellIn, tableOf, cellIn-table, table-is, table-cells}
 use Rattle.rules.specs.Reach.{Reach, Call, State, under, h0}
 use Rattle.rules.specs.Finishing.{spared, cut, dried, finish}
 use Rattle.rules.specs.Laws.Limiter.{spared-finish}
@@ -45,7 +45,7 @@ use Rattle.rules.specs.Laws.Accept.{Clear}
 use Rattle.rules.specs.Laws.Verdicts.{at, cleared}
 use Rattle.rules.specs.Laws.Face.{lawful}
 use Rattle.rules.specs.Laws.Runs.{Large, depths, eight, accepted-depths, run-balanced, run-wet, accepted-rest}
-use Rattle.survey.specs.Turned.{turnedTable, turnedCall}
+use Rattle.survey.specs.Turned.{turnedCell, turnedTable, turnedCall}
 use Rattle.survey.specs.Laws.Twice.{call-twice}
 use Rattle.survey.specs.Laws.Lent.{number-turned}
 use Rattle.speeds.specs.Given.{speedGiven, waveGiven, cubeGiven}
@@ -72,15 +72,15 @@ use Rattle.stage.specs.declared.worked.Worked.{Worked}
 use Rattle.step.specs.Gives.{Gives, one-answer, one-table}
 use Rattle.step.specs.declared.Answer.{Answer}
 use Rattle.step.specs.declared.Answer.the-variants.{Refused, Accepted}
-use Rattle.promises.specs.Seen.{discharge, dischargeSlope, meanDepth, NoneBelow, Excess, stageTable, frictionTable}
+use Rattle.promises.specs.Seen.{level, levelSlope, discharge, dischargeSlope, meanDepth, NoneBelow, Excess, stageTable, frictionTable}
 use Rattle.promises.specs.Seen.{correctedStageTable, NoShortfall, water, Listed, brought, Lake}
-use Rattle.promises.specs.Seen.{Called, lent, Calls, none, more, NoInflow, Words, Turnable, FromOtherEnd}
+use Rattle.promises.specs.Seen.{Called, lent, Calls, none, more, NoInflow, FitsI32, NoneLeast, FromOtherEnd}
 use Rattle.promises.specs.First.{FirstMet, first-verdict, verdict-first, first-listed, FirstMetAt, first-of, first-found, found-first}
 use Rattle.promises.specs.Outcomes.{allChecks, found-is, number-is, refuses-with, refused-number, refused-some, refused-place}
 use Rattle.promises.specs.Outcomes.{whole-place}
 use Rattle.promises.specs.Outcomes.{refused-table, refused-later, Taken, taken, reachAt, call, one, none-below}
 use Rattle.promises.specs.Outcomes.{both-listed, wall-left, inflow-left}
-use Rattle.promises.specs.OtherEnd.{other-gives, other-run, turned-words}
+use Rattle.promises.specs.OtherEnd.{other-gives, other-run, turned-fits}
 use Rattle.promises.specs.Outcomes.{none-below-table, none-short-table, excess-table, wet, water-is, at-rest, written-calm, run}
 
 -- ---- demand 1: one answer, one content of the table
@@ -327,10 +327,18 @@ module _ (bed : List ℤ) (n dx : ℕ) where
 pub turned-twice : (l : Lent) → misfits l ≡ false → turnedCall (turnedCall l) ≡ l
 turned-twice l fit = call-twice l fit
 
+-- its state has the cells of the other from the last to the first, as a caller sees them,
+pub turned-columns : (n : ℕ) (t : List ℤ) (i : ℕ) → i < n → let there = turnedTable n t in let j = n - suc i in
+    (level there n i ≡ level t n j) × (levelSlope there n i ≡ negℤ (levelSlope t n j))
+    × (discharge there n i ≡ negℤ (discharge t n j)) × (dischargeSlope there n i ≡ dischargeSlope t n j)
+unfolding turnedTable
+turned-columns n t i l = let e = cellIn-table n (λ k. turnedCell (cellIn n t (n - suc k))) i l in
+    (ap (λ (x : Cell). x .e0) e, ap (λ (x : Cell). x .e1) e, ap (λ (x : Cell). x .q0) e, ap (λ (x : Cell). x .q1) e)
+
 -- and it can be lent, as its numbers are i32 too, where no level slope and no discharge mean is -2^31
-pub turned-lendable : (l : Lent) → misfits l ≡ false → Words (l .now) → Turnable (l .now) (cellsOf l) → Words (turnedCall l .now)
+pub turned-lendable : (l : Lent) → misfits l ≡ false → FitsI32 (l .now) → NoneLeast (l .now) (cellsOf l) → FitsI32 (turnedCall l .now)
 turned-lendable l fit words ok = let size = fitted (length (l .now)) (l .room) (length (l .bed)) (cellsOf l) fit .now in
-    turned-words (cellsOf l) (l .now) size words ok
+    turned-fits (cellsOf l) (l .now) size words ok
 
 -- it is refused with the same number, at the place that is the lowest from there;
 pub turned-refused : (l : Lent) → misfits l ≡ false → (k p : ℕ) (old new : List ℤ) → Gives (stepOf l) (Refused k p) old new

@@ -143,12 +143,15 @@ NoInflow (none t) = Unit {0}
 NoInflow (more s m t old w v a b c k) = (c .left .q ≡ 0) × (c .right .q ≡ 0) × NoInflow k
 
 -- ---- the other end
--- every number of a table is an i32, and so are all that change their sign when it is turned round
-abbrev pub Words : List ℤ → Type 0
-Words t = (j : ℕ) → j < length t → (negsuc 2147483647 ≤ℤ at t j) × (at t j ≤ℤ pos 2147483647)
+-- every number of a table is an i32; and no level slope or discharge mean is the least of these, the only one whose opposite is none
+abbrev pub leastI32 : ℤ
+leastI32 = negsuc 2147483647
 
-abbrev pub Turnable : List ℤ → ℕ → Type 0
-Turnable t n = (i : ℕ) → i < n → (negsuc 2147483647 <ℤ levelSlope t n i) × (negsuc 2147483647 <ℤ discharge t n i)
+abbrev pub FitsI32 : List ℤ → Type 0
+FitsI32 t = (j : ℕ) → j < length t → (leastI32 ≤ℤ at t j) × (at t j ≤ℤ pos 2147483647)
+
+abbrev pub NoneLeast : List ℤ → ℕ → Type 0
+NoneLeast t n = (i : ℕ) → i < n → (levelSlope t n i ≡ leastI32 → ⊥) × (discharge t n i ≡ leastI32 → ⊥)
 
 -- as many calls as others, and each of them the turned one
 abbrev pub EachTurned : {bed bed′ : List ℤ} {n dx : ℕ} {s t s′ t′ : List ℤ} {a b a′ b′ : ℤ}

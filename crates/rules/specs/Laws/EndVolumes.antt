@@ -6,7 +6,7 @@ use lib.IntN.{ℤ, pos, _*ℤ_}
 use lib.Signed.{quotZ}
 use Rattle.whole.specs.Difference.{none-times}
 use Rattle.whole.specs.Quotient.{quot-none}
-use Rattle.rules.specs.Face.{Side, Flux}
+use Rattle.rules.specs.Face.{Side}
 use Rattle.rules.specs.Lawful.{Lawful}
 use Rattle.rules.specs.Shown.{crossAt, volume}
 use Rattle.rules.specs.Reach.{Reach, Call, State}

@@ -8,7 +8,7 @@ use Prim.Native.Nat.{ℕ, zero, suc, _<_}
 use native.Mathlib.Omega.{arith}
 use lib.Dec.{T, eqb, eqb-refl, eqb→eq}
 use lib.IntN.{ℤ, pos, negℤ, _+ℤ_, _-ℤ_, _*ℤ_}
-use lib.Signed.{quotZ, _≤ℤ_, _<ℤ_}
+use lib.Signed.{_≤ℤ_, _<ℤ_}
 use Rattle.whole.specs.Flags.{holds, held, clash, by, cond-ind}
 use Rattle.whole.specs.Parts.{lt-le, cross}
 use Rattle.whole.specs.Difference.{at, lit, nonneg, _⊞_, _⊟_, ⊖, _⊠_, le!, eq!, le?, none-times}

@@ -2,7 +2,7 @@
 -- What is so of its left is shown, and turned for its right (`from-there`).
 -- Assumes nothing.
 use mathlib.Core.Path.{_≡_, refl, sym, _∙_, ap, ap₂}
-use mathlib.Core.Bool.{Bool, cond, _||_, or-comm}
+use mathlib.Core.Bool.{Bool, cond}
 use mathlib.Core.List.{[], _∷_}
 use native.Mathlib.Omega.{arith}
 use lib.IntN.{ℤ, pos, negℤ, negℤ-negℤ, _+ℤ_, _-ℤ_, _*ℤ_}
@@ -12,14 +12,14 @@ use Rattle.whole.specs.Difference.{at, lit, _⊞_, _⊟_, ⊖, _⊠_, eq! }
 use Rattle.whole.specs.Ring.{v, k, neg, _⊕_, _⊗_, _⊝_, solve}
 use Rattle.whole.specs.Quotient.{quot-odd}
 use Rattle.tables.specs.Cells.{Cell}
-use Rattle.rules.specs.Face.{Side, Flux, speed}
+use Rattle.rules.specs.Face.{Flux, speed}
 use Rattle.rules.specs.Friction.{drag, slowed}
 use Rattle.rules.specs.Lawful.{mirror, flip}
 use Rattle.rules.specs.Shown.{volume}
 use Rattle.rules.specs.Reach.{ql, qr, Bed, z0, z1, h0, h1, hl, hr, shallow, sideL, sideR}
 use Rattle.rules.specs.Stage.{share, depthBefore, depthBehind, flowBefore, flowBehind, carried, gauss, push, tilt, update}
 use Rattle.rules.specs.Finishing.{beyond, clipped, cut, dried}
-use Rattle.rules.specs.Step.{half, rub, rubbedCell, joinedCell}
+use Rattle.rules.specs.Step.{rub, rubbedCell, joinedCell}
 use Rattle.rules.specs.Laws.Speeds.{speed-odd}
 use Rattle.rules.specs.Laws.Shown.{volume-flip}
 use Rattle.survey.specs.Turned.{turnedCell}

@@ -25,26 +25,26 @@ use Rattle.rules.specs.Refusals.{Check, each, verdict, stageChecks, early, chec
 use Rattle.rules.specs.Laws.Speeds.{speed-odd}
 use Rattle.rules.specs.Laws.Limiter.{not-last}
 use Rattle.rules.specs.Laws.Accept.{Clear}
-use Rattle.rules.specs.Laws.Runs.{Early, early-of, stage-brief}
+use Rattle.rules.specs.Laws.Runs.{early-of, stage-brief}
 use Rattle.survey.specs.Turned.{turnedCell}
 use Rattle.survey.specs.Laws.Signs.{past-even}
 use Rattle.survey.specs.Laws.Cell.{turnedBed, h0-turned, hl-turned, hr-turned, ql-turned, qr-turned, before-turned, behind-turned}
-use Rattle.survey.specs.Laws.Surveys.{Surveys, otherReach, otherCall, other, under-turned, Turned, turned-back}
+use Rattle.survey.specs.Laws.Surveys.{Surveys, otherReach, otherCall, other, Opposite, under-turned, Turned, turned-back}
 use Rattle.survey.specs.Laws.Faces.{left-turned, right-turned, face-turned}
 use Rattle.survey.specs.Laws.Step.{rubbed-turned, stageOne-turned, next-turned}
 
--- ---- lists of checks each of which applies to the place opposite
-data Opposite : List Check → List Check → Type 0 where
-  end : Opposite [] []
-  and : (k n : ℕ) (p q : ℕ → Bool) (xs ys : List Check) → ((i j : ℕ) → suc (i + j) ≡ n → q i ≡ p j) → Opposite xs ys
-      → Opposite (each k n p ∷ xs) (each k n q ∷ ys)
+-- ---- lists of checks, each of which is that of the other list from the last place to the first
+data Reversed : List Check → List Check → Type 0 where
+  end : Reversed [] []
+  and : (k n : ℕ) (p q : ℕ → Bool) (xs ys : List Check) → ((i j : ℕ) → suc (i + j) ≡ n → q i ≡ p j) → Reversed xs ys
+      → Reversed (each k n p ∷ xs) (each k n q ∷ ys)
 
-also : {k n : ℕ} {p q : ℕ → Bool} {xs ys : List Check} → ((i j : ℕ) → suc (i + j) ≡ n → q i ≡ p j) → Opposite xs ys
-    → Opposite (each k n p ∷ xs) (each k n q ∷ ys)
+also : {k n : ℕ} {p q : ℕ → Bool} {xs ys : List Check} → ((i j : ℕ) → suc (i + j) ≡ n → q i ≡ p j) → Reversed xs ys
+    → Reversed (each k n p ∷ xs) (each k n q ∷ ys)
 also {k} {n} {p} {q} {xs} {ys} e a = and k n p q xs ys e a
 
--- give one number, where what follows them does when none of them applies
-same-number : {xs ys : List Check} → Opposite xs ys → (us vs : List Check) → (Clear xs → verdict vs ≡ verdict us)
+-- they give one number, where what follows them does when none of them applies
+same-number : {xs ys : List Check} → Reversed xs ys → (us vs : List Check) → (Clear xs → verdict vs ≡ verdict us)
     → verdict (ys ++ vs) ≡ verdict (xs ++ us)
 unfolding verdict
 same-number end us vs f = f tt
@@ -117,13 +117,13 @@ fastFace-turned v s t w z (suc i) (suc j) o =
     (ap fastSide (left-turned v s t w (suc i) j (omega arith)) ∙ fast-mirror x) ∙ or-comm (fastSide y) (fastSide x))
 
 -- ---- a state, and a stage from it
-off-turned : (v : Surveys) (s t : State) → Turned v s t → (i j : ℕ) → suc (i + j) ≡ v .reach .n
+off-turned : (v : Surveys) (s t : State) → Turned v s t → (i j : ℕ) → Opposite v i j
     → off (otherReach v) t i ≡ off (v .reach) s j
 unfolding off
 off-turned v s t w i j o = ap₂ offCell (under-turned v i j o) (w i j o) ∙ offCell-turned (under (v .reach) j) (s j)
 
 stageChecks-turned : (v : Surveys) → Lawful (v .reach .face) → (s t : State) → Turned v s t → 0 < v .reach .n
-    → Opposite (stageChecks (v .reach) (v .call) s) (stageChecks (otherReach v) (otherCall v) t)
+    → Reversed (stageChecks (v .reach) (v .call) s) (stageChecks (otherReach v) (otherCall v) t)
 unfolding stageChecks fastGauss tooLong
 stageChecks-turned v law s t w z =
     also (fastFace-turned v s t w z)
@@ -134,7 +134,7 @@ stageChecks-turned v law s t w z =
 
 -- ---- the step
 module _ (v : Surveys) (law : Lawful (v .reach .face)) (z : 0 < v .reach .n) (s t : State) (w : Turned v s t) where
-  early-turned : Opposite (early (v .reach) (v .call) s) (early (otherReach v) (otherCall v) t)
+  early-turned : Reversed (early (v .reach) (v .call) s) (early (otherReach v) (otherCall v) t)
   unfolding early fastFriction
   early-turned =
       also (λ i j o. badCall-turned v) (also (λ i j o. ap badBed (v .beds i j (omega arith))) (also (λ i j o. ap badRough (v .roughs i j o))

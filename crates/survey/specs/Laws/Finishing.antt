@@ -5,7 +5,7 @@ use mathlib.Core.Bool.{Bool, true, false, not, cond, _&&_, _||_, or-comm}
 use Prim.Native.Nat.{ℕ, zero, suc, _+_, _<_}
 use native.Mathlib.Omega.{arith}
 use borrow.Author.Tests.{eq-eqb}
-use lib.IntN.{ℤ, pos, negℤ, _+ℤ_, _-ℤ_}
+use lib.IntN.{ℤ, pos, negℤ, _-ℤ_}
 use lib.Signed.{ltZ, _≤ℤ_}
 use Rattle.whole.specs.Flags.{cond-map}
 use Rattle.whole.specs.Difference.{at, _⊞_, _⊟_, ⊖, eq! }
@@ -18,7 +18,7 @@ use Rattle.rules.specs.Laws.Minmod.{minmod-odd, either-first}
 use Rattle.rules.specs.Laws.Limiter.{not-last}
 use Rattle.survey.specs.Turned.{turnedCell}
 use Rattle.survey.specs.Laws.Cell.{turnedBed, cell-is, shallow-turned, cut-turned, dried-turned}
-use Rattle.survey.specs.Laws.Surveys.{Surveys, otherReach, otherCall, other, under-turned, Turned, turned-back}
+use Rattle.survey.specs.Laws.Surveys.{Surveys, otherReach, otherCall, other, Opposite, under-turned, Turned, turned-back}
 
 -- ---- who is marked
 abbrev partedLeft : Reach → Call → State → ℕ → Bool
@@ -35,7 +35,7 @@ gap-turned : (x y : Cell) → sizeZ (el (turnedCell x) -ℤ er (turnedCell y)) �
 gap-turned x y = ap sizeZ (eq! (at (x .e0) ⊟ ⊖ (at (x .e1)) ⊟ (at (y .e0) ⊞ ⊖ (at (y .e1))))
     (⊖ (at (y .e0) ⊟ at (y .e1) ⊟ (at (x .e0) ⊞ at (x .e1)))) (omega arith)) ∙ size-neg (el y -ℤ er x)
 
-parted-left : (v : Surveys) (s t : State) → Turned v s t → (i j : ℕ) → suc (i + j) ≡ v .reach .n
+parted-left : (v : Surveys) (s t : State) → Turned v s t → (i j : ℕ) → Opposite v i j
     → partedLeft (otherReach v) (otherCall v) t i ≡ parted (v .reach) (v .call) s j
 unfolding parted
 parted-left v s t w zero j o = rw (eq-eqb (suc j) (v .reach .n) (omega arith))
@@ -43,7 +43,7 @@ parted-left v s t w (suc i) j o = rw (not-last i (v .reach .n) (omega arith), no
     (ap (ltZ (v .call .jump)) (ap₂ (λ (x y : Cell). sizeZ (el x -ℤ er y)) (w (suc i) j (omega arith)) (w i (suc j) (omega arith))
     ∙ gap-turned (s j) (s (suc j))))
 
-marked-turned : (v : Surveys) (s t : State) → Turned v s t → (i j : ℕ) → suc (i + j) ≡ v .reach .n
+marked-turned : (v : Surveys) (s t : State) → Turned v s t → (i j : ℕ) → Opposite v i j
     → marked (otherReach v) (otherCall v) t i ≡ marked (v .reach) (v .call) s j
 marked-turned v s t w i j o =
     marked-is (otherReach v) (otherCall v) t i
@@ -51,17 +51,17 @@ marked-turned v s t w i j o =
     ∙ or-comm (parted (v .reach) (v .call) s j) (partedLeft (v .reach) (v .call) s j) ∙ sym (marked-is (v .reach) (v .call) s j)
 
 -- ---- who is spared
-shallow-at : (v : Surveys) (s t : State) → Turned v s t → (d : ℤ) (i j : ℕ) → suc (i + j) ≡ v .reach .n
+shallow-at : (v : Surveys) (s t : State) → Turned v s t → (d : ℤ) (i j : ℕ) → Opposite v i j
     → shallowAt d (otherReach v) t i ≡ shallowAt d (v .reach) s j
 shallow-at v s t w d i j o = ap₂ (shallow d) (under-turned v i j o) (w i j o) ∙ shallow-turned (under (v .reach) j) (s j) d
 
-shallow-left : (v : Surveys) (s t : State) → Turned v s t → (d : ℤ) (i j : ℕ) → suc (i + j) ≡ v .reach .n
+shallow-left : (v : Surveys) (s t : State) → Turned v s t → (d : ℤ) (i j : ℕ) → Opposite v i j
     → shallowLeft d (otherReach v) t i ≡ shallowRight d (v .reach) s j
 unfolding shallowLeft shallowRight
 shallow-left v s t w d zero j o = rw (eq-eqb (suc j) (v .reach .n) (omega arith))
 shallow-left v s t w d (suc i) j o = rw (not-last j (v .reach .n) (omega arith)) (shallow-at v s t w d i (suc j) (omega arith))
 
-spared-turned : (v : Surveys) (s t : State) → Turned v s t → (d : ℤ) (i j : ℕ) → suc (i + j) ≡ v .reach .n
+spared-turned : (v : Surveys) (s t : State) → Turned v s t → (d : ℤ) (i j : ℕ) → Opposite v i j
     → spared d (otherReach v) t i ≡ spared d (v .reach) s j
 unfolding spared
 spared-turned v s t w d i j o =
@@ -73,7 +73,7 @@ spared-turned v s t w d i j o =
     swap true b c = refl
     swap false b c = or-comm b c
 
-limits-turned : (v : Surveys) (s t : State) → Turned v s t → (i j : ℕ) → suc (i + j) ≡ v .reach .n
+limits-turned : (v : Surveys) (s t : State) → Turned v s t → (i j : ℕ) → Opposite v i j
     → isLimited (otherReach v) (otherCall v) t i ≡ isLimited (v .reach) (v .call) s j
 unfolding isLimited
 limits-turned v s t w i j o = λ m. marked-turned v s t w i j o m && not (spared-turned v s t w (v .call .dry) i j o m)
@@ -81,32 +81,32 @@ limits-turned v s t w i j o = λ m. marked-turned v s t w i j o m && not (spared
 -- ---- the slopes: where f is turned alike by minmod, and from the other end the means m rise by f of what they rise by here
 module _ (v : Surveys) (f : ℤ → ℤ) (fair : (a b : ℤ) → minmod (f a) (f b) ≡ f (minmod a b)) (m m′ : ℕ → ℤ)
     (rises : (i j : ℕ) → suc (suc (i + j)) ≡ v .reach .n → m′ (suc i) -ℤ m′ i ≡ f (m (suc j) -ℤ m j)) (x : ℤ) where
-  held-left : (y : ℤ) (i j : ℕ) → suc (i + j) ≡ v .reach .n → withLeft m′ i (f y) ≡ f (withRight (v .reach) m j y)
+  held-left : (y : ℤ) (i j : ℕ) → Opposite v i j → withLeft m′ i (f y) ≡ f (withRight (v .reach) m j y)
   unfolding withLeft withRight
   held-left y zero j o = rw (eq-eqb (suc j) (v .reach .n) (omega arith))
   held-left y (suc i) j o = rw (not-last j (v .reach .n) (omega arith))
       (ap (minmod (f y)) (rises i j (omega arith)) ∙ fair y (m (suc j) -ℤ m j))
 
-  held-right : (i j : ℕ) → suc (i + j) ≡ v .reach .n → withRight (otherReach v) m′ i (f x) ≡ f (withLeft m j x)
+  held-right : (i j : ℕ) → Opposite v i j → withRight (otherReach v) m′ i (f x) ≡ f (withLeft m j x)
   unfolding withLeft withRight
   held-right i zero o = rw (eq-eqb (suc i) (v .reach .n) (omega arith))
   held-right i (suc j) o = rw (not-last i (v .reach .n) (omega arith))
       (ap (minmod (f x)) (rises i j (omega arith)) ∙ fair x (m (suc j) -ℤ m j))
 
-  limited-turned : (i j : ℕ) → suc (i + j) ≡ v .reach .n → limited (otherReach v) m′ i (f x) ≡ f (limited (v .reach) m j x)
+  limited-turned : (i j : ℕ) → Opposite v i j → limited (otherReach v) m′ i (f x) ≡ f (limited (v .reach) m j x)
   unfolding limited
   limited-turned i j o =
       ap (withLeft m′ i) (held-right i j o) ∙ held-left (withLeft m j x) i j o ∙ ap f (sym (either-first (v .reach) m j x))
 
 module _ (v : Surveys) (s t : State) (w : Turned v s t) where
   -- a level slope turns, a discharge slope stays
-  e1-limited : (i j : ℕ) → suc (i + j) ≡ v .reach .n
+  e1-limited : (i j : ℕ) → Opposite v i j
       → limited (otherReach v) (λ a. t a .e0) i (negℤ (s j .e1)) ≡ negℤ (limited (v .reach) (λ a. s a .e0) j (s j .e1))
   e1-limited i j = limited-turned v negℤ minmod-odd (λ a. s a .e0) (λ a. t a .e0)
       (λ i j o. ap₂ (λ (x y : Cell). x .e0 -ℤ y .e0) (w (suc i) j (omega arith)) (w i (suc j) (omega arith))
       ∙ eq! (at (s j .e0) ⊟ at (s (suc j) .e0)) (⊖ (at (s (suc j) .e0) ⊟ at (s j .e0))) (omega arith)) (s j .e1) i j
 
-  q1-limited : (i j : ℕ) → suc (i + j) ≡ v .reach .n
+  q1-limited : (i j : ℕ) → Opposite v i j
       → limited (otherReach v) (λ a. t a .q0) i (s j .q1) ≡ limited (v .reach) (λ a. s a .q0) j (s j .q1)
   q1-limited i j = limited-turned v (λ z. z) (λ a b. refl) (λ a. s a .q0) (λ a. t a .q0)
       (λ i j o. ap₂ (λ (x y : Cell). x .q0 -ℤ y .q0) (w (suc i) j (omega arith)) (w i (suc j) (omega arith))

@@ -7,7 +7,7 @@ use mathlib.Core.List.{reverse}
 use Prim.Native.Nat.{ℕ, suc, _+_, _-_}
 use native.Mathlib.Omega.{arith}
 use lib.ListN.{length, getD, length-reverse}
-use lib.IntN.{ℤ, pos, negℤ}
+use lib.IntN.{pos, negℤ}
 use Rattle.tables.specs.Reversed.{getD-reverse}
 use Rattle.tables.specs.Cells.{cellIn, tableOf, length-table, cellIn-table, table-same}
 use Rattle.rules.specs.Face.{face}

@@ -4,7 +4,7 @@
 use mathlib.Core.Path.{_≡_, _∙_, ap₂}
 use Prim.Native.Nat.{ℕ, suc, _+_, _<_}
 use native.Mathlib.Omega.{arith}
-use lib.IntN.{ℤ, negℤ}
+use lib.IntN.{negℤ}
 use Rattle.tables.specs.Cells.{Cell}
 use Rattle.rules.specs.Face.{Flux}
 use Rattle.rules.specs.Lawful.{Lawful}

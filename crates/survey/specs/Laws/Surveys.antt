@@ -37,13 +37,17 @@ other v = record {
   roughs = λ i j o. sym (v .roughs j i (omega arith));
 }
 
--- cell i of the other is cell j turned: the bed under it, and what it holds in a state t that is s turned round
-pub under-turned : (v : Surveys) (i j : ℕ) → suc (i + j) ≡ v .reach .n → under (otherReach v) i ≡ turnedBed (under (v .reach) j)
+-- cell i of the other survey and cell j of the one are the same
+abbrev pub Opposite : Surveys → ℕ → ℕ → Type 0
+Opposite v i j = suc (i + j) ≡ v .reach .n
+
+-- but turned: the bed under it, and what it holds in a state t that is s turned round
+pub under-turned : (v : Surveys) (i j : ℕ) → Opposite v i j → under (otherReach v) i ≡ turnedBed (under (v .reach) j)
 under-turned v i j o =
     let l = v .beds i (suc j) (omega arith) in let r = v .beds (suc i) j (omega arith) in λ m. record { zl = l m; zr = r m }
 
 abbrev pub Turned : Surveys → State → State → Type 0
-Turned v s t = (i j : ℕ) → suc (i + j) ≡ v .reach .n → t i ≡ turnedCell (s j)
+Turned v s t = (i j : ℕ) → Opposite v i j → t i ≡ turnedCell (s j)
 
 pub turned-back : (v : Surveys) (s t : State) → Turned v s t → Turned (other v) t s
 turned-back v s t w i j o = sym (ap turnedCell (w j i (omega arith)) ∙ cell-twice (s i))
