@@ -8,16 +8,24 @@ use lib.ListN.{length, length-reverse}
 use lib.IntN.{ℤ, pos, negℤ, _+ℤ_}
 use lib.Signed.{ltZ, _≤ℤ_}
 use Rattle.whole.specs.Flags.{by}
-use Rattle.whole.specs.Difference.{at, lit, nlit, _⊞_, ⊖, le!, eq!, le?, lt?}
+use Rattle.whole.specs.Parts.{Within, b-up}
+use Rattle.whole.specs.Difference.{at, lit, nlit, ⊖, le!, le?, lt?, neg-add}
 use Rattle.whole.specs.Tests.{lt-yes, lt-no}
 use Rattle.whole.specs.Choice.{antisym}
 use Rattle.tables.specs.Columns.{inColumn}
 use Rattle.tables.specs.Cells.{Cell, cellIn, length-table, table-each}
-use Rattle.rules.specs.Lent.{Lent, Outcome, cellsOf, number, stepOf}
-use Rattle.rules.specs.Laws.Lengths.{fits}
+use Rattle.rules.specs.Refusals.{early, off}
+use Rattle.rules.specs.Lent.{Lent, Outcome, cellsOf, reachOf, callOf, stateOf, number, stepOf}
+use Rattle.rules.specs.Laws.Verdicts.{clear-at}
+use Rattle.rules.specs.Laws.Order as order
+use Rattle.rules.specs.Laws.Lengths.{fits, unrefused}
+use Rattle.rules.specs.Laws.Runs.{accepted-early}
 use Rattle.survey.specs.Turned.{turnedCell, turnedTable, turnedCall}
 use Rattle.survey.specs.Laws.Lent.{number-turned, filled-turned, left-turned, right-turned}
-use Rattle.step.specs.Gives.{Gives, answer, leaves}
+use Rattle.stage.specs.Ranges.{Ranged}
+use Rattle.stage.specs.Laws.LentChecks.{grounds, ranged}
+use Rattle.stage.specs.Laws.CellSizes.{cell-sizes}
+use Rattle.step.specs.Gives.{lend, Gives, answer, leaves}
 use Rattle.step.specs.declared.Answer.the-variants.{Accepted}
 use Rattle.promises.specs.Seen.{Called, lent, Calls, none, more, leastI32, FitsI32, NoneLeast, FromOtherEnd}
 use Rattle.promises.specs.Outcomes.{accepts, taken}
@@ -37,22 +45,11 @@ other-gives l w v old new g old′ =
 
 -- a run of them: each turned call is lent the turned table that the one before wrote, and a table to write that is as long
 module _ {bed : List ℤ} {n dx : ℕ} {s : List ℤ} {w v : ℤ} {old m : List ℤ} (c : Called bed n dx s (Accepted w v) old m) where
-  other-lent : (k : ℕ) → Lent
-  other-lent k = record {
-    now = turnedTable k s;
-    room = length old;
-    bed = reverse bed;
-    friction = reverse (c .friction);
-    dx = dx;
-    dt = c .dt;
-    jump = c .jump;
-    dry = c .dry;
-    left = c .right;
-    right = c .left;
-  }
+  -- which is lent so of k cells
+  abbrev lentOf : ℕ → Lent
+  lentOf k = lend (turnedTable k s) (length old) (reverse bed) (reverse (c .friction)) dx (c .dt) (c .jump) (c .dry) (c .right) (c .left)
 
-  other-call : Called (reverse bed) n dx (turnedTable n s) (Accepted (negℤ v) (negℤ w)) old (turnedTable n m)
-  unfolding other-lent
+  abbrev other-call : Called (reverse bed) n dx (turnedTable n s) (Accepted (negℤ v) (negℤ w)) old (turnedTable n m)
   other-call = record {
     friction = reverse (c .friction);
     cells = length-reverse (c .friction) ∙ c .cells;
@@ -61,24 +58,12 @@ module _ {bed : List ℤ} {n dx : ℕ} {s : List ℤ} {w v : ℤ} {old m : List 
     dry = c .dry;
     left = c .right;
     right = c .left;
-    gave = subst (λ (k : ℕ). Gives (stepOf (other-lent k)) (Accepted (negℤ v) (negℤ w)) old (turnedTable k m)) (c .cells)
+    gave = subst (λ (k : ℕ). Gives (stepOf (lentOf k)) (Accepted (negℤ v) (negℤ w)) old (turnedTable k m)) (c .cells)
         (other-gives (lent c) w v old m (c .gave) old);
   }
 
   is-turned : lent other-call ≡ turnedCall (lent c)
-  unfolding other-call
-  is-turned = λ i. record {
-    now = turnedTable (sym (c .cells) i) s;
-    room = length old;
-    bed = reverse bed;
-    friction = reverse (c .friction);
-    dx = dx;
-    dt = c .dt;
-    jump = c .jump;
-    dry = c .dry;
-    left = c .right;
-    right = c .left;
-  }
+  is-turned = ap lentOf (sym (c .cells))
 
 pub other-run : {bed : List ℤ} {n dx : ℕ} {s t : List ℤ} {a b : ℤ} (k : Calls bed n dx s t a b) → FromOtherEnd k
 other-run {n = n} (none t) = record {
@@ -95,8 +80,8 @@ other-run {n = n} (more s m t old w v a b c k) = let rest = other-run k in recor
   calls = more (turnedTable n s) (turnedTable n m) (turnedTable n t) old (negℤ v) (negℤ w) (rest .left) (rest .right)
       (other-call c) (rest .calls);
   each = (is-turned c, rest .each);
-  left-is = ap (λ (z : ℤ). negℤ v +ℤ z) (rest .left-is) ∙ eq! (⊖ (at v) ⊞ ⊖ (at b)) (⊖ (at v ⊞ at b)) (omega arith);
-  right-is = ap (λ (z : ℤ). negℤ w +ℤ z) (rest .right-is) ∙ eq! (⊖ (at w) ⊞ ⊖ (at a)) (⊖ (at w ⊞ at a)) (omega arith);
+  left-is = ap (λ (z : ℤ). negℤ v +ℤ z) (rest .left-is) ∙ neg-add v b;
+  right-is = ap (λ (z : ℤ). negℤ w +ℤ z) (rest .right-is) ∙ neg-add w a;
 }
 
 -- ---- the turned table is one of i32
@@ -123,3 +108,18 @@ module _ (n : ℕ) (t : List ℤ) (size : length t ≡ 4 * n) (words : FitsI32 t
     opposite-word (inColumn n t 2 k) (words (2 * n + k) (omega arith)) (turns .1),
     words (3 * n + k) (omega arith),
   )) j (omega (arith, length-table n cells))
+
+-- a state that a call accepts is far from the least
+module _ (l : Lent) (accepted : number l ≡ 0) where
+  ranged-now : Ranged (l .bed) (cellsOf l) (stateOf l)
+  unfolding early off
+  ranged-now =
+      let clear = clear-at (early (reachOf l) (callOf l) (stateOf l)) (accepted-early (reachOf l) (callOf l) (stateOf l) (unrefused l accepted)) in
+      ranged (cellsOf l) (l .bed) (stateOf l) (grounds (cellsOf l) (l .bed) (clear order.beds)) (clear order.state)
+
+  above-least : (z : ℤ) → Within 2147483647 z → z ≡ leastI32 → ⊥
+  above-least z w e = let far = subst (Within 2147483647) e w .abs in omega (arith, far)
+
+  pub accepted-none-least : NoneLeast (l .now) (cellsOf l)
+  accepted-none-least i b = let size = cell-sizes (ranged-now i b) in
+      (above-least _ (b-up 2147483647 (size .e1) tt), above-least _ (b-up 2147483647 (size .q0) tt))

@@ -80,7 +80,7 @@ use Rattle.promises.specs.Outcomes.{allChecks, found-is, number-is, refu
 use Rattle.promises.specs.Outcomes.{whole-place}
 use Rattle.promises.specs.Outcomes.{refused-table, refused-later, Taken, taken, reachAt, call, one, none-below}
 use Rattle.promises.specs.Outcomes.{both-listed, wall-left, inflow-left}
-use Rattle.promises.specs.OtherEnd.{other-gives, other-run, turned-fits}
+use Rattle.promises.specs.OtherEnd.{other-gives, other-run, turned-fits, accepted-none-least}
 use Rattle.promises.specs.Outcomes.{none-below-table, none-short-table, excess-table, wet, water-is, at-rest, written-calm, run}
 
 -- ---- demand 1: one answer, one content of the table
@@ -335,10 +335,14 @@ unfolding turnedTable
 turned-columns n t i l = let e = cellIn-table n (λ k. turnedCell (cellIn n t (n - suc k))) i l in
     (ap (λ (x : Cell). x .e0) e, ap (λ (x : Cell). x .e1) e, ap (λ (x : Cell). x .q0) e, ap (λ (x : Cell). x .q1) e)
 
--- and it can be lent, as its numbers are i32 too, where no level slope and no discharge mean is -2^31
+-- and it can be lent, as its numbers are i32 too, where no level slope and no discharge mean is -2^31,
 pub turned-lendable : (l : Lent) → misfits l ≡ false → FitsI32 (l .now) → NoneLeast (l .now) (cellsOf l) → FitsI32 (turnedCall l .now)
 turned-lendable l fit words ok = let size = fitted (length (l .now)) (l .room) (length (l .bed)) (cellsOf l) fit .now in
     turned-fits (cellsOf l) (l .now) size words ok
+
+-- as it is of every call that is accepted
+pub accepted-turnable : (l : Lent) (w v : ℤ) (old new : List ℤ) → Gives (stepOf l) (Accepted w v) old new → NoneLeast (l .now) (cellsOf l)
+accepted-turnable l w v old new g = accepted-none-least l (taken l w v old new g .number)
 
 -- it is refused with the same number, at the place that is the lowest from there;
 pub turned-refused : (l : Lent) → misfits l ≡ false → (k p : ℕ) (old new : List ℤ) → Gives (stepOf l) (Refused k p) old new

@@ -5,6 +5,7 @@ pub mod Surveys
 pub mod Faces
 pub mod Finishing
 pub mod Step
+pub mod Reversed
 pub mod Checks
 pub mod Twice
 pub mod Lent

@@ -116,6 +116,16 @@ times-none a = eq! (at a ⊠ lit 0) (lit 0) (omega arith)
 pub none-times : (a : ℤ) → pos 0 *ℤ a ≡ pos 0
 none-times a = eq! (lit 0 ⊠ at a) (lit 0) (omega arith)
 
+-- ---- sums and differences of numbers with their signs changed
+pub neg-add : (a b : ℤ) → negℤ a +ℤ negℤ b ≡ negℤ (a +ℤ b)
+neg-add a b = eq! (⊖ (at a) ⊞ ⊖ (at b)) (⊖ (at a ⊞ at b)) (omega arith)
+
+pub neg-sub : (a b : ℤ) → negℤ a -ℤ negℤ b ≡ negℤ (a -ℤ b)
+neg-sub a b = eq! (⊖ (at a) ⊟ ⊖ (at b)) (⊖ (at a ⊟ at b)) (omega arith)
+
+pub sub-neg : (a b : ℤ) → a -ℤ negℤ b ≡ a +ℤ b
+sub-neg a b = eq! (at a ⊟ ⊖ (at b)) (at a ⊞ at b) (omega arith)
+
 -- ---- the difference of two that are not below nought is no larger than the larger
 pub b-less : {A : ℕ} (a b : ℤ) → pos 0 ≤ℤ a → pos 0 ≤ℤ b → Within A a → Within A b → Within A (a -ℤ b)
 b-less {A} a b p q h k =

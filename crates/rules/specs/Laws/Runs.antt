@@ -164,13 +164,17 @@ accepted r c s e =
       end = clear order.end;
     }
 
+-- it passed every check up to stage one's faces
+pub accepted-early : (r : Reach) (c : Call) (s : State) → refusal r c s ≡ 0 → Clear (early r c s)
+unfolding refusal checks early stageChecks
+accepted-early r c s e = passed 0 (early r c s) (late r c s) tt e .0
+
 -- and no cell of the state it starts from is faster than 131,072, with friction or without
 pub accepted-slow : (r : Reach) (c : Call) (s : State) → refusal r c s ≡ 0 → (i : ℕ) → i < r .n
     → past fastest (speed (c .dry) (s i .q0) (h0 (under r i) (s i))) ≡ false
-unfolding refusal checks early stageChecks fastFriction fastCell
+unfolding early fastFriction fastCell
 accepted-slow r c s e i l =
-    let clear = clear-at (early r c s) (passed 0 (early r c s) (late r c s) tt e .0) in
-    some-none (fastFriction r c s) (r .n) (clear order.friction) i l
+    some-none (fastFriction r c s) (r .n) (clear-at (early r c s) (accepted-early r c s e) order.friction) i l
 
 -- nor is any speed at a face of either stage, that of an inflow included
 pub accepted-speeds : (r : Reach) (c : Call) (s : State) → refusal r c s ≡ 0
@@ -187,10 +191,10 @@ accepted-inflows r c s o e = let p = accepted-speeds r c s e in
 
 -- and its ends are in their lists
 pub accepted-ends : (r : Reach) (c : Call) (s : State) → refusal r c s ≡ 0 → (badEnd (c .left) ≡ false) × (badEnd (c .right) ≡ false)
-unfolding refusal checks early stageChecks badCall
+unfolding early badCall
 accepted-ends r c s e =
-    let clear = clear-at (early r c s) (passed 0 (early r c s) (late r c s) tt e .0) in
-    let fails = none-at (callTests r c) (sym (of-call 2 (badCall r c)) ∙ clear order.call) in
+    let clear = clear-at (early r c s) (accepted-early r c s e) order.call in
+    let fails = none-at (callTests r c) (sym (of-call 2 (badCall r c)) ∙ clear) in
     (fails 4, fails 5)
 
 -- no depth, mean or face, is below nought: in the state it starts from, in the finished stage one, in the end state

@@ -8,7 +8,7 @@ use native.Mathlib.Omega.{arith}
 use lib.IntN.{ℤ, pos, negℤ, negℤ-negℤ, _+ℤ_, _-ℤ_, _*ℤ_}
 use lib.Signed.{quotZ, leZ, _≤ℤ_}
 use Rattle.whole.specs.Flags.{cond-map}
-use Rattle.whole.specs.Difference.{at, lit, _⊞_, _⊟_, ⊖, _⊠_, eq! }
+use Rattle.whole.specs.Difference.{at, lit, _⊞_, _⊟_, ⊖, _⊠_, eq!, neg-add, neg-sub, sub-neg}
 use Rattle.whole.specs.Ring.{v, k, neg, _⊕_, _⊗_, _⊝_, solve}
 use Rattle.whole.specs.Quotient.{quot-odd}
 use Rattle.tables.specs.Cells.{Cell}
@@ -40,15 +40,6 @@ from-there : {A : Type 0} (f g : Bed → Cell → A) → ((b : Bed) (x : Cell) �
     → (b : Bed) (x : Cell) → g (turnedBed b) (turnedCell x) ≡ f b x
 from-there f g h b x = sym (h (turnedBed b) (turnedCell x)) ∙ ap (f b) (cell-twice x)
 
-neg-neg : (a b : ℤ) → negℤ a +ℤ negℤ b ≡ negℤ (a +ℤ b)
-neg-neg a b = eq! (⊖ (at a) ⊞ ⊖ (at b)) (⊖ (at a ⊞ at b)) (omega arith)
-
-neg-less : (a b : ℤ) → negℤ a -ℤ negℤ b ≡ negℤ (a -ℤ b)
-neg-less a b = eq! (⊖ (at a) ⊟ ⊖ (at b)) (⊖ (at a ⊟ at b)) (omega arith)
-
-less-neg : (a b : ℤ) → a -ℤ negℤ b ≡ a +ℤ b
-less-neg a b = eq! (at a ⊟ ⊖ (at b)) (at a ⊞ at b) (omega arith)
-
 -- ---- bed and depths
 z0-turned : (b : Bed) → z0 (turnedBed b) ≡ z0 b
 unfolding z0
@@ -64,11 +55,11 @@ h0-turned b x = ap (λ (z : ℤ). x .e0 -ℤ z) (z0-turned b)
 
 h1-turned : (b : Bed) (x : Cell) → h1 (turnedBed b) (turnedCell x) ≡ negℤ (h1 b x)
 unfolding h1
-h1-turned b x = ap (λ (z : ℤ). negℤ (x .e1) -ℤ z) (z1-turned b) ∙ neg-less (x .e1) (z1 b)
+h1-turned b x = ap (λ (z : ℤ). negℤ (x .e1) -ℤ z) (z1-turned b) ∙ neg-sub (x .e1) (z1 b)
 
 pub hl-turned : (b : Bed) (x : Cell) → hl (turnedBed b) (turnedCell x) ≡ hr b x
 unfolding hl hr
-hl-turned b x = ap₂ _-ℤ_ (h0-turned b x) (h1-turned b x) ∙ less-neg (h0 b x) (h1 b x)
+hl-turned b x = ap₂ _-ℤ_ (h0-turned b x) (h1-turned b x) ∙ sub-neg (h0 b x) (h1 b x)
 
 pub hr-turned : (b : Bed) (x : Cell) → hr (turnedBed b) (turnedCell x) ≡ hl b x
 hr-turned = from-there hl hr hl-turned
@@ -88,7 +79,7 @@ sideL-turned d b x = let h = hl-turned b x in
 -- ---- the Gauss points
 depthBefore-turned : (b : Bed) (x : Cell) → depthBefore (turnedBed b) (turnedCell x) ≡ depthBehind b x
 depthBefore-turned b x = ap₂ (λ (p q : ℤ). p -ℤ share q) (h0-turned b x) (h1-turned b x)
-    ∙ ap (λ (z : ℤ). h0 b x -ℤ z) (share-odd (h1 b x)) ∙ less-neg (h0 b x) (share (h1 b x))
+    ∙ ap (λ (z : ℤ). h0 b x -ℤ z) (share-odd (h1 b x)) ∙ sub-neg (h0 b x) (share (h1 b x))
 
 depthBehind-turned : (b : Bed) (x : Cell) → depthBehind (turnedBed b) (turnedCell x) ≡ depthBefore b x
 depthBehind-turned = from-there depthBefore depthBehind depthBefore-turned
@@ -149,7 +140,7 @@ module _ (b : Bed) (x : Cell) (l f : Flux) where
           ap (λ (z : ℤ). negℤ (x .e1) -ℤ z) (quot-odd n dx
           (eq! (lit 3 ⊠ (⊖ (at (l .F)) ⊞ ⊖ (at (f .F)) ⊟ lit 2 ⊠ ⊖ (at (x .q0))) ⊠ at t)
           (⊖ (lit 3 ⊠ (at (f .F) ⊞ at (l .F) ⊟ lit 2 ⊠ at (x .q0)) ⊠ at t)) (omega arith)))
-          ∙ neg-less (x .e1) (quotZ n dx)
+          ∙ neg-sub (x .e1) (quotZ n dx)
 
       discharge : negℤ (x .q0) +ℤ quotZ ((f .A -ℤ l .A) *ℤ t) dx
           +ℤ quotZ (pos 981 *ℤ push (turnedBed b) (turnedCell x) (flip f) (flip l) *ℤ t) (pos 819200 *ℤ dx)
@@ -159,8 +150,8 @@ module _ (b : Bed) (x : Cell) (l f : Flux) where
           (quot-odd n dx (eq! ((at (f .A) ⊟ at (l .A)) ⊠ at t) (⊖ ((at (l .A) ⊟ at (f .A)) ⊠ at t)) (omega arith)))
           (quot-odd m (pos 819200 *ℤ dx) (ap (λ (z : ℤ). pos 981 *ℤ z *ℤ t) push-turned
           ∙ eq! (lit 981 ⊠ ⊖ (at e) ⊠ at t) (⊖ (lit 981 ⊠ at e ⊠ at t)) (omega arith)))
-          ∙ ap (λ (z : ℤ). z +ℤ negℤ (quotZ m (pos 819200 *ℤ dx))) (neg-neg (x .q0) (quotZ n dx))
-          ∙ neg-neg (x .q0 +ℤ quotZ n dx) (quotZ m (pos 819200 *ℤ dx))
+          ∙ ap (λ (z : ℤ). z +ℤ negℤ (quotZ m (pos 819200 *ℤ dx))) (neg-add (x .q0) (quotZ n dx))
+          ∙ neg-add (x .q0 +ℤ quotZ n dx) (quotZ m (pos 819200 *ℤ dx))
 
       dischargeSlope : x .q1 -ℤ quotZ (pos 3 *ℤ (l .A +ℤ f .A -ℤ gauss d (turnedBed b) (turnedCell x)) *ℤ t) dx
           -ℤ quotZ (pos 981 *ℤ tilt (turnedBed b) (turnedCell x) (flip f) (flip l) *ℤ t) (pos 819200 *ℤ dx)
@@ -169,23 +160,23 @@ module _ (b : Bed) (x : Cell) (l f : Flux) where
           x .q1 -ℤ quotZ (pos 3 *ℤ (both m -ℤ gauss-turned d b x m) *ℤ t) dx -ℤ quotZ (pos 981 *ℤ tilt-turned m *ℤ t) (pos 819200 *ℤ dx)
 
 -- ---- finishing, where the mean is not below nought
-module _ (b : Bed) (x : Cell) where
-  pub shallow-turned : (d : ℤ) → shallow d (turnedBed b) (turnedCell x) ≡ shallow d b x
-  shallow-turned d = ap (λ (h : ℤ). leZ h d) (h0-turned b x)
+pub shallow-turned : (d : ℤ) (b : Bed) (x : Cell) → shallow d (turnedBed b) (turnedCell x) ≡ shallow d b x
+shallow-turned d b x = ap (λ (h : ℤ). leZ h d) (h0-turned b x)
 
+module _ (b : Bed) (x : Cell) where
   pub cut-turned : pos 0 ≤ℤ h0 b x → cut (turnedBed b) (turnedCell x) ≡ turnedCell (cut b x)
   unfolding cut
   cut-turned h = let m = h0 b x in let d = h1 b x in
       cell-is (cut (turnedBed b) (turnedCell x)) (turnedCell (cut b x)) refl
-      (ap₂ _+ℤ_ (ap₂ clipped (h0-turned b x) (h1-turned b x) ∙ clipped-odd m d h) (z1-turned b) ∙ neg-neg (clipped m d) (z1 b))
+      (ap₂ _+ℤ_ (ap₂ clipped (h0-turned b x) (h1-turned b x) ∙ clipped-odd m d h) (z1-turned b) ∙ neg-add (clipped m d) (z1 b))
       refl
       (ap (λ (t : Bool). cond t (pos 0) (x .q1)) (ap₂ beyond (h0-turned b x) (h1-turned b x) ∙ beyond-even m d))
 
   pub dried-turned : (d : ℤ) → dried d (turnedBed b) (turnedCell x) ≡ turnedCell (dried d b x)
   unfolding dried
   dried-turned d = cell-is (dried d (turnedBed b) (turnedCell x)) (turnedCell (dried d b x)) refl refl
-      (ap (λ (t : Bool). cond t (pos 0) (negℤ (x .q0))) (shallow-turned d) ∙ cond-map negℤ (shallow d b x) (pos 0) (x .q0))
-      (ap (λ (t : Bool). cond t (pos 0) (x .q1)) (shallow-turned d))
+      (ap (λ (t : Bool). cond t (pos 0) (negℤ (x .q0))) (shallow-turned d b x) ∙ cond-map negℤ (shallow d b x) (pos 0) (x .q0))
+      (ap (λ (t : Bool). cond t (pos 0) (x .q1)) (shallow-turned d b x))
 
   -- ---- friction
   rub-turned : (t d f q : ℤ) → rub t d f (turnedBed b) (turnedCell x) q ≡ rub t d f b x q

@@ -9,47 +9,28 @@ use native.Mathlib.Omega.{arith}
 use borrow.Author.Tests.{eq-eqb}
 use lib.IntN.{ℤ, pos, negℤ, _*ℤ_}
 use lib.Signed.{ltZ}
-use Rattle.whole.specs.Flags.{by, or-true}
-use Rattle.tables.specs.Some.{some, some-reversed}
+use Rattle.whole.specs.Flags.{or-true}
 use Rattle.tables.specs.Cells.{Cell}
 use Rattle.rules.specs.Limits.{longestCell, longestStep, largestJump, deepest, fullest, fastest}
 use Rattle.rules.specs.Face.{Side, Flux, speed}
 use Rattle.rules.specs.Ends.{inflowSpeed}
 use Rattle.rules.specs.Lawful.{mirror, Lawful}
-use Rattle.rules.specs.Reach.{Reach, Call, State, ql, qr, Bed, under, h0, hl, hr}
+use Rattle.rules.specs.Reach.{Reach, Call, State, ql, qr, Bed, h0, hl, hr}
 use Rattle.rules.specs.Stage.{atLeft, atRight, depthBefore, depthBehind, flowBefore, flowBehind}
 use Rattle.rules.specs.Step.{rubbed, stageOne, next}
 use Rattle.rules.specs.Refusals.{any, outside, past, badDry, badEnd, badCall, badBed, badRough, offCell, off, fastCell, fastFriction}
 use Rattle.rules.specs.Refusals.{fastSide, fastInflow, fastFace, fastPoints, fastGauss, tooLong}
-use Rattle.rules.specs.Refusals.{Check, each, verdict, stageChecks, early, checks, refusal}
+use Rattle.rules.specs.Refusals.{Check, each, stageChecks, early, checks, refusal}
 use Rattle.rules.specs.Laws.Speeds.{speed-odd}
 use Rattle.rules.specs.Laws.Limiter.{not-last}
-use Rattle.rules.specs.Laws.Accept.{Clear}
 use Rattle.rules.specs.Laws.Runs.{early-of, stage-brief}
 use Rattle.survey.specs.Turned.{turnedCell}
 use Rattle.survey.specs.Laws.Signs.{past-even}
 use Rattle.survey.specs.Laws.Cell.{turnedBed, h0-turned, hl-turned, hr-turned, ql-turned, qr-turned, before-turned, behind-turned}
-use Rattle.survey.specs.Laws.Surveys.{Surveys, otherReach, otherCall, other, Opposite, under-turned, Turned, turned-back}
+use Rattle.survey.specs.Laws.Surveys.{Surveys, otherReach, otherCall, other, Opposite, Turned, turned-back, opposite-cell}
+use Rattle.survey.specs.Laws.Reversed.{Reversed, end, also, same-number}
 use Rattle.survey.specs.Laws.Faces.{left-turned, right-turned, face-turned}
 use Rattle.survey.specs.Laws.Step.{rubbed-turned, stageOne-turned, next-turned}
-
--- ---- lists of checks, each of which is that of the other list from the last place to the first
-data Reversed : List Check → List Check → Type 0 where
-  end : Reversed [] []
-  and : (k n : ℕ) (p q : ℕ → Bool) (xs ys : List Check) → ((i j : ℕ) → suc (i + j) ≡ n → q i ≡ p j) → Reversed xs ys
-      → Reversed (each k n p ∷ xs) (each k n q ∷ ys)
-
-also : {k n : ℕ} {p q : ℕ → Bool} {xs ys : List Check} → ((i j : ℕ) → suc (i + j) ≡ n → q i ≡ p j) → Reversed xs ys
-    → Reversed (each k n p ∷ xs) (each k n q ∷ ys)
-also {k} {n} {p} {q} {xs} {ys} e a = and k n p q xs ys e a
-
--- they give one number, where what follows them does when none of them applies
-same-number : {xs ys : List Check} → Reversed xs ys → (us vs : List Check) → (Clear xs → verdict vs ≡ verdict us)
-    → verdict (ys ++ vs) ≡ verdict (xs ++ us)
-unfolding verdict
-same-number end us vs f = f tt
-same-number (and k n p q xs ys e a) us vs f = by (some p n)
-    (λ b. rw (some-reversed p q n e, b)) (λ b. rw (some-reversed p q n e, b) (same-number a us vs (λ c. f (b, c))))
 
 -- ---- 2: the ends are exchanged
 any-swap : (a b : Bool) (bs : List Bool) → any (a ∷ b ∷ bs) ≡ any (b ∷ a ∷ bs)
@@ -120,15 +101,13 @@ fastFace-turned v s t w z (suc i) (suc j) o =
 off-turned : (v : Surveys) (s t : State) → Turned v s t → (i j : ℕ) → Opposite v i j
     → off (otherReach v) t i ≡ off (v .reach) s j
 unfolding off
-off-turned v s t w i j o = ap₂ offCell (under-turned v i j o) (w i j o) ∙ offCell-turned (under (v .reach) j) (s j)
+off-turned v s t w = opposite-cell v s t w offCell offCell offCell-turned
 
 stageChecks-turned : (v : Surveys) → Lawful (v .reach .face) → (s t : State) → Turned v s t → 0 < v .reach .n
     → Reversed (stageChecks (v .reach) (v .call) s) (stageChecks (otherReach v) (otherCall v) t)
 unfolding stageChecks fastGauss tooLong
-stageChecks-turned v law s t w z =
-    also (fastFace-turned v s t w z)
-    (also (λ i j o. ap₂ (fastPoints (v .call .dry)) (under-turned v i j o) (w i j o)
-    ∙ fastPoints-turned (v .call .dry) (under (v .reach) j) (s j))
+stageChecks-turned v law s t w z = let d = v .call .dry in
+    also (fastFace-turned v s t w z) (also (opposite-cell v s t w (fastPoints d) (fastPoints d) (fastPoints-turned d))
     (also (λ i j o. ap (λ (f : Flux). ltZ (pos 4096 *ℤ v .reach .dx) (pos 2 *ℤ v .call .dt *ℤ f .S))
     (face-turned v law s t w z i j (omega arith))) end))
 
@@ -136,11 +115,9 @@ stageChecks-turned v law s t w z =
 module _ (v : Surveys) (law : Lawful (v .reach .face)) (z : 0 < v .reach .n) (s t : State) (w : Turned v s t) where
   early-turned : Reversed (early (v .reach) (v .call) s) (early (otherReach v) (otherCall v) t)
   unfolding early fastFriction
-  early-turned =
+  early-turned = let d = v .call .dry in
       also (λ i j o. badCall-turned v) (also (λ i j o. ap badBed (v .beds i j (omega arith))) (also (λ i j o. ap badRough (v .roughs i j o))
-      (also (off-turned v s t w)
-      (also (λ i j o. ap₂ (fastCell (v .call .dry)) (under-turned v i j o) (w i j o)
-      ∙ fastCell-turned (v .call .dry) (under (v .reach) j) (s j))
+      (also (off-turned v s t w) (also (opposite-cell v s t w (fastCell d) (fastCell d) (fastCell-turned d))
       (stageChecks-turned v law (rubbed (v .reach) (v .call) s) (rubbed (otherReach v) (otherCall v) t) (rubbed-turned v s t w) z)))))
 
   -- the checks after `early`, and the last of all

@@ -9,20 +9,19 @@ use Rattle.rules.specs.Face.{Flux}
 use Rattle.rules.specs.Lawful.{mirror, flip, Lawful}
 use Rattle.rules.specs.Shown.{crossRight, crossAt}
 use Rattle.rules.specs.Ends.{leftEnd}
-use Rattle.rules.specs.Reach.{State, Bed, under, sideL}
+use Rattle.rules.specs.Reach.{State, Bed, under, sideL, sideR}
 use Rattle.rules.specs.Stage.{atLeft, atRight, faceAt, update, stage}
 use Rattle.rules.specs.Laws.Mirror.{mirror-twice, flip-twice}
 use Rattle.rules.specs.Laws.Limiter.{not-last}
 use Rattle.rules.specs.Laws.Ends as ends
 use Rattle.survey.specs.Turned.{turnedCell}
 use Rattle.survey.specs.Laws.Cell.{turnedBed, sideL-turned, update-turned}
-use Rattle.survey.specs.Laws.Surveys.{Surveys, otherReach, otherCall, other, Opposite, under-turned, Turned, turned-back}
+use Rattle.survey.specs.Laws.Surveys.{Surveys, otherReach, otherCall, other, Opposite, under-turned, Turned, turned-back, opposite-cell}
 
 -- the side that a cell shows to its left is the mirror image of the one that it shows to its right from there, and the other way round
 pub left-turned : (v : Surveys) (s t : State) → Turned v s t → (i j : ℕ) → Opposite v i j
     → atLeft (otherReach v) (otherCall v) t i ≡ mirror (atRight (v .reach) (v .call) s j)
-left-turned v s t w i j o =
-    ap₂ (sideL (v .call .dry)) (under-turned v i j o) (w i j o) ∙ sideL-turned (v .call .dry) (under (v .reach) j) (s j)
+left-turned v s t w = let d = v .call .dry in opposite-cell v s t w (sideL d) (λ b x. mirror (sideR d b x)) (sideL-turned d)
 
 pub right-turned : (v : Surveys) (s t : State) → Turned v s t → (i j : ℕ) → Opposite v i j
     → atRight (otherReach v) (otherCall v) t i ≡ mirror (atLeft (v .reach) (v .call) s j)

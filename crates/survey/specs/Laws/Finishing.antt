@@ -18,7 +18,7 @@ use Rattle.rules.specs.Laws.Minmod.{minmod-odd, either-first}
 use Rattle.rules.specs.Laws.Limiter.{not-last}
 use Rattle.survey.specs.Turned.{turnedCell}
 use Rattle.survey.specs.Laws.Cell.{turnedBed, cell-is, shallow-turned, cut-turned, dried-turned}
-use Rattle.survey.specs.Laws.Surveys.{Surveys, otherReach, otherCall, other, Opposite, under-turned, Turned, turned-back}
+use Rattle.survey.specs.Laws.Surveys.{Surveys, otherReach, otherCall, other, Opposite, under-turned, Turned, turned-back, opposite-cell}
 
 -- ---- who is marked
 abbrev partedLeft : Reach → Call → State → ℕ → Bool
@@ -53,7 +53,7 @@ marked-turned v s t w i j o =
 -- ---- who is spared
 shallow-at : (v : Surveys) (s t : State) → Turned v s t → (d : ℤ) (i j : ℕ) → Opposite v i j
     → shallowAt d (otherReach v) t i ≡ shallowAt d (v .reach) s j
-shallow-at v s t w d i j o = ap₂ (shallow d) (under-turned v i j o) (w i j o) ∙ shallow-turned (under (v .reach) j) (s j) d
+shallow-at v s t w d = opposite-cell v s t w (shallow d) (shallow d) (shallow-turned d)
 
 shallow-left : (v : Surveys) (s t : State) → Turned v s t → (d : ℤ) (i j : ℕ) → Opposite v i j
     → shallowLeft d (otherReach v) t i ≡ shallowRight d (v .reach) s j

@@ -7,7 +7,7 @@ use lib.IntN.{ℤ, pos, negℤ, negℤ-negℤ, _+ℤ_, _*ℤ_}
 use lib.Signed.{quotZ, ltZ, _≤ℤ_}
 use Rattle.whole.specs.Flags.{by}
 use Rattle.whole.specs.Parts.{of-le}
-use Rattle.whole.specs.Difference.{at, lit, _⊞_, ⊖, _⊠_, le!, eq!, lt?}
+use Rattle.whole.specs.Difference.{at, lit, _⊞_, ⊖, _⊠_, le!, eq!, lt?, neg-add}
 use Rattle.whole.specs.Quotient.{quot-odd}
 use Rattle.whole.specs.Tests.{lt-yes, no-lt, lt-neg}
 use Rattle.whole.specs.Choice.{size-neg}
@@ -31,7 +31,7 @@ carried-even d q h = let u = speed d q h in ap (λ (z : ℤ). quotZ z (pos 4096)
 
 pub half-odd : (a b : ℤ) → half (negℤ a) (negℤ b) ≡ negℤ (half a b)
 unfolding half
-half-odd a b = quot-odd (a +ℤ b) (pos 2) (eq! (⊖ (at a) ⊞ ⊖ (at b)) (⊖ (at a ⊞ at b)) (omega arith))
+half-odd a b = quot-odd (a +ℤ b) (pos 2) (neg-add a b)
 
 -- ---- friction
 pub slowed-odd : (x q : ℤ) → slowed x (negℤ q) ≡ negℤ (slowed x q)

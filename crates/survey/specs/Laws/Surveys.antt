@@ -1,11 +1,12 @@
 -- One reach and a call on it, surveyed from both ends. What is so of either survey is so of the other: a law of the left is turned for the
 -- right by `other`.
 -- Assumes nothing.
-use mathlib.Core.Path.{_≡_, sym, _∙_, ap}
+use mathlib.Core.Path.{_≡_, sym, _∙_, ap, ap₂}
 use Prim.Native.Nat.{ℕ, suc, _+_}
 use native.Mathlib.Omega.{arith}
 use lib.IntN.{ℤ}
-use Rattle.rules.specs.Reach.{Reach, Call, State, under}
+use Rattle.tables.specs.Cells.{Cell}
+use Rattle.rules.specs.Reach.{Reach, Call, State, Bed, under}
 use Rattle.survey.specs.Turned.{turnedCell}
 use Rattle.survey.specs.Laws.Cell.{turnedBed, cell-twice}
 
@@ -51,3 +52,9 @@ Turned v s t = (i j : ℕ) → Opposite v i j → t i ≡ turnedCell (s j)
 
 pub turned-back : (v : Surveys) (s t : State) → Turned v s t → Turned (other v) t s
 turned-back v s t w i j o = sym (ap turnedCell (w j i (omega arith)) ∙ cell-twice (s i))
+
+-- what a rule of one cell f gives of every turned cell as g of the cell itself, it gives of opposite cells
+pub opposite-cell : (v : Surveys) (s t : State) → Turned v s t → {A : Type 0} (f g : Bed → Cell → A)
+    → ((b : Bed) (x : Cell) → f (turnedBed b) (turnedCell x) ≡ g b x)
+    → (i j : ℕ) → Opposite v i j → f (under (otherReach v) i) (t i) ≡ g (under (v .reach) j) (s j)
+opposite-cell v s t w f g h i j o = ap₂ f (under-turned v i j o) (w i j o) ∙ h (under (v .reach) j) (s j)
