@@ -4,7 +4,6 @@ Prints a line for each row or case and last 'N passed, M failed'; the exit statu
 is 1 when something failed.
 """
 
-import itertools
 import random
 import sys
 from collections import Counter
@@ -17,8 +16,7 @@ import places
 DRY = 4     # the dry depth of 01's own numbers, which were fixed before E3
 DRY_DEPTHS = range(m.LEAST_DRY, m.MOST_DRY + 1)
 NOT_IN_LIST = (0, 65, 4294967295)
-KINDS = (m.WALL, m.OPEN, m.INFLOW)
-PAIRS = tuple(itertools.product(KINDS, KINDS))
+PAIRS = hard.PAIRS
 
 passed = failed = 0
 
@@ -696,27 +694,12 @@ def rest_holds(seed, count):
          2 * accepted >= 3 * count and 10 * shallow >= accepted and 5 * given >= 2 * accepted, True)
 
 
-def drawn_run(rnd, n):
-    """A bed and a state over it: ordinary water, or water about as deep as the dry depths are."""
-    bed = [2 * rnd.randrange(300) for _ in range(n + 1)]
-    least, most, fast = rnd.choice(((600, 9000, 4000), (0, 90, 2000), (0, 90, 2000)))
-    cells = []
-    for zl, zr in zip(bed, bed[1:]):
-        h = rnd.randint(least, most)
-        cells.append(hard.placed(zl, zr, *hard.flowing(rnd, h, rnd.randint(-h // 9, h // 9), fast)))
-    return bed, m.table_of(cells)
-
-
 def stepped(rnd, now, bed, dx, seen):
     """The state after at most twelve steps, and what the ends brought in all."""
-    n, brought = len(bed) - 1, 0
+    brought = 0
     for _ in range(12):
-        friction = [rnd.randint(0, 60) for _ in range(n)]
-        kinds = rnd.choice(PAIRS)
-        inflows = [rnd.choice((0, rnd.randint(1, 40), rnd.randint(1, 900))) if kind == m.INFLOW else 0 for kind in kinds]
-        call = (now, 4 * n, bed, friction, dx, rnd.randint(1, 1 + dx // 20 % 4096), rnd.choice((0, 10, 999)),
-                hard.dry_depths(rnd), *kinds, *inflows)
-        answer = m.step(*call)
+        call = hard.run_call(rnd, now, bed, dx)
+        answer, kinds = m.step(*call), call[8:10]
         if answer[0] == "refused":
             break
         seen["steps"] += 1
@@ -732,7 +715,7 @@ def runs_hold(seed, count):
     rnd, seen, wrong = random.Random(seed), Counter(), 0
     with before.replaced(check_range=watched(m.check_range, seen)):
         for _ in range(count):
-            bed, now = drawn_run(rnd, rnd.choice((1, 2, 3, 16)))
+            bed, now = hard.run_reach(rnd, rnd.choice((1, 2, 3, 16)))
             end, brought = stepped(rnd, now, bed, rnd.randint(1, 60000), seen)
             wrong += water(end, bed) != water(now, bed) + brought
     case("demand 3: water sum over runs, %d accepted steps in %d runs, the dry depth, the ends and Q others in each"

@@ -1,12 +1,14 @@
 """Seeded random calls chosen to be hard, to compare the library with the model.
 
 calls(seed, count) yields the arguments of model.step, faces(seed, count) those of
-model.face.  Every table value fits its lent type (i32, u16), every other argument
-of the step a u32 and of a face an i32, so that each call can be made of the library.
+model.face.  run_reach draws a reach to be stepped several times, run_call each of its calls.
+Every table value fits its lent type (i32, u16), every other argument of the step a u32 and of a
+face an i32, so that each call can be made of the library.
 
 Run as a script it prints how the answers are spread:  hard.py [seed [count]]
 """
 
+import itertools
 import random
 import sys
 import time
@@ -581,6 +583,32 @@ def calls(seed, count):
     for _ in range(count):
         c = hard_call(rnd)
         yield tuple(c[name] for name in ORDER)
+
+
+# ---- Runs: a reach, and one call after another from what the one before wrote
+
+PAIRS = tuple(itertools.product((m.WALL, m.OPEN, m.INFLOW), repeat=2))     # kinds of end
+
+
+def run_reach(rnd, n):
+    """A bed and a state over it: ordinary water, or water about as deep as the dry depths are."""
+    bed = [2 * rnd.randrange(300) for _ in range(n + 1)]
+    least, most, fast = rnd.choice(((600, 9000, 4000), (0, 90, 2000), (0, 90, 2000)))
+    cells = []
+    for zl, zr in zip(bed, bed[1:]):
+        h = rnd.randint(least, most)
+        cells.append(placed(zl, zr, *flowing(rnd, h, rnd.randint(-h // 9, h // 9), fast)))
+    return bed, m.table_of(cells)
+
+
+def run_call(rnd, now, bed, dx):
+    """A step from some state, with its own dt, J, dry depth, friction, ends and Qs."""
+    n = len(bed) - 1
+    friction = [rnd.randint(0, 60) for _ in range(n)]
+    kinds = rnd.choice(PAIRS)
+    inflows = [rnd.choice((0, rnd.randint(1, 40), rnd.randint(1, 900))) if kind == m.INFLOW else 0 for kind in kinds]
+    return (now, 4 * n, bed, friction, dx, rnd.randint(1, 1 + dx // 20 % 4096), rnd.choice((0, 10, 999)),
+            dry_depths(rnd), *kinds, *inflows)
 
 
 # ---- Single faces
