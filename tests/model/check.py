@@ -4,14 +4,17 @@ Prints a line for each row or case and last 'N passed, M failed'; the exit statu
 is 1 when something failed.
 """
 
+import itertools
 import random
 import sys
 from collections import Counter
 
 import before
+import both_ways
 import hard
 import model as m
 import places
+from turned import can_turn, lengths_fit, turned, turned_answer, turned_table
 
 DRY = 4     # the dry depth of 01's own numbers, which were fixed before E3
 DRY_DEPTHS = range(m.LEAST_DRY, m.MOST_DRY + 1)
@@ -102,17 +105,17 @@ def spared_at(*depths, dry=DRY):
     return "".join("s" if k else "-" for k in kept)
 
 
-def mirrored(cells):
-    return [m.Cell(c.e0, -c.e1, -c.q0, c.q1) for c in reversed(cells)]
+def turned_cells(cells):
+    return m.cells_of(turned_table(m.table_of(cells), len(cells)))
 
 
-def bank(depth, turned=False):
+def bank(depth, on_the_left=False):
     """Water that slopes down to a bank of some depth on its right, finished; or both turned round, and back."""
     cells, bed = [m.Cell(1000, -20, 7, 3), m.Cell(1100 + depth, 202, 5, 1)], [400, 900, 1300]
-    if turned:
-        cells, bed = mirrored(cells), bed[::-1]
+    if on_the_left:
+        cells, bed = turned_cells(cells), bed[::-1]
     done = m.finished(cells, m.Call(2, bed, [0, 0], 1, 1, 0, DRY, 0, 0, 0, 0))
-    return [tuple(c) for c in (mirrored(done) if turned else done)]
+    return [tuple(c) for c in (turned_cells(done) if on_the_left else done)]
 
 
 def sparing():
@@ -307,35 +310,6 @@ def inflow_speed():
          [[None, six]] * 128)
 
 
-def turned_call(call):
-    """The call as surveyed from the other end."""
-    now, next_len, bed, friction, dx, dt, jump, dry, left, right, left_q, right_q = call
-    return (m.table_of(mirrored(m.cells_of(now))), next_len, bed[::-1], friction[::-1], dx, dt, jump, dry,
-            right, left, right_q, left_q)
-
-
-def turned_answer(answer):
-    """From the other end the number is the same; the lowest place is another."""
-    if answer[0] == "refused":
-        return before.bare(answer)
-    _, new, W0, Wn = answer
-    return "accepted", m.table_of(mirrored(m.cells_of(new))), -Wn, -W0
-
-
-def turning_holds(seed, count):
-    """Left and right end are each other's mirror image: a sign that is wrong at one of them shows here."""
-    wrong, inflows = 0, Counter()
-    for call in hard.calls(seed, count):
-        # a table of another length has no other end, and the least i32 no other sign
-        if len(call[0]) % 4 == 0 and -hard.I32 not in call[0]:
-            answer = m.step(*call)
-            wrong += before.bare(m.step(*turned_call(call))) != turned_answer(answer)
-            inflows[call[8] == m.INFLOW, call[9] == m.INFLOW] += answer[0] == "accepted" and call[10] + call[11] > 0
-    seen = inflows[True, False], inflows[False, True], inflows[True, True]
-    case("E4: from the other end the same, in %d calls; accepted with an inflow at the left, the right, both: %d, %d, %d"
-         % (count, *seen), (wrong, min(seen) >= count // 40), (0, True))
-
-
 def without_inflow_holds(seed, count):
     """Between walls and open ends the step is what it was; the third kind was outside the list."""
     seen = Counter()
@@ -477,6 +451,97 @@ def columns_hold(seed, count):
          % (answers[0], ", ".join(str(answers[k]) for k in range(1, 9))), [k for k in range(9) if answers[k] == 0], [])
     case("E7: the layout decides the answer of %d of them, and where %d put what they write" % (decided, exchanged),
          decided >= count // 3 and exchanged >= count // 8, True)
+
+
+# ---- E9: turning, the step from the other end, and rules that would break the law
+
+def turning():
+    # the tens tell the cell, the ones which of its numbers
+    table = [11, 21, 31, 12, 22, 32, 13, 23, 33, 14, 24, 34]
+    other = [31, 21, 11, -32, -22, -12, -33, -23, -13, 34, 24, 14]
+    call = table, 12, [2, 4, 6, 8], [1, 2, 3], 4096, 60, 50, 7, 1, 2, 0, 900
+    case("E9: a call of three cells, turned", turned(call),
+         (other, 12, [8, 6, 4, 2], [3, 2, 1], 4096, 60, 50, 7, 2, 1, 900, 0))
+    case("E9: what it must be answered", [turned_answer(answer) for answer in (("accepted", table, 5, -6), ("refused", 7, 3))],
+         [("accepted", other, 6, -5), ("refused", 7)])
+    fits = [[can_turn((with_one(table, k, odd), *call[1:])) for k in range(12)] for odd in (-hard.I32, -hard.I32 + 1, hard.I32 - 1)]
+    case("E9: the least i32 as a level slope or a discharge mean, and no other number, rules turning out",
+         fits, [[True] * 3 + [False] * 6 + [True] * 3, [True] * 12, [True] * 12])
+
+
+def model_answers(calls):
+    return [m.step(*call) for call in calls]
+
+
+def wrong_rules():
+    """Each rule by what is wrong with it.  A u* of one division for both waves would turn with the call, and be no case of E9."""
+    bounds, minmod, right_end = m.wave_bounds, m.minmod, m.right_end
+
+    def one_sum_for_sL(hL, uL, hR, uR):
+        aL, aR = m.wave_speed(hL), m.wave_speed(hR)
+        u, a = m.quo(uL + uR + 2 * (aL - aR), 2), abs(m.quo(2 * (aL + aR) + uL - uR, 4))
+        sL, sR = bounds(hL, uL, hR, uR)
+        return sL if hL == 0 else min(uL - aL, u - a), sR
+
+    def left_neighbour_wins(*values):
+        """The difference from the left neighbour is the last, where there is one."""
+        return values[-1] if minmod(*values) else 0
+
+    def outward_A(kind, Q, inner, dry):
+        end = right_end(kind, Q, inner, dry)
+        return end._replace(A=-end.A) if kind == m.INFLOW else end
+
+    return {
+        "u* of sL divided as one sum": before.replaced(wave_bounds=one_sum_for_sL),
+        "the left neighbour preferred by the limiter": before.replaced(minmod=left_neighbour_wins),
+        "V rounded downward": before.replaced(volume=lambda F, call: F * call.dt // call.dx),
+        "A of the other sign where Q comes in at the right": before.replaced(right_end=outward_A),
+    }
+
+
+def wrong_rules_break(calls):
+    """E9's law would tell each of them: some of the calls are answered otherwise from the other end."""
+    for name, rule in wrong_rules().items():
+        with rule:
+            otherwise = (k for k, call in enumerate(calls) if not both_ways.alike(m.step(*call), m.step(*turned(call))))
+            found = list(itertools.islice(otherwise, 5))
+        case("E9: broken by %s, five times in the first %d of these calls" % (name, 1 + max(found, default=-1)), len(found), 5)
+
+
+def turning_holds(seed, count):
+    drawn = list(hard.calls(seed, count))
+    calls, seen, wrong = list(filter(can_turn, drawn)), Counter(), 0
+    case("E9: turned twice the call is the same, in %d calls" % len(calls), sum(turned(turned(call)) != call for call in calls), 0)
+    for call, (answer, other) in zip(calls, both_ways.from_both_ends(model_answers, calls)):
+        wrong += not both_ways.alike(answer, other)
+        if answer[0] == "refused":
+            seen[answer[1]] += 1
+            seen["elsewhere"] += answer[2] != other[2]
+        else:
+            seen["accepted"] += 1
+            seen[call[8:10]] += all(Q > 0 for kind, Q in zip(call[8:10], call[10:]) if kind == m.INFLOW)
+    case("E9: from the other end the turned answer, or the same number, in %d calls" % len(calls), wrong, 0)
+    case("E9: lengths that do not fit are a 1, and no others", (seen[1], {m.step(*call) for call in drawn if not lengths_fit(call)}),
+         (0, {("refused", 1, 0)}))
+    case("E9: accepted %d, refused with 2 to 8 each in one of 150 calls: %s; at another place %d"
+         % (seen["accepted"], ", ".join(str(seen[k]) for k in range(2, 9)), seen["elsewhere"]),
+         (3 * seen["accepted"] >= count, [k for k in range(2, 9) if 150 * seen[k] < count], 10 * seen["elsewhere"] >= count),
+         (True, [], True))
+    case("E9: accepted with each pair of kinds of end, an inflow bringing water, in one of 60 calls",
+         [kinds for kinds in PAIRS if 60 * seen[kinds] < count], [])
+    wrong_rules_break(calls)
+
+
+def turned_runs_hold(seed, count):
+    runs = both_ways.runs(model_answers, random.Random(seed), count)
+    steps = Counter(kinds for run in runs for kinds in run.kinds)
+    whole, refused = sum(len(run.kinds) == both_ways.MOST_STEPS for run in runs), sum(any(run.numbers) for run in runs)
+    case("E9: from the other end the turned state, volumes and last number, %d accepted steps in %d runs" % (sum(steps.values()), count),
+         sum(not run.alike() for run in runs), 0)
+    case("E9: of the runs %d came to %d steps and %d to a refusal; every pair of kinds of end in one of 20 steps"
+         % (whole, both_ways.MOST_STEPS, refused),
+         (3 * whole >= count, 10 * refused >= count, [kinds for kinds in PAIRS if 20 * steps[kinds] < sum(steps.values())]),
+         (True, True, []))
 
 
 # ---- E13: the place of each check at the first, a middle and the last index, the lowest of several, and random calls
@@ -739,13 +804,15 @@ def main():
     end_list()
     end_faces()
     inflow_speed()
-    turning_holds(8, 2000)
     without_inflow_holds(9, 2000)
     inflow_holds(10, 6000)
     correction()
     uncorrected_holds(11, 3000)
     columns()
     columns_hold(12, 4000)
+    turning()
+    turning_holds(8, 4000)
+    turned_runs_hold(14, 150)
     at_each_cell()
     at_each_other()
     faces_in_order()
