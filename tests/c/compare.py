@@ -73,6 +73,20 @@ def step_asked(call):
             + table("i", now) + table("i", bed) + table("H", friction))
 
 
+def step_size(call):
+    """How many bytes serve tells of a step: its number and place, next and the volumes."""
+    return 8 + 4 * call[1] + 16
+
+
+def step_answer(call, told):
+    """What serve tells of a step as model.step says it, and whether next and the volumes hold serve's marks if it is refused."""
+    number, place = struct.unpack("<2I", told[:8])
+    if number:
+        return ("refused", number, place), told[8:] == MARK * (len(told) - 8)
+    *state, W0, Wn = struct.unpack("<%di2q" % call[1], told[8:])
+    return ("accepted", state, W0, Wn), True
+
+
 # Dry depths just outside their list, and the greatest number there is.
 DRY_BEYOND = (m.LEAST_DRY - 1, m.MOST_DRY + 1, (1 << 32) - 1)
 
@@ -269,7 +283,7 @@ FACES = {
     "6 face speed, stage 1, left inflow, and a side elsewhere": 1700, "6 face speed, stage 2, left inflow, and a side elsewhere": 5000,
     "6 face speed, stage 1, right inflow, and a lower face": 800, "6 face speed, stage 2, right inflow, and a lower face": 1700,
 }
-PAIRS = ["accepted, ends %d %d" % pair for pair in itertools.product((m.WALL, m.OPEN, m.INFLOW), repeat=2)]
+PAIRS = ["accepted, ends %d %d" % pair for pair in hard.PAIRS]
 
 STEP_WAYS = {
     "accepted": 4, "accepted, longest reach": 5000, "accepted, 64 cells": 1000, "accepted, 65 cells": 1000,
@@ -399,10 +413,14 @@ def show(kind, edge, number, call, due, found):
           "asked %s" % (kind.name, number, edge, due.answer, answer, len(due.tables), right, str(call)[:400]))
 
 
+def served(name, edge, asked, command):
+    """serve, run to its end on calls of one kind."""
+    return subprocess.run(command + [name, edge], input=b"".join(asked), stdout=subprocess.PIPE)
+
+
 def wrong_calls(kind, edge, first, block, due, command):
     """How many calls of the block were answered wrongly; a serve that fails is one more."""
-    asked = b"".join(map(kind.asked, block))
-    ran = subprocess.run(command + [kind.name, edge], input=asked, stdout=subprocess.PIPE)
+    ran = served(kind.name, edge, map(kind.asked, block), command)
     wrong = list(differing(due, ran.stdout))
     for k, found in wrong[:SHOWN]:
         show(kind, edge, first + k, block[k], due[k], found)
@@ -429,19 +447,28 @@ def compare(kind, seed, count, command):
         case(ways[way] >= least, "%s, %s: %d calls, at least %d wanted" % (kind.name, way, ways[way], least))
 
 
-def main():
+def words(usage):
+    """The numbers before the dashes and the command after them, as many numbers as the usage has words for."""
     try:
         dash = sys.argv.index("--")
-        seed, *counts = map(int, sys.argv[1:dash])
-        asked = list(zip(KINDS, counts, strict=True))
-        command = sys.argv[dash + 1:]
-        command[0]
-    except (ValueError, IndexError):
-        sys.exit("usage: compare.py SEED FACES STEPS DOUBLES ROOTS -- COMMAND...")
-    for kind, count in asked:
-        compare(kind, seed, count, command)
+        numbers, command = list(map(int, sys.argv[1:dash])), sys.argv[dash + 1:]
+        if command and len(numbers) == usage.split().index("--") - 1:
+            return numbers, command
+    except ValueError:
+        pass
+    sys.exit("usage: " + usage)
+
+
+def sum_up():
     print("%d passed, %d failed" % (sum(cases), len(cases) - sum(cases)))
     sys.exit(not all(cases))
+
+
+def main():
+    (seed, *counts), command = words("compare.py SEED FACES STEPS DOUBLES ROOTS -- COMMAND...")
+    for kind, count in zip(KINDS, counts):
+        compare(kind, seed, count, command)
+    sum_up()
 
 
 if __name__ == "__main__":

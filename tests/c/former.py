@@ -14,11 +14,10 @@ The last line is 'N passed, M failed'; the exit status is 1 when something faile
 
 import contextlib
 import os
-import struct
 import subprocess
 import sys
 
-from compare import MARK, case, cases, step_asked      # which also finds the modules below
+from compare import case, step_answer, step_asked, step_size, sum_up      # which also finds the modules below
 import answers
 import before
 import steps
@@ -41,17 +40,15 @@ class Serve:
         return given
 
     def step(self, *call):
-        next_len, n = call[1], len(call[3])
         self.program.stdin.write(step_asked(call))
         self.program.stdin.flush()
-        number, _ = struct.unpack("<2I", self.taken(8))      # a place came with E13, later
-        tables = self.taken(4 * next_len + 16)
-        if number:
+        answer, untouched = step_answer(call, self.taken(step_size(call)))
+        if answer[0] == "refused":
             self.refused += 1
-            self.touched += tables != MARK * len(tables)
-            return "refused", number
-        *state, W0, Wn = struct.unpack("<%di2q" % next_len, tables)
-        cells = before.into_cells(n, state)
+            self.touched += not untouched
+            return before.bare(answer)      # a place came with E13, later
+        _, state, W0, Wn = answer
+        cells = before.into_cells(len(call[3]), state)
         self.exchanged += cells != state
         return "accepted", cells, W0, Wn
 
@@ -96,8 +93,7 @@ def main():
         sys.exit("usage: former.py COMMAND...")
     come_again("answers.txt", command, answer_lines)
     come_again("steps.txt", command, lambda step, text: steps.lines(step))
-    print("%d passed, %d failed" % (sum(cases), len(cases) - sum(cases)))
-    sys.exit(not all(cases))
+    sum_up()
 
 
 if __name__ == "__main__":
