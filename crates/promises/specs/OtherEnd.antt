@@ -21,7 +21,7 @@ use Rattle.rules.specs.Laws.Order as order
 use Rattle.rules.specs.Laws.Lengths.{fits, unrefused}
 use Rattle.rules.specs.Laws.Runs.{accepted-early}
 use Rattle.survey.specs.Turned.{turnedCell, turnedTable, turnedCall}
-use Rattle.survey.specs.Laws.Lent.{number-turned, filled-turned, left-turned, right-turned}
+use Rattle.survey.specs.Laws.Lent.{number-turned, filled-turned, left-volume, right-volume}
 use Rattle.stage.specs.Ranges.{Ranged}
 use Rattle.stage.specs.Laws.LentChecks.{grounds, ranged}
 use Rattle.stage.specs.Laws.CellSizes.{cell-sizes}
@@ -37,7 +37,7 @@ unfolding answer leaves
 other-gives l w v old new g old′ =
     let t = taken l w v old new g in let ok = t .number in let fit = fits l ok in
     let is = sym (accepts (turnedCall l) (number-turned l fit ∙ ok)) in
-    let left = ap negℤ (t .right) ∙ sym (left-turned l fit ok) in let right = ap negℤ (t .left) ∙ sym (right-turned l fit ok) in
+    let left = ap negℤ (t .right) ∙ sym (left-volume l fit ok) in let right = ap negℤ (t .left) ∙ sym (right-volume l fit ok) in
     record {
       says = (λ m. Accepted (left m) (right m)) ∙ ap answer is;
       table = ap (turnedTable (cellsOf l)) (t .table) ∙ sym (filled-turned l fit ok) ∙ ap (λ (o : Outcome). leaves o old′) is;
@@ -114,8 +114,9 @@ module _ (l : Lent) (accepted : number l ≡ 0) where
   ranged-now : Ranged (l .bed) (cellsOf l) (stateOf l)
   unfolding early off
   ranged-now =
-      let clear = clear-at (early (reachOf l) (callOf l) (stateOf l)) (accepted-early (reachOf l) (callOf l) (stateOf l) (unrefused l accepted)) in
-      ranged (cellsOf l) (l .bed) (stateOf l) (grounds (cellsOf l) (l .bed) (clear order.beds)) (clear order.state)
+      let r = reachOf l in let c = callOf l in let s = stateOf l in
+      let clear = clear-at (early r c s) (accepted-early r c s (unrefused l accepted)) in
+      ranged (cellsOf l) (l .bed) s (grounds (cellsOf l) (l .bed) (clear order.beds)) (clear order.state)
 
   above-least : (z : ℤ) → Within 2147483647 z → z ≡ leastI32 → ⊥
   above-least z w e = let far = subst (Within 2147483647) e w .abs in omega (arith, far)

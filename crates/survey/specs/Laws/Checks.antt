@@ -29,7 +29,7 @@ use Rattle.survey.specs.Laws.Signs.{past-even}
 use Rattle.survey.specs.Laws.Cell.{turnedBed, h0-turned, hl-turned, hr-turned, ql-turned, qr-turned, before-turned, behind-turned}
 use Rattle.survey.specs.Laws.Surveys.{Surveys, otherReach, otherCall, other, Opposite, Turned, turned-back, opposite-cell}
 use Rattle.survey.specs.Laws.Reversed.{Reversed, end, also, same-number}
-use Rattle.survey.specs.Laws.Faces.{left-turned, right-turned, face-turned}
+use Rattle.survey.specs.Laws.Faces.{left-side, right-side, face-turned}
 use Rattle.survey.specs.Laws.Step.{rubbed-turned, stageOne-turned, next-turned}
 
 -- ---- 2: the ends are exchanged
@@ -82,7 +82,7 @@ first-fast : (v : Surveys) (s t : State) → Turned v s t → (j : ℕ) → suc 
 unfolding fastFace fastInflow inflowSpeed
 first-fast v s t w j o =
     let brought = fastInflow (v .call .dry) (v .call .right) in let x = atRight (v .reach) (v .call) s j in
-    rw (eq-eqb (suc j) (v .reach .n) o) (ap (λ (y : Side). brought y || fastSide y) (left-turned v s t w 0 j (omega arith))
+    rw (eq-eqb (suc j) (v .reach .n) o) (ap (λ (y : Side). brought y || fastSide y) (left-side v s t w 0 j (omega arith))
     ∙ ap (λ (b : Bool). brought x || b) (fast-mirror x) ∙ or-comm (brought x) (fastSide x))
 
 fastFace-turned : (v : Surveys) (s t : State) → Turned v s t → 0 < v .reach .n → (i j : ℕ) → suc (i + j) ≡ suc (v .reach .n)
@@ -94,8 +94,8 @@ fastFace-turned v s t w z (suc i) zero o = sym (first-fast (other v) t s (turned
 fastFace-turned v s t w z (suc i) (suc j) o =
     let x = atRight (v .reach) (v .call) s j in let y = atLeft (v .reach) (v .call) s (suc j) in
     rw (not-last i (v .reach .n) (omega arith), not-last j (v .reach .n) (omega arith))
-    (ap₂ _||_ (ap fastSide (right-turned v s t w i (suc j) (omega arith)) ∙ fast-mirror y)
-    (ap fastSide (left-turned v s t w (suc i) j (omega arith)) ∙ fast-mirror x) ∙ or-comm (fastSide y) (fastSide x))
+    (ap₂ _||_ (ap fastSide (right-side v s t w i (suc j) (omega arith)) ∙ fast-mirror y)
+    (ap fastSide (left-side v s t w (suc i) j (omega arith)) ∙ fast-mirror x) ∙ or-comm (fastSide y) (fastSide x))
 
 -- ---- a state, and a stage from it
 off-turned : (v : Surveys) (s t : State) → Turned v s t → (i j : ℕ) → Opposite v i j

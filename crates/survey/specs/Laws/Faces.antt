@@ -16,17 +16,18 @@ use Rattle.rules.specs.Laws.Limiter.{not-last}
 use Rattle.rules.specs.Laws.Ends as ends
 use Rattle.survey.specs.Turned.{turnedCell}
 use Rattle.survey.specs.Laws.Cell.{turnedBed, sideL-turned, update-turned}
-use Rattle.survey.specs.Laws.Surveys.{Surveys, otherReach, otherCall, other, Opposite, under-turned, Turned, turned-back, opposite-cell}
+use Rattle.survey.specs.Laws.Surveys.{Surveys, otherReach, otherCall, other, Opposite, under-turned}
+use Rattle.survey.specs.Laws.Surveys.{Turned, turned-back, opposite-cell}
 
 -- the side that a cell shows to its left is the mirror image of the one that it shows to its right from there, and the other way round
-pub left-turned : (v : Surveys) (s t : State) → Turned v s t → (i j : ℕ) → Opposite v i j
+pub left-side : (v : Surveys) (s t : State) → Turned v s t → (i j : ℕ) → Opposite v i j
     → atLeft (otherReach v) (otherCall v) t i ≡ mirror (atRight (v .reach) (v .call) s j)
-left-turned v s t w = let d = v .call .dry in opposite-cell v s t w (sideL d) (λ b x. mirror (sideR d b x)) (sideL-turned d)
+left-side v s t w = let d = v .call .dry in opposite-cell v s t w (sideL d) (λ b x. mirror (sideR d b x)) (sideL-turned d)
 
-pub right-turned : (v : Surveys) (s t : State) → Turned v s t → (i j : ℕ) → Opposite v i j
+pub right-side : (v : Surveys) (s t : State) → Turned v s t → (i j : ℕ) → Opposite v i j
     → atRight (otherReach v) (otherCall v) t i ≡ mirror (atLeft (v .reach) (v .call) s j)
-right-turned v s t w i j o = sym (mirror-twice (atRight (otherReach v) (otherCall v) t i))
-    ∙ ap mirror (sym (left-turned (other v) t s (turned-back v s t w) j i (omega arith)))
+right-side v s t w i j o = sym (mirror-twice (atRight (otherReach v) (otherCall v) t i))
+    ∙ ap mirror (sym (left-side (other v) t s (turned-back v s t w) j i (omega arith)))
 
 module _ (v : Surveys) (law : Lawful (v .reach .face)) (s t : State) (w : Turned v s t) where
   -- the first face of the one is the last of the other
@@ -34,7 +35,7 @@ module _ (v : Surveys) (law : Lawful (v .reach .face)) (s t : State) (w : Turned
   unfolding crossAt crossRight
   first-face j o =
       let end = leftEnd (v .reach .face) (v .call .dry) (v .call .right) in let x = atRight (v .reach) (v .call) s j in
-      rw (eq-eqb (suc j) (v .reach .n) o) (ap end (left-turned v s t w 0 j (omega arith)) ∙ sym (flip-twice (end (mirror x)))
+      rw (eq-eqb (suc j) (v .reach .n) o) (ap end (left-side v s t w 0 j (omega arith)) ∙ sym (flip-twice (end (mirror x)))
       ∙ ap flip (sym (ends.right-turned (v .reach .face) law (v .call .dry) (v .call .right) x)))
 
 module _ (v : Surveys) (law : Lawful (v .reach .face)) (s t : State) (w : Turned v s t) where
@@ -52,7 +53,7 @@ module _ (v : Surveys) (law : Lawful (v .reach .face)) (s t : State) (w : Turned
       sym (flip-twice (there (suc i))) ∙ ap flip (sym (first-face (other v) law t s (turned-back v s t w) i (omega arith)))
   face-turned z (suc i) (suc j) o =
       rw (not-last i (v .reach .n) (omega arith), not-last j (v .reach .n) (omega arith))
-      (ap₂ (v .reach .face) (right-turned v s t w i (suc j) (omega arith)) (left-turned v s t w (suc i) j (omega arith))
+      (ap₂ (v .reach .face) (right-side v s t w i (suc j) (omega arith)) (left-side v s t w (suc i) j (omega arith))
       ∙ law .mirrored (atRight (v .reach) (v .call) s j) (atLeft (v .reach) (v .call) s (suc j)))
 
   pub stage-turned : Turned v (stage (v .reach) (v .call) s) (stage (otherReach v) (otherCall v) t)

@@ -18,7 +18,8 @@ use Rattle.rules.specs.Laws.Minmod.{minmod-odd, either-first}
 use Rattle.rules.specs.Laws.Limiter.{not-last}
 use Rattle.survey.specs.Turned.{turnedCell}
 use Rattle.survey.specs.Laws.Cell.{turnedBed, cell-is, shallow-turned, cut-turned, dried-turned}
-use Rattle.survey.specs.Laws.Surveys.{Surveys, otherReach, otherCall, other, Opposite, under-turned, Turned, turned-back, opposite-cell}
+use Rattle.survey.specs.Laws.Surveys.{Surveys, otherReach, otherCall, other, Opposite, under-turned}
+use Rattle.survey.specs.Laws.Surveys.{Turned, turned-back, opposite-cell}
 
 -- ---- who is marked
 abbrev partedLeft : Reach → Call → State → ℕ → Bool

@@ -88,8 +88,8 @@ module _ (l : Lent) (fit : misfits l ≡ false) where
         next-turned surveys lawful (stateOf l) turnedState state-turned (went .early) (went .brief) i j (omega arith)
         ∙ ap turnedCell (sym (cellIn-table n y j (omega arith))))
 
-    pub left-turned : crossed (turnedCall l) 0 ≡ negℤ (crossed l n)
-    left-turned = crossed-turned 0 n (omega arith)
+    pub left-volume : crossed (turnedCall l) 0 ≡ negℤ (crossed l n)
+    left-volume = crossed-turned 0 n (omega arith)
 
-    pub right-turned : crossed (turnedCall l) (cellsOf (turnedCall l)) ≡ negℤ (crossed l 0)
-    right-turned = ap (crossed (turnedCall l)) cells ∙ crossed-turned n 0 (omega arith)
+    pub right-volume : crossed (turnedCall l) (cellsOf (turnedCall l)) ≡ negℤ (crossed l 0)
+    right-volume = ap (crossed (turnedCall l)) cells ∙ crossed-turned n 0 (omega arith)
