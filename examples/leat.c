@@ -1,7 +1,10 @@
 /* A flood comes down a mill leat, through a pool, over a weir and out by a chute. It is stepped through
  * bassoonsun.h, the water is counted as it goes, and the long section is drawn at the end.
  *
- *     leat [--dt N] [FILE.svg]
+ *     leat [--from-below] [--dt N] [FILE.svg]
+ *
+ * From below, the leat is entered from its lower end, as by another office: the balance is the same, number for
+ * number, and the section is the same from the other side.
  *
  * Each time step is a third of a cell, as bassoonsun.h advises, unless N is given, in 1/4096 s; with 500
  * a step is refused when the flood comes: the run says why, where and what to change, and the section is drawn
@@ -53,6 +56,7 @@ typedef struct {
     int32_t time;
     uint32_t refusal, place; /* of a step that was refused; 0 and 0 until then */
     const uint32_t *dt; /* the time step that is asked for, or null where each is chosen by itself */
+    int from_below; /* the tables run up the leat, and its top is their right end */
 } Leat;
 
 /* How far x is up a hill of the given half width: METRE on top, 0 at its foot and beyond. */
@@ -90,6 +94,38 @@ static void fill(Leat *leat)
         leat->friction[i] = MANNING;
     }
 }
+
+/* The leat from the other end: see FROM THE OTHER END in bassoonsun.h. */
+static void turn(Leat *leat)
+{
+    const Leat old = *leat;
+    for (int i = 0; i <= CELLS; i++)
+        leat->bed[i] = old.bed[CELLS - i];
+    for (int i = 0; i < CELLS; i++) {
+        int j = CELLS - 1 - i;
+        leat->friction[i] = old.friction[j];
+        leat->now[LEVEL + i] = old.now[LEVEL + j];
+        leat->now[LEVEL_SLOPE + i] = -old.now[LEVEL_SLOPE + j];
+        leat->now[DISCHARGE + i] = -old.now[DISCHARGE + j];
+        leat->now[DISCHARGE_SLOPE + i] = old.now[DISCHARGE_SLOPE + j];
+    }
+}
+
+/* The depth at its upper end, the discharge of its lowest cell, and the level at the gauge. */
+static int32_t depth_at_top(const Leat *leat)
+{
+    const int32_t *level = leat->now + LEVEL, *slope = leat->now + LEVEL_SLOPE;
+    if (leat->from_below)
+        return level[CELLS - 1] + slope[CELLS - 1] - leat->bed[CELLS];
+    return level[0] - slope[0] - leat->bed[0];
+}
+
+static int32_t outflow(const Leat *leat)
+{
+    return leat->from_below ? -leat->now[DISCHARGE] : leat->now[DISCHARGE + CELLS - 1];
+}
+
+static int32_t gauge(const Leat *leat) { return leat->now[LEVEL + (leat->from_below ? CELLS - 1 - GAUGE : GAUGE)]; }
 
 /* What comes in at the top of the leat, in straight lines from the base flow up and down again. */
 static uint32_t hydrograph(int32_t time)
@@ -145,8 +181,8 @@ static int64_t speed(int64_t discharge, int64_t depth) { return depth > DRY_DEPT
  * on both sides. */
 static int64_t top_speed(const Leat *leat)
 {
-    const int32_t *level = leat->now + LEVEL, *slope = leat->now + LEVEL_SLOPE, *discharge = leat->now + DISCHARGE;
-    int64_t flux[4], top = speed(hydrograph(leat->time), level[0] - slope[0] - leat->bed[0]);
+    const int32_t *level = leat->now + LEVEL, *discharge = leat->now + DISCHARGE;
+    int64_t flux[4], top = speed(hydrograph(leat->time), depth_at_top(leat));
     for (int i = 0; i < CELLS; i++) {
         int64_t h = level[i] - (leat->bed[i] + leat->bed[i + 1]) / 2, u = speed(discharge[i], h);
         if (bassoonsun_face(h, u, h, u, flux) == 0 && flux[3] > top)
@@ -178,21 +214,23 @@ static void say_refused(const Leat *leat)
 static void step(Leat *leat)
 {
     int64_t volumes[2];
+    uint32_t comes_in = hydrograph(leat->time); /* another in each step */
     struct bassoonsun_call call = {
         .dx = CELL_LENGTH,
         .dt = leat->dt != NULL ? *leat->dt : stable_step(leat),
         .jump = JUMP,
         .dry = DRY_DEPTH,
-        .left = INFLOW,
-        .left_q = hydrograph(leat->time), /* another in each step */
-        .right = OPEN,
+        .left = leat->from_below ? OPEN : INFLOW,
+        .left_q = leat->from_below ? 0 : comes_in,
+        .right = leat->from_below ? INFLOW : OPEN,
+        .right_q = leat->from_below ? comes_in : 0,
     };
     leat->refusal = bassoonsun_step_call(leat->now, STATE, leat->next, STATE, leat->bed, CELLS + 1, leat->friction,
                                          CELLS, call, volumes, &leat->place);
     if (leat->refusal == 0) { /* only now do next and volumes hold anything */
         memcpy(leat->now, leat->next, sizeof leat->now);
-        leat->came_in += volumes[0];
-        leat->went_out += volumes[1];
+        leat->came_in += leat->from_below ? -volumes[1] : volumes[0]; /* rightward is positive */
+        leat->went_out += leat->from_below ? -volumes[0] : volumes[1];
         leat->time += (int32_t)call.dt;
     }
 }
@@ -203,8 +241,8 @@ static int64_t balance(const Leat *leat)
     int64_t water = sum_of_depths(leat);
     int64_t missing = leat->at_first + leat->came_in - leat->went_out - water;
     printf("%6.2f %8.3f %8.3f %9.3f %10lld %9lld %9lld %8lld\n", (double)leat->time / SECOND,
-           (double)hydrograph(leat->time) / METRE, (double)leat->now[DISCHARGE + CELLS - 1] / METRE,
-           (double)leat->now[LEVEL + GAUGE] / METRE, (long long)water, (long long)leat->came_in,
+           (double)hydrograph(leat->time) / METRE, (double)outflow(leat) / METRE, (double)gauge(leat) / METRE,
+           (long long)water, (long long)leat->came_in,
            (long long)leat->went_out, (long long)missing);
     return missing;
 }
@@ -361,8 +399,9 @@ static int run_until(Leat *leat, int32_t time)
 static int run(Leat *leat)
 {
     leat->at_first = sum_of_depths(leat);
-    puts("A flood comes down a leat of 64 m. Water is counted in 1/4096 m over a cell of 1 m.\n"
-         "  time   inflow  outflow  level at   water in   came in  went out  missing\n"
+    printf("A flood comes down a leat of 64 m%s. Water is counted in 1/4096 m over a cell of 1 m.\n",
+           leat->from_below ? ", entered from below" : "");
+    puts("  time   inflow  outflow  level at   water in   came in  went out  missing\n"
          "   (s)   (m2/s)   (m2/s)  40 m (m)   the leat");
     for (int32_t time = 0; time <= END; time += EVERY) {
         if (run_until(leat, time) != 0)
@@ -392,7 +431,7 @@ static int read_number(const char *word, uint32_t *number)
 
 static int usage(void)
 {
-    fputs("use: leat [--dt N] [FILE.svg]   (N, a whole number, is the time step in 1/4096 s)\n", stderr);
+    fputs("use: leat [--from-below] [--dt N] [FILE.svg]   (N, a whole number, is the time step in 1/4096 s)\n", stderr);
     return 2;
 }
 
@@ -406,11 +445,15 @@ int main(int argc, char **argv)
             if (++i == argc || !read_number(argv[i], &asked))
                 return usage();
             leat.dt = &asked;
-        } else if (argv[i][0] == '-' || picture != NULL)
+        } else if (strcmp(argv[i], "--from-below") == 0)
+            leat.from_below = 1;
+        else if (argv[i][0] == '-' || picture != NULL)
             return usage();
         else
             picture = argv[i];
     fill(&leat);
+    if (leat.from_below)
+        turn(&leat);
     int failed = run(&leat);
     draw(&leat);
     if (picture != NULL && write_svg(&leat, picture) != 0)
