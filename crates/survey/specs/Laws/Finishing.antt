@@ -21,7 +21,7 @@ use Rattle.survey.specs.Laws.Cell.{turnedBed, cell-is, shallow-turned, c
 use Rattle.survey.specs.Laws.Surveys.{Surveys, otherReach, otherCall, other, Opposite, under-turned}
 use Rattle.survey.specs.Laws.Surveys.{Turned, turned-back, opposite-cell}
 
--- ---- who is marked
+-- ---- who is marked: a cell with a jump of the level at its left face, if that is an inner one, or at its right
 abbrev partedLeft : Reach → Call → State → ℕ → Bool
 partedLeft r c s zero = false
 partedLeft r c s (suc i) = parted r c s i
@@ -79,7 +79,8 @@ limits-turned : (v : Surveys) (s t : State) → Turned v s t → (i j : ℕ) →
 unfolding isLimited
 limits-turned v s t w i j o = λ m. marked-turned v s t w i j o m && not (spared-turned v s t w (v .call .dry) i j o m)
 
--- ---- the slopes: where f is turned alike by minmod, and from the other end the means m rise by f of what they rise by here
+-- ---- the slopes. f is what turning does to one: a level slope changes its sign, a discharge slope does not. minmod goes with either, and
+-- so do the differences of the means that a slope is held to
 module _ (v : Surveys) (f : ℤ → ℤ) (fair : (a b : ℤ) → minmod (f a) (f b) ≡ f (minmod a b)) (m m′ : ℕ → ℤ)
     (rises : (i j : ℕ) → suc (suc (i + j)) ≡ v .reach .n → m′ (suc i) -ℤ m′ i ≡ f (m (suc j) -ℤ m j)) (x : ℤ) where
   held-left : (y : ℤ) (i j : ℕ) → Opposite v i j → withLeft m′ i (f y) ≡ f (withRight (v .reach) m j y)
