@@ -111,11 +111,11 @@ extern "C" {
  * minute to 0.1 m2/s ran with a dry depth of 4, to 0.5 with 16 and to 1 with 64. These are trials of
  * the rules and no theorems.
  *
- * FROM THE OTHER END. A reach may be entered from either end: with bed, friction and each column of now
- * reversed, the signs of the level slopes and of the discharge means changed (the second column and
- * the third), and the two ends exchanged, kinds and Qs, next is the other's, turned in the same way,
- * volumes[0] and volumes[1] are -volumes[1] and -volumes[0] of the other, and a refusal has the same
- * number. Its place is the lowest counted from that end, which may be another place.
+ * FROM THE OTHER END. A reach may be entered from either end. Reverse bed, friction and each column of
+ * now, change the signs of the level slopes and of the discharge means (the second column and the
+ * third), and exchange the ends, kinds and Qs: then next is what the other call writes, turned in the
+ * same way, volumes[0] is minus its volumes[1] and volumes[1] minus its volumes[0]; or both are
+ * refused with one number. The place is the lowest counted from that end, and may be another place.
  *
  * HOW LONG A TIME STEP. The longest dt that is accepted is not stable: in trials a ripple grew until
  * a later step was refused. Take a third of a cell a step, which in these whole numbers is

@@ -15,6 +15,7 @@ use Rattle.whole.specs.Choice.{minZ, maxZ}
 use Rattle.rules.specs.Reach.{Reach}
 use Rattle.rules.specs.Finishing.{minmod, withRight, withLeft, limited}
 
+-- z has above nought what the lesser of a and b has there, and likewise below
 record Least (a b z : ℤ) : Type 0 where
   above : up z ≡ min (up a) (up b)
   below : dn z ≡ min (dn a) (dn b)
