@@ -126,6 +126,15 @@ neg-sub a b = eq! (⊖ (at a) ⊟ ⊖ (at b)) (⊖ (at a ⊟ at b)) (omega arith
 pub sub-neg : (a b : ℤ) → a -ℤ negℤ b ≡ a +ℤ b
 sub-neg a b = eq! (at a ⊟ ⊖ (at b)) (at a ⊞ at b) (omega arith)
 
+pub neg-less : (a b : ℤ) → negℤ a -ℤ b ≡ negℤ (a +ℤ b)
+neg-less a b = eq! (⊖ (at a) ⊟ at b) (⊖ (at a ⊞ at b)) (omega arith)
+
+pub neg-more : (a b : ℤ) → negℤ a +ℤ b ≡ negℤ (a -ℤ b)
+neg-more a b = eq! (⊖ (at a) ⊞ at b) (⊖ (at a ⊟ at b)) (omega arith)
+
+pub sub-swap : (a b : ℤ) → a -ℤ b ≡ negℤ (b -ℤ a)
+sub-swap a b = eq! (at a ⊟ at b) (⊖ (at b ⊟ at a)) (omega arith)
+
 -- ---- the difference of two that are not below nought is no larger than the larger
 pub b-less : {A : ℕ} (a b : ℤ) → pos 0 ≤ℤ a → pos 0 ≤ℤ b → Within A a → Within A b → Within A (a -ℤ b)
 b-less {A} a b p q h k =

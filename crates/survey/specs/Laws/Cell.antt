@@ -5,10 +5,10 @@ use mathlib.Core.Path.{_≡_, refl, sym, _∙_, ap, ap₂}
 use mathlib.Core.Bool.{Bool, cond}
 use mathlib.Core.List.{[], _∷_}
 use native.Mathlib.Omega.{arith}
-use lib.IntN.{ℤ, pos, negℤ, negℤ-negℤ, _+ℤ_, _-ℤ_, _*ℤ_}
+use lib.IntN.{ℤ, pos, negℤ, negℤ-negℤ, _+ℤ_, _-ℤ_, _*ℤ_, +ℤ-comm}
 use lib.Signed.{quotZ, leZ, _≤ℤ_}
 use Rattle.whole.specs.Flags.{cond-map}
-use Rattle.whole.specs.Difference.{at, lit, _⊞_, _⊟_, ⊖, _⊠_, eq!, neg-add, neg-sub, sub-neg}
+use Rattle.whole.specs.Difference.{at, lit, _⊞_, _⊟_, ⊖, _⊠_, eq!, neg-add, neg-sub, sub-neg, neg-less, neg-more, sub-swap}
 use Rattle.whole.specs.Ring.{v, k, neg, _⊕_, _⊗_, _⊝_, solve}
 use Rattle.whole.specs.Quotient.{quot-odd}
 use Rattle.tables.specs.Cells.{Cell}
@@ -40,14 +40,18 @@ from-there : {A : Type 0} (f g : Bed → Cell → A) → ((b : Bed) (x : Cell) �
     → (b : Bed) (x : Cell) → g (turnedBed b) (turnedCell x) ≡ f b x
 from-there f g h b x = sym (h (turnedBed b) (turnedCell x)) ∙ ap (f b) (cell-twice x)
 
+-- a level between what comes in and what goes out, which change places and signs
+between-turned : (e p q : ℤ) → e +ℤ negℤ q -ℤ negℤ p ≡ e +ℤ p -ℤ q
+between-turned e p q = eq! (at e ⊞ ⊖ (at q) ⊟ ⊖ (at p)) (at e ⊞ at p ⊟ at q) (omega arith)
+
 -- ---- bed and depths
 z0-turned : (b : Bed) → z0 (turnedBed b) ≡ z0 b
 unfolding z0
-z0-turned b = ap (λ (z : ℤ). quotZ z (pos 2)) (eq! (at (b .zr) ⊞ at (b .zl)) (at (b .zl) ⊞ at (b .zr)) (omega arith))
+z0-turned b = ap (λ (z : ℤ). quotZ z (pos 2)) (+ℤ-comm (b .zr) (b .zl))
 
 z1-turned : (b : Bed) → z1 (turnedBed b) ≡ negℤ (z1 b)
 unfolding z1
-z1-turned b = quot-odd (b .zr -ℤ b .zl) (pos 2) (eq! (at (b .zl) ⊟ at (b .zr)) (⊖ (at (b .zr) ⊟ at (b .zl))) (omega arith))
+z1-turned b = quot-odd (b .zr -ℤ b .zl) (pos 2) (sub-swap (b .zl) (b .zr))
 
 pub h0-turned : (b : Bed) (x : Cell) → h0 (turnedBed b) (turnedCell x) ≡ h0 b x
 unfolding h0
@@ -65,10 +69,10 @@ pub hr-turned : (b : Bed) (x : Cell) → hr (turnedBed b) (turnedCell x) ≡ hl 
 hr-turned = from-there hl hr hl-turned
 
 pub ql-turned : (x : Cell) → ql (turnedCell x) ≡ negℤ (qr x)
-ql-turned x = eq! (⊖ (at (x .q0)) ⊟ at (x .q1)) (⊖ (at (x .q0) ⊞ at (x .q1))) (omega arith)
+ql-turned x = neg-less (x .q0) (x .q1)
 
 pub qr-turned : (x : Cell) → qr (turnedCell x) ≡ negℤ (ql x)
-qr-turned x = eq! (⊖ (at (x .q0)) ⊞ at (x .q1)) (⊖ (at (x .q0) ⊟ at (x .q1))) (omega arith)
+qr-turned x = neg-more (x .q0) (x .q1)
 
 -- ---- the side that it shows
 pub sideL-turned : (d : ℤ) (b : Bed) (x : Cell) → sideL d (turnedBed b) (turnedCell x) ≡ mirror (sideR d b x)
@@ -85,10 +89,10 @@ depthBehind-turned : (b : Bed) (x : Cell) → depthBehind (turnedBed b) (turnedC
 depthBehind-turned = from-there depthBefore depthBehind depthBefore-turned
 
 flowBefore-turned : (x : Cell) → flowBefore (turnedCell x) ≡ negℤ (flowBehind x)
-flowBefore-turned x = let s = share (x .q1) in eq! (⊖ (at (x .q0)) ⊟ at s) (⊖ (at (x .q0) ⊞ at s)) (omega arith)
+flowBefore-turned x = neg-less (x .q0) (share (x .q1))
 
 flowBehind-turned : (x : Cell) → flowBehind (turnedCell x) ≡ negℤ (flowBefore x)
-flowBehind-turned x = let s = share (x .q1) in eq! (⊖ (at (x .q0)) ⊞ at s) (⊖ (at (x .q0) ⊟ at s)) (omega arith)
+flowBehind-turned x = neg-more (x .q0) (share (x .q1))
 
 -- a number or a test of the flow and the depth at a point that does not mind the flow's direction: of both points together
 module _ {A : Type 0} (f : ℤ → ℤ → A) (even : (q h : ℤ) → f (negℤ q) h ≡ f q h) (b : Bed) (x : Cell) where
@@ -103,7 +107,7 @@ unfolding gauss
 gauss-turned d b x =
     let p = carried d (flowBefore x) (depthBefore b x) in let q = carried d (flowBehind x) (depthBehind b x) in
     ap₂ _+ℤ_ (before-turned (carried d) (carried-even d) b x) (behind-turned (carried d) (carried-even d) b x)
-    ∙ eq! (at q ⊞ at p) (at p ⊞ at q) (omega arith)
+    ∙ +ℤ-comm q p
 
 -- ---- the stage
 module _ (b : Bed) (x : Cell) (l f : Flux) where
@@ -130,9 +134,8 @@ module _ (b : Bed) (x : Cell) (l f : Flux) where
       level levelSlope discharge dischargeSlope
     where
       level : x .e0 +ℤ volume dx t (flip f) -ℤ volume dx t (flip l) ≡ x .e0 +ℤ volume dx t l -ℤ volume dx t f
-      level = let p = volume dx t l in let q = volume dx t f in
-          ap₂ (λ (y z : ℤ). x .e0 +ℤ y -ℤ z) (volume-flip dx t f) (volume-flip dx t l)
-          ∙ eq! (at (x .e0) ⊞ ⊖ (at q) ⊟ ⊖ (at p)) (at (x .e0) ⊞ at p ⊟ at q) (omega arith)
+      level = ap₂ (λ (y z : ℤ). x .e0 +ℤ y -ℤ z) (volume-flip dx t f) (volume-flip dx t l)
+          ∙ between-turned (x .e0) (volume dx t l) (volume dx t f)
 
       levelSlope : negℤ (x .e1) -ℤ quotZ (pos 3 *ℤ (negℤ (l .F) +ℤ negℤ (f .F) -ℤ pos 2 *ℤ negℤ (x .q0)) *ℤ t) dx
           ≡ negℤ (x .e1 -ℤ quotZ (pos 3 *ℤ (f .F +ℤ l .F -ℤ pos 2 *ℤ x .q0) *ℤ t) dx)
@@ -156,7 +159,7 @@ module _ (b : Bed) (x : Cell) (l f : Flux) where
       dischargeSlope : x .q1 -ℤ quotZ (pos 3 *ℤ (l .A +ℤ f .A -ℤ gauss d (turnedBed b) (turnedCell x)) *ℤ t) dx
           -ℤ quotZ (pos 981 *ℤ tilt (turnedBed b) (turnedCell x) (flip f) (flip l) *ℤ t) (pos 819200 *ℤ dx)
           ≡ x .q1 -ℤ quotZ (pos 3 *ℤ (f .A +ℤ l .A -ℤ gauss d b x) *ℤ t) dx -ℤ quotZ (pos 981 *ℤ tilt b x l f *ℤ t) (pos 819200 *ℤ dx)
-      dischargeSlope = let both = eq! (at (l .A) ⊞ at (f .A)) (at (f .A) ⊞ at (l .A)) (omega arith) in λ m.
+      dischargeSlope = let both = +ℤ-comm (l .A) (f .A) in λ m.
           x .q1 -ℤ quotZ (pos 3 *ℤ (both m -ℤ gauss-turned d b x m) *ℤ t) dx -ℤ quotZ (pos 981 *ℤ tilt-turned m *ℤ t) (pos 819200 *ℤ dx)
 
 -- ---- finishing, where the mean is not below nought
@@ -199,5 +202,4 @@ pub joined-turned : (x y : Cell) (p q : ℤ)
     → joinedCell (turnedCell x) (turnedCell y) (negℤ q) (negℤ p) ≡ turnedCell (joinedCell x y p q)
 unfolding joinedCell
 joined-turned x y p q = cell-is (joinedCell (turnedCell x) (turnedCell y) (negℤ q) (negℤ p)) (turnedCell (joinedCell x y p q))
-    (eq! (at (x .e0) ⊞ ⊖ (at q) ⊟ ⊖ (at p)) (at (x .e0) ⊞ at p ⊟ at q) (omega arith))
-    (half-odd (x .e1) (y .e1)) (half-odd (x .q0) (y .q0)) refl
+    (between-turned (x .e0) p q) (half-odd (x .e1) (y .e1)) (half-odd (x .q0) (y .q0)) refl

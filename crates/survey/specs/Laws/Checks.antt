@@ -27,7 +27,7 @@ use Rattle.rules.specs.Laws.Runs.{early-of, stage-brief}
 use Rattle.survey.specs.Turned.{turnedCell}
 use Rattle.survey.specs.Laws.Signs.{past-even}
 use Rattle.survey.specs.Laws.Cell.{turnedBed, h0-turned, hl-turned, hr-turned, ql-turned, qr-turned, before-turned, behind-turned}
-use Rattle.survey.specs.Laws.Surveys.{Surveys, otherReach, otherCall, other, Opposite, Turned, turned-back, opposite-cell}
+use Rattle.survey.specs.Laws.Surveys.{Surveys, otherReach, otherCall, other, Turned, turned-back, TurnsInto, opposite-cell}
 use Rattle.survey.specs.Laws.Reversed.{Reversed, end, also, same-number}
 use Rattle.survey.specs.Laws.Faces.{left-side, right-side, face-turned}
 use Rattle.survey.specs.Laws.Step.{rubbed-turned, stageOne-turned, next-turned}
@@ -98,8 +98,7 @@ fastFace-turned v s t w z (suc i) (suc j) o =
     (ap fastSide (left-side v s t w (suc i) j (omega arith)) ∙ fast-mirror x) ∙ or-comm (fastSide y) (fastSide x))
 
 -- ---- a state, and a stage from it
-off-turned : (v : Surveys) (s t : State) → Turned v s t → (i j : ℕ) → Opposite v i j
-    → off (otherReach v) t i ≡ off (v .reach) s j
+off-turned : TurnsInto (λ r c. off r) (λ r c. off r)
 unfolding off
 off-turned v s t w = opposite-cell v s t w offCell offCell offCell-turned
 

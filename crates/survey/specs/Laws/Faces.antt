@@ -16,18 +16,16 @@ use Rattle.rules.specs.Laws.Limiter.{not-last}
 use Rattle.rules.specs.Laws.Ends as ends
 use Rattle.survey.specs.Turned.{turnedCell}
 use Rattle.survey.specs.Laws.Cell.{turnedBed, sideL-turned, update-turned}
-use Rattle.survey.specs.Laws.Surveys.{Surveys, otherReach, otherCall, other, Opposite, under-turned}
-use Rattle.survey.specs.Laws.Surveys.{Turned, turned-back, opposite-cell}
+use Rattle.survey.specs.Laws.Surveys.{Surveys, otherReach, otherCall, other, under-turned}
+use Rattle.survey.specs.Laws.Surveys.{Turned, turned-back, TurnsInto, from-other, opposite-cell}
 
 -- the side that a cell shows to its left is the mirror image of the one that it shows to its right from there, and the other way round
-pub left-side : (v : Surveys) (s t : State) → Turned v s t → (i j : ℕ) → Opposite v i j
-    → atLeft (otherReach v) (otherCall v) t i ≡ mirror (atRight (v .reach) (v .call) s j)
+pub left-side : TurnsInto atLeft (λ r c s i. mirror (atRight r c s i))
 left-side v s t w = let d = v .call .dry in opposite-cell v s t w (sideL d) (λ b x. mirror (sideR d b x)) (sideL-turned d)
 
-pub right-side : (v : Surveys) (s t : State) → Turned v s t → (i j : ℕ) → Opposite v i j
-    → atRight (otherReach v) (otherCall v) t i ≡ mirror (atLeft (v .reach) (v .call) s j)
+pub right-side : TurnsInto atRight (λ r c s i. mirror (atLeft r c s i))
 right-side v s t w i j o = sym (mirror-twice (atRight (otherReach v) (otherCall v) t i))
-    ∙ ap mirror (sym (left-side (other v) t s (turned-back v s t w) j i (omega arith)))
+    ∙ ap mirror (from-other atLeft (λ r c s i. mirror (atRight r c s i)) left-side v s t w i j o)
 
 module _ (v : Surveys) (law : Lawful (v .reach .face)) (s t : State) (w : Turned v s t) where
   -- the first face of the one is the last of the other

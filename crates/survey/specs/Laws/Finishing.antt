@@ -8,7 +8,7 @@ use borrow.Author.Tests.{eq-eqb}
 use lib.IntN.{ℤ, pos, negℤ, _-ℤ_}
 use lib.Signed.{ltZ, _≤ℤ_}
 use Rattle.whole.specs.Flags.{cond-map}
-use Rattle.whole.specs.Difference.{at, _⊞_, _⊟_, ⊖, eq! }
+use Rattle.whole.specs.Difference.{at, _⊞_, _⊟_, ⊖, eq!, sub-swap}
 use Rattle.whole.specs.Choice.{sizeZ, size-neg}
 use Rattle.tables.specs.Cells.{Cell}
 use Rattle.rules.specs.Reach.{Reach, Call, State, el, er, Bed, under, h0, shallow}
@@ -18,8 +18,8 @@ use Rattle.rules.specs.Laws.Minmod.{minmod-odd, either-first}
 use Rattle.rules.specs.Laws.Limiter.{not-last}
 use Rattle.survey.specs.Turned.{turnedCell}
 use Rattle.survey.specs.Laws.Cell.{turnedBed, cell-is, shallow-turned, cut-turned, dried-turned}
-use Rattle.survey.specs.Laws.Surveys.{Surveys, otherReach, otherCall, other, Opposite, under-turned}
-use Rattle.survey.specs.Laws.Surveys.{Turned, turned-back, opposite-cell}
+use Rattle.survey.specs.Laws.Surveys.{Surveys, otherReach, otherCall, Opposite, under-turned}
+use Rattle.survey.specs.Laws.Surveys.{Turned, TurnsInto, from-other, opposite-cell}
 
 -- ---- who is marked: a cell with a jump of the level at its left face, if that is an inner one, or at its right
 abbrev partedLeft : Reach → Call → State → ℕ → Bool
@@ -36,48 +36,42 @@ gap-turned : (x y : Cell) → sizeZ (el (turnedCell x) -ℤ er (turnedCell y)) �
 gap-turned x y = ap sizeZ (eq! (at (x .e0) ⊟ ⊖ (at (x .e1)) ⊟ (at (y .e0) ⊞ ⊖ (at (y .e1))))
     (⊖ (at (y .e0) ⊟ at (y .e1) ⊟ (at (x .e0) ⊞ at (x .e1)))) (omega arith)) ∙ size-neg (el y -ℤ er x)
 
-parted-left : (v : Surveys) (s t : State) → Turned v s t → (i j : ℕ) → Opposite v i j
-    → partedLeft (otherReach v) (otherCall v) t i ≡ parted (v .reach) (v .call) s j
+parted-left : TurnsInto partedLeft parted
 unfolding parted
 parted-left v s t w zero j o = rw (eq-eqb (suc j) (v .reach .n) (omega arith))
 parted-left v s t w (suc i) j o = rw (not-last i (v .reach .n) (omega arith), not-last j (v .reach .n) (omega arith))
     (ap (ltZ (v .call .jump)) (ap₂ (λ (x y : Cell). sizeZ (el x -ℤ er y)) (w (suc i) j (omega arith)) (w i (suc j) (omega arith))
     ∙ gap-turned (s j) (s (suc j))))
 
-marked-turned : (v : Surveys) (s t : State) → Turned v s t → (i j : ℕ) → Opposite v i j
-    → marked (otherReach v) (otherCall v) t i ≡ marked (v .reach) (v .call) s j
+marked-turned : TurnsInto marked marked
 marked-turned v s t w i j o =
     marked-is (otherReach v) (otherCall v) t i
-    ∙ ap₂ _||_ (parted-left v s t w i j o) (sym (parted-left (other v) t s (turned-back v s t w) j i (omega arith)))
+    ∙ ap₂ _||_ (parted-left v s t w i j o) (from-other partedLeft parted parted-left v s t w i j o)
     ∙ or-comm (parted (v .reach) (v .call) s j) (partedLeft (v .reach) (v .call) s j) ∙ sym (marked-is (v .reach) (v .call) s j)
 
 -- ---- who is spared
-shallow-at : (v : Surveys) (s t : State) → Turned v s t → (d : ℤ) (i j : ℕ) → Opposite v i j
-    → shallowAt d (otherReach v) t i ≡ shallowAt d (v .reach) s j
-shallow-at v s t w d = opposite-cell v s t w (shallow d) (shallow d) (shallow-turned d)
+shallow-at : (d : ℤ) → TurnsInto (λ r c. shallowAt d r) (λ r c. shallowAt d r)
+shallow-at d v s t w = opposite-cell v s t w (shallow d) (shallow d) (shallow-turned d)
 
-shallow-left : (v : Surveys) (s t : State) → Turned v s t → (d : ℤ) (i j : ℕ) → Opposite v i j
-    → shallowLeft d (otherReach v) t i ≡ shallowRight d (v .reach) s j
+shallow-left : (d : ℤ) → TurnsInto (λ r c. shallowLeft d r) (λ r c. shallowRight d r)
 unfolding shallowLeft shallowRight
-shallow-left v s t w d zero j o = rw (eq-eqb (suc j) (v .reach .n) (omega arith))
-shallow-left v s t w d (suc i) j o = rw (not-last j (v .reach .n) (omega arith)) (shallow-at v s t w d i (suc j) (omega arith))
+shallow-left d v s t w zero j o = rw (eq-eqb (suc j) (v .reach .n) (omega arith))
+shallow-left d v s t w (suc i) j o = rw (not-last j (v .reach .n) (omega arith)) (shallow-at d v s t w i (suc j) (omega arith))
 
-spared-turned : (v : Surveys) (s t : State) → Turned v s t → (d : ℤ) (i j : ℕ) → Opposite v i j
-    → spared d (otherReach v) t i ≡ spared d (v .reach) s j
+spared-turned : (d : ℤ) → TurnsInto (λ r c. spared d r) (λ r c. spared d r)
 unfolding spared
-spared-turned v s t w d i j o =
-    (λ m. shallow-at v s t w d i j o m || shallow-left v s t w d i j o m
-    || sym (shallow-left (other v) t s (turned-back v s t w) d j i (omega arith)) m)
+spared-turned d v s t w i j o =
+    (λ m. shallow-at d v s t w i j o m || shallow-left d v s t w i j o m
+    || from-other (λ r c. shallowLeft d r) (λ r c. shallowRight d r) (shallow-left d) v s t w i j o m)
     ∙ swap (shallowAt d (v .reach) s j) (shallowRight d (v .reach) s j) (shallowLeft d (v .reach) s j)
   where
     swap : (a b c : Bool) → (a || b || c) ≡ (a || c || b)
     swap true b c = refl
     swap false b c = or-comm b c
 
-limits-turned : (v : Surveys) (s t : State) → Turned v s t → (i j : ℕ) → Opposite v i j
-    → isLimited (otherReach v) (otherCall v) t i ≡ isLimited (v .reach) (v .call) s j
+limits-turned : TurnsInto isLimited isLimited
 unfolding isLimited
-limits-turned v s t w i j o = λ m. marked-turned v s t w i j o m && not (spared-turned v s t w (v .call .dry) i j o m)
+limits-turned v s t w i j o = λ m. marked-turned v s t w i j o m && not (spared-turned (v .call .dry) v s t w i j o m)
 
 -- ---- the slopes. f is what turning does to one: a level slope changes its sign, a discharge slope does not. minmod goes with either, and
 -- so do the differences of the means that a slope is held to
@@ -106,7 +100,7 @@ module _ (v : Surveys) (s t : State) (w : Turned v s t) where
       → limited (otherReach v) (λ a. t a .e0) i (negℤ (s j .e1)) ≡ negℤ (limited (v .reach) (λ a. s a .e0) j (s j .e1))
   e1-limited i j = limited-turned v negℤ minmod-odd (λ a. s a .e0) (λ a. t a .e0)
       (λ i j o. ap₂ (λ (x y : Cell). x .e0 -ℤ y .e0) (w (suc i) j (omega arith)) (w i (suc j) (omega arith))
-      ∙ eq! (at (s j .e0) ⊟ at (s (suc j) .e0)) (⊖ (at (s (suc j) .e0) ⊟ at (s j .e0))) (omega arith)) (s j .e1) i j
+      ∙ sub-swap (s j .e0) (s (suc j) .e0)) (s j .e1) i j
 
   q1-limited : (i j : ℕ) → Opposite v i j
       → limited (otherReach v) (λ a. t a .q0) i (s j .q1) ≡ limited (v .reach) (λ a. s a .q0) j (s j .q1)

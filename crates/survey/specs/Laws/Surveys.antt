@@ -1,5 +1,5 @@
 -- One reach and a call on it, surveyed from both ends. What is so of either survey is so of the other: a law of the left is turned for the
--- right by `other`.
+-- right (`from-other`).
 -- Assumes nothing.
 use mathlib.Core.Path.{_≡_, sym, _∙_, ap, ap₂}
 use Prim.Native.Nat.{ℕ, suc, _+_}
@@ -52,6 +52,15 @@ Turned v s t = (i j : ℕ) → Opposite v i j → t i ≡ turnedCell (s j)
 
 pub turned-back : (v : Surveys) (s t : State) → Turned v s t → Turned (other v) t s
 turned-back v s t w i j o = sym (ap turnedCell (w j i (omega arith)) ∙ cell-twice (s i))
+
+-- what is f of a cell there is g of the opposite one here
+abbrev pub TurnsInto : {A : Type 0} → (Reach → Call → State → ℕ → A) → (Reach → Call → State → ℕ → A) → Type 0
+TurnsInto f g = (v : Surveys) (s t : State) → Turned v s t → (i j : ℕ) → Opposite v i j
+    → f (otherReach v) (otherCall v) t i ≡ g (v .reach) (v .call) s j
+
+-- then what is g there is f here: a law of the left is one of the right
+pub from-other : {A : Type 0} (f g : Reach → Call → State → ℕ → A) → TurnsInto f g → TurnsInto g f
+from-other f g h v s t w i j o = sym (h (other v) t s (turned-back v s t w) j i (omega arith))
 
 -- what a rule of one cell f gives of every turned cell as g of the cell itself, it gives of opposite cells
 pub opposite-cell : (v : Surveys) (s t : State) → Turned v s t → {A : Type 0} (f g : Bed → Cell → A)
