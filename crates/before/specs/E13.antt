@@ -1,4 +1,4 @@
--- The answer before E13: a refusal had a number and no place. All else is as in the rules in force.
+-- To be believed. The answer before E13: a refusal had a number and no place. All else is as in the rules in force.
 use mathlib.Core.Bool.{cond}
 use mathlib.Core.List.{List}
 use Prim.Native.Nat.{ℕ}

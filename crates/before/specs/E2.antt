@@ -1,4 +1,4 @@
--- Finishing before E2: a marked cell was limited whatever stood next to it. All else is as in the rules in force.
+-- To be believed. Finishing before E2: a marked cell was limited whatever stood next to it. All else is as in the rules in force.
 use Rattle.rules.specs.Reach.{Reach, Call, State, under}
 use Rattle.rules.specs.Finishing.{marked, limitedIf, cut, dried}
 

@@ -1,4 +1,4 @@
--- The step before E3: no call gave a dry depth, and it was 4 in every one; check 2 knew of none. All else is as before E4.
+-- To be believed. The step before E3: no call gave a dry depth, and it was 4 in every one; check 2 knew of none. All else is as before E4.
 use mathlib.Core.Bool.{Bool}
 use mathlib.Core.List.{List, [], _∷_}
 use Prim.Native.Nat.{ℕ}

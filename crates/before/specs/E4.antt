@@ -1,4 +1,5 @@
--- The step before E4: an end had a kind alone, 0 a wall or 1 open. So what crossed it was what crosses between its side and an outer one,
+-- To be believed. The step before E4: an end had a kind alone, 0 a wall or 1 open. So what crossed it was what crosses between its side
+-- and an outer one,
 -- no speed but those of the sides was tried there, and check 2 knew of two kinds and of no Q. All else is as before E6.
 use mathlib.Core.Bool.{Bool, false}
 use mathlib.Core.List.{List, [], _∷_}

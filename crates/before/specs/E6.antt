@@ -1,4 +1,5 @@
--- The step before E6: where the level at a face lay below the bed, the shortfall was taken from both, and the depth was nought.
+-- To be believed. The step before E6: where the level at a face lay below the bed, the shortfall was taken from both, and the depth was
+-- nought.
 -- All else is as before E7.
 use mathlib.Core.List.{List}
 use lib.IntN.{ℤ, pos, negℤ, _+ℤ_, _-ℤ_, _*ℤ_}

@@ -1,4 +1,4 @@
--- The step before E7: a lent state had its cells one after another, the four numbers of each together.
+-- To be believed. The step before E7: a lent state had its cells one after another, the four numbers of each together.
 -- All else is as before E13.
 use mathlib.Core.Path.{_≡_}
 use mathlib.Core.Bool.{cond}

@@ -1,4 +1,4 @@
--- The step over what requests changed of it: its check 2, and parts of a stage. All else is as before E7.
+-- To be believed. The step over what requests changed of it: its check 2, and parts of a stage. All else is as before E7.
 use mathlib.Core.Bool.{Bool, cond, _||_}
 use mathlib.Core.List.{List, [], _∷_, _++_}
 use Prim.Native.Nat.{ℕ, zero, suc}

@@ -1,3 +1,4 @@
+-- To be believed: all above "from an answer to what is told".
 -- What a caller in C is told: a number, and what is written into each table that it lent.
 use mathlib.Core.Path.{_≡_, refl, sym, ap, _∙_}
 use mathlib.Core.Bool.{Bool, true, false, cond}

@@ -1,4 +1,4 @@
--- What the public function gives: the rule's flux within the limits, and beyond them a refusal, with no number.
+-- To be believed. What the public function gives: the rule's flux within the limits, and beyond them a refusal, with no number.
 use mathlib.Core.Bool.{Bool, not, cond, _&&_}
 use lib.IntN.{ℤ}
 use Rattle.rules.specs.Limits.{fastest}

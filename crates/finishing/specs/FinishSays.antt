@@ -1,4 +1,4 @@
--- What the public function says. To be believed.
+-- To be believed. What the public function says.
 use mathlib.Core.Path.{_≡_}
 use mathlib.Core.Bool.{Bool, true, false, not}
 use mathlib.Core.List.{List, []}

@@ -1,4 +1,4 @@
--- When a table cannot be finished. To be believed.
+-- To be believed. When a table cannot be finished.
 use mathlib.Core.Bool.{Bool, not, _||_}
 use mathlib.Core.List.{List, [], _∷_}
 use Prim.Native.Nat.{ℕ, _+_}

@@ -9,12 +9,8 @@ use lib.Dec.{T, ltb, ltb→lt}
 use Rattle.whole.specs.Flags.{by, held}
 use Rattle.tables.specs.Some.{IsLowest, lowest-is, is-lowest, yes-some}
 use Rattle.rules.specs.Refusals.{Check, applies, lowestOf, verdict, spot}
-use Rattle.rules.specs.Laws.Verdicts.{Found, at, found}
-
--- a check with the number k applies, and none before it
-pub data FirstMet (k : ℕ) : List Check → Type 0 where
-  here : (x : Check) (xs : List Check) → applies x ≡ true → x .no ≡ k → FirstMet k (x ∷ xs)
-  later : (x : Check) (xs : List Check) → applies x ≡ false → FirstMet k xs → FirstMet k (x ∷ xs)
+use Rattle.rules.specs.Found.{Found, at, found}
+use Rattle.promises.specs.Seen.{FirstMet, here, later, FirstMetAt, here-at, later-at}
 
 -- the verdict is that number,
 pub first-verdict : (k : ℕ) {xs : List Check} → FirstMet k xs → verdict xs ≡ k
@@ -28,21 +24,17 @@ unfolding verdict
 verdict-first k [] l e = let z : ⊥ = omega (arith, e) in absurd z
 verdict-first k (x ∷ xs) l e = by (applies x) (λ b. here x xs b (rw b at e)) (λ b. later x xs b (verdict-first k xs l (rw b at e)))
 
--- ---- with its place: it applies there, and at no lower one
-pub data FirstMetAt (k p : ℕ) : List Check → Type 0 where
-  here : (x : Check) (xs : List Check) → IsLowest (x .at) (x .many) p → x .no ≡ k → FirstMetAt k p (x ∷ xs)
-  later : (x : Check) (xs : List Check) → applies x ≡ false → FirstMetAt k p xs → FirstMetAt k p (x ∷ xs)
-
+-- ---- with its place
 pub first-of : (k p : ℕ) {xs : List Check} → FirstMetAt k p xs → FirstMet k xs
-first-of k p (here x xs l e) = here x xs (yes-some (x .at) (x .many) p (l .below) (l .has)) e
-first-of k p (later x xs b f) = later x xs b (first-of k p f)
+first-of k p (here-at x xs l e) = here x xs (yes-some (x .at) (x .many) p (l .below) (l .has)) e
+first-of k p (later-at x xs b f) = later x xs b (first-of k p f)
 
 -- what is found is that number and that place,
 pub first-found : (k p : ℕ) {xs : List Check} → FirstMetAt k p xs → found xs ≡ at k p
 unfolding verdict spot
-first-found k p (here x xs l e) =
+first-found k p (here-at x xs l e) =
     let low = sym (is-lowest (x .at) (x .many) p l) in rw (yes-some (x .at) (x .many) p (l .below) (l .has)) (λ j. at (e j) (low j))
-first-found k p (later x xs b f) = rw b (first-found k p f)
+first-found k p (later-at x xs b f) = rw b (first-found k p f)
 
 -- and only that
 pub found-first : (k p : ℕ) (xs : List Check) → 0 < k → found xs ≡ at k p → FirstMetAt k p xs
@@ -50,9 +42,9 @@ unfolding verdict spot
 found-first k p [] l e = let z = ap (λ (f : Found). f .no) e in let y : ⊥ = omega (arith, z) in absurd y
 found-first k p (x ∷ xs) l e = by (applies x)
     (λ b. let d : at (x .no) (lowestOf x) ≡ at k p = rw b at e in
-    here x xs (subst (IsLowest (x .at) (x .many)) (ap (λ (f : Found). f .place) d) (lowest-is (x .at) (x .many) b))
+    here-at x xs (subst (IsLowest (x .at) (x .many)) (ap (λ (f : Found). f .place) d) (lowest-is (x .at) (x .many) b))
     (ap (λ (f : Found). f .no) d))
-    (λ b. later x xs b (found-first k p xs l (rw b at e)))
+    (λ b. later-at x xs b (found-first k p xs l (rw b at e)))
 
 -- ---- its number is one of 1 to 8
 abbrev pub listed : List Check → Bool

@@ -4,3 +4,5 @@ pub mod First
 pub mod Outcomes
 pub mod OtherEnd
 pub mod Promises
+pub mod FromC
+pub mod Cases

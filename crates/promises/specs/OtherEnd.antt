@@ -25,17 +25,18 @@ use Rattle.survey.specs.Laws.Lent.{number-turned, filled-turned, left-volume, r
 use Rattle.stage.specs.Ranges.{Ranged}
 use Rattle.stage.specs.Laws.LentChecks.{grounds, ranged}
 use Rattle.stage.specs.Laws.CellSizes.{cell-sizes}
-use Rattle.step.specs.Gives.{lend, Gives, answer, leaves}
+use Rattle.step.specs.Gives.{volumes, both, Gives, answer, leaves}
+use Rattle.step.specs.declared.Answer.{Answer}
 use Rattle.step.specs.declared.Answer.the-variants.{Accepted}
-use Rattle.promises.specs.Seen.{Called, lent, Calls, none, more, leastI32, FitsI32, NoneLeast, FromOtherEnd}
+use Rattle.promises.specs.Seen.{Besides, lending, Called, lent, Calls, none, more, leastI32, FitsI32, NoneLeast, FromOtherEnd}
 use Rattle.promises.specs.Outcomes.{accepts, taken}
 
 -- an accepted call
-pub other-gives : (l : Lent) (w v : ℤ) (old new : List ℤ) → Gives (stepOf l) (Accepted w v) old new → (old′ : List ℤ)
-    → Gives (stepOf (turnedCall l)) (Accepted (negℤ v) (negℤ w)) old′ (turnedTable (cellsOf l) new)
+pub other-gives : (l : Lent) (a : Answer) (w v : ℤ) (old new : List ℤ) → volumes a ≡ both w v → Gives (stepOf l) a old new
+    → (old′ : List ℤ) → Gives (stepOf (turnedCall l)) (Accepted (negℤ v) (negℤ w)) old′ (turnedTable (cellsOf l) new)
 unfolding answer leaves
-other-gives l w v old new g old′ =
-    let t = taken l w v old new g in let ok = t .number in let fit = fits l ok in
+other-gives l a w v old new e g old′ =
+    let t = taken l a w v old new e g in let ok = t .number in let fit = fits l ok in
     let is = sym (accepts (turnedCall l) (number-turned l fit ∙ ok)) in
     let left = ap negℤ (t .right) ∙ sym (left-volume l fit ok) in let right = ap negℤ (t .left) ∙ sym (right-volume l fit ok) in
     record {
@@ -44,28 +45,38 @@ other-gives l w v old new g old′ =
     }
 
 -- a run of them: each turned call is lent the turned table that the one before wrote, and a table to write that is as long
-module _ {bed : List ℤ} {n dx : ℕ} {s : List ℤ} {w v : ℤ} {old m : List ℤ} (c : Called bed n dx s (Accepted w v) old m) where
+module _ {bed : List ℤ} {n dx : ℕ} {s : List ℤ} {a : Answer} {w v : ℤ} {old m : List ℤ} (e : volumes a ≡ both w v)
+    (c : Called bed n dx s a old m) where
+  abbrev g : Besides n
+  g = c .given
+
+  abbrev turnedBesides : Besides n
+  turnedBesides = record {
+    friction = reverse (g .friction);
+    cells = length-reverse (g .friction) ∙ g .cells;
+    dt = g .dt;
+    jump = g .jump;
+    dry = g .dry;
+    left = g .right;
+    right = g .left;
+  }
+
   -- which is lent so of k cells
   abbrev lentOf : ℕ → Lent
-  lentOf k = lend (turnedTable k s) (length old) (reverse bed) (reverse (c .friction)) dx (c .dt) (c .jump) (c .dry) (c .right) (c .left)
+  lentOf k = lending (reverse bed) dx (turnedTable k s) (length old) turnedBesides
 
   abbrev other-call : Called (reverse bed) n dx (turnedTable n s) (Accepted (negℤ v) (negℤ w)) old (turnedTable n m)
   other-call = record {
-    friction = reverse (c .friction);
-    cells = length-reverse (c .friction) ∙ c .cells;
-    dt = c .dt;
-    jump = c .jump;
-    dry = c .dry;
-    left = c .right;
-    right = c .left;
-    gave = subst (λ (k : ℕ). Gives (stepOf (lentOf k)) (Accepted (negℤ v) (negℤ w)) old (turnedTable k m)) (c .cells)
-        (other-gives (lent c) w v old m (c .gave) old);
+    given = turnedBesides;
+    gave = subst (λ (k : ℕ). Gives (stepOf (lentOf k)) (Accepted (negℤ v) (negℤ w)) old (turnedTable k m)) (g .cells)
+        (other-gives (lent c) a w v old m e (c .gave) old);
   }
 
   is-turned : lent other-call ≡ turnedCall (lent c)
-  is-turned = ap lentOf (sym (c .cells))
+  is-turned = ap lentOf (sym (g .cells))
 
 pub other-run : {bed : List ℤ} {n dx : ℕ} {s t : List ℤ} {a b : ℤ} (k : Calls bed n dx s t a b) → FromOtherEnd k
+unfolding volumes
 other-run {n = n} (none t) = record {
   left = pos 0;
   right = pos 0;
@@ -74,12 +85,12 @@ other-run {n = n} (none t) = record {
   left-is = refl;
   right-is = refl;
 }
-other-run {n = n} (more s m t old w v a b c k) = let rest = other-run k in record {
+other-run {n = n} (more s m t old x w v a b e c k) = let rest = other-run k in record {
   left = negℤ v +ℤ rest .left;
   right = negℤ w +ℤ rest .right;
-  calls = more (turnedTable n s) (turnedTable n m) (turnedTable n t) old (negℤ v) (negℤ w) (rest .left) (rest .right)
-      (other-call c) (rest .calls);
-  each = (is-turned c, rest .each);
+  calls = more (turnedTable n s) (turnedTable n m) (turnedTable n t) old (Accepted (negℤ v) (negℤ w)) (negℤ v) (negℤ w) (rest .left)
+      (rest .right) refl (other-call e c) (rest .calls);
+  each = (is-turned e c, rest .each);
   left-is = ap (λ (z : ℤ). negℤ v +ℤ z) (rest .left-is) ∙ neg-add v b;
   right-is = ap (λ (z : ℤ). negℤ w +ℤ z) (rest .right-is) ∙ neg-add w a;
 }

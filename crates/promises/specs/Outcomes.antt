@@ -2,8 +2,8 @@
 -- Assumes nothing.
 use mathlib.Core.Path.{_≡_, refl, sym, _∙_, ap, subst}
 use mathlib.Core.Bool.{Bool, true, false}
-use mathlib.Core.List.{List, _∷_}
-use mathlib.Core.Logic.{_⊎_, inl, inr}
+use mathlib.Core.List.{List, [], _∷_}
+use mathlib.Core.Logic.{_⊎_, inl, inr, ⊎-elim}
 use Prim.Native.Nat.{ℕ, zero, suc, _*_, _≤_, _<_}
 use native.Mathlib.Omega.{arith}
 use borrow.Author.Tests.{eq-eqb, ne-eqb, eqb-false}
@@ -11,41 +11,43 @@ use lib.Dec.{eqb, eqb→eq}
 use lib.ListN.{length, getD}
 use lib.IntN.{ℤ, pos, _+ℤ_}
 use lib.Signed.{_≤ℤ_}
-use Rattle.whole.specs.Flags.{by, held, clash}
+use Rattle.whole.specs.Flags.{by, held}
+use Rattle.whole.specs.Parts.{le-of}
+use Rattle.whole.specs.Choice.{sizeZ}
 use Rattle.tables.specs.Cells.{Cell, cellIn, tableOf, length-table, cellIn-table}
 use Rattle.rules.specs.Face.{face}
 use Rattle.rules.specs.Reach.{Reach, Call, State, under, z0, z1, h0, h1, hl, hr}
 use Rattle.rules.specs.Step.{carry, joined, next}
 use Rattle.rules.specs.Ends.{End, inflowKind}
-use Rattle.tables.specs.Some.{some, lowest}
-use Rattle.rules.specs.Refusals.{badEnd, Check, ofCall, verdict, spot, stageChecks, early, checks, refusal, refusedAt}
+use Rattle.tables.specs.Some.{some, lowest, some-same}
+use Rattle.rules.specs.Refusals.{badEnd, badCall, badBed, badRough, offCell, off, ofCall, each, applies, verdict, spot}
+use Rattle.rules.specs.Refusals.{stageChecks, early, checks, refusal, refusedAt}
 use Rattle.rules.specs.Lent.{Lent, reachOf, callOf, stateOf, cellsOf, misfits, number, place, filled, crossed}
 use Rattle.rules.specs.Lent.{Outcome, refused, accepted, stepOf}
 use Rattle.rules.specs.AtRest.{Dry, Flat, AtRest}
 use Rattle.rules.specs.Laws.Agree.{Same}
 use Rattle.rules.specs.Laws.DryDepth.{finished-calm}
-use Rattle.rules.specs.Laws.Verdicts.{Found, found}
-use Rattle.rules.specs.Laws.Lengths.{fitted, foundOf, first-number, later-number, fits, unrefused}
+use Rattle.rules.specs.Laws.Accept.{passed}
+use Rattle.rules.specs.Found.{Found, found, foundOf}
+use Rattle.rules.specs.Laws.Verdicts.{went-past}
+use Rattle.rules.specs.Laws.StillChecks.{input, worked, two-parts, seven-alone}
+use Rattle.rules.specs.Laws.Lengths.{fitted, first-number, later-number, fits, unrefused}
 use Rattle.rules.specs.Laws.Within.{spot-whole}
 use Rattle.rules.specs.Laws.Positive.{Nonneg, Wet}
 use Rattle.rules.specs.Laws.Balance as balance
 use Rattle.rules.specs.Laws.Face.{lawful}
 use Rattle.rules.specs.Laws.EndChecks.{kind-in, inflow-in, inflow-only}
-use Rattle.rules.specs.Laws.EndVolumes.{left-shut, left-brought}
-use Rattle.rules.specs.Laws.Runs.{Run, stop, step, accepted-ends, Depths, depths, TooLarge, Large}
+use Rattle.rules.specs.Laws.EndVolumes.{left-shut, left-brought, left-most}
+use Rattle.rules.specs.Laws.Runs.{Run, stop, step, accepted as accepted-call, accepted-ends, Depths, depths, TooLarge, Large}
 use Rattle.before.specs.Laws.E6 as before-E6
-use Rattle.step.specs.Gives.{code, placed, atLeft, atRight, Gives, answer, leaves}
+use Rattle.step.specs.Gives.{code, placed, volumes, absent, both, Gives, answer, leaves}
 use Rattle.step.specs.declared.Answer.{Answer}
 use Rattle.step.specs.declared.Answer.the-variants.{Refused, Accepted}
 use Rattle.promises.specs.Seen.{at, level, levelSlope, discharge, dischargeSlope, meanBed, bedSlope, meanDepth, leftDepth}
-use Rattle.promises.specs.Seen.{rightDepth, NoneBelow, Excess, NoShortfall, total, water, Listed, brought, Lake}
-use Rattle.promises.specs.Seen.{Called, lent, Calls, none, more}
+use Rattle.promises.specs.Seen.{rightDepth, NoneBelow, Excess, NoShortfall, total, water, Listed, mostPassed, brought, Lake}
+use Rattle.promises.specs.Seen.{allChecks, checkFive, Called, lent, Calls, none, more}
 
 -- ---- an outcome by its number
--- all the checks of a call, in their order
-unfoldable pub allChecks : Lent → List Check
-allChecks l = ofCall 1 (misfits l) ∷ checks (reachOf l) (callOf l) (stateOf l)
-
 module _ (l : Lent) where
   pub found-is : foundOf l ≡ found (allChecks l)
   unfolding number place refusal refusedAt allChecks verdict spot some lowest
@@ -73,52 +75,69 @@ module _ (l : Lent) where
   unfolding stepOf
   refuses f = rw (ne-eqb (number l) 0 f)
 
-  code-number : code (answer (stepOf l)) ≡ number l
-  unfolding code answer
-  code-number = by (eqb (number l) 0)
-      (λ b. let e = eqb→eq (number l) 0 (held (eqb (number l) 0) b) in ap (λ (o : Outcome). code (answer o)) (accepts e) ∙ sym e)
-      (λ b. ap (λ (o : Outcome). code (answer o)) (refuses (eqb-false (number l) 0 b)))
-
+  -- ---- and by the number of its answer
   module _ {a : Answer} {old new : List ℤ} (g : Gives (stepOf l) a old new) where
+    abbrev stopped : Answer
+    stopped = Refused (number l) (place l)
+
+    abbrev took : Answer
+    took = Accepted (crossed l 0) (crossed l (cellsOf l))
+
+    -- the answer,
+    refused-is : (number l ≡ 0 → ⊥) → a ≡ stopped
+    unfolding answer
+    refused-is f = g .says ∙ ap answer (refuses f)
+
+    accepted-is : number l ≡ 0 → a ≡ took
+    unfolding answer
+    accepted-is e = g .says ∙ ap answer (accepts e)
+
+    -- its number,
     pub coded : code a ≡ number l
-    coded = ap code (g .says) ∙ code-number
+    unfolding code
+    coded = by (eqb (number l) 0)
+        (λ b. let e = eqb→eq (number l) 0 (held (eqb (number l) 0) b) in ap code (accepted-is e) ∙ sym e)
+        (λ b. ap code (refused-is (eqb-false (number l) 0 b)))
 
--- a refused call: its number, which is not nought, its place, and its table
-module _ (l : Lent) (k p : ℕ) (old new : List ℤ) (g : Gives (stepOf l) (Refused k p) old new) where
-  pub refused-number : number l ≡ k
-  unfolding code
-  refused-number = sym (coded l g)
+    some-number : 0 < code a → number l ≡ 0 → ⊥
+    some-number p e = omega (arith, coded)
 
-  met : number l ≡ 0 → ⊥
-  unfolding answer
-  met e = clash (ap taking (g .says ∙ ap answer (accepts l e)))
-    where
-      taking : Answer → Bool
-      taking (Refused k p) = false
-      taking (Accepted w v) = true
+    -- and of a refusal its place, that it has no volumes, and the table
+    pub refused-place : 0 < code a → placed a ≡ place l
+    unfolding placed
+    refused-place p = ap placed (refused-is (some-number p))
 
-  pub refused-some : 0 < k
-  refused-some = omega (arith, met, refused-number)
+    pub refused-volumes : 0 < code a → volumes a ≡ absent
+    unfolding volumes
+    refused-volumes p = ap volumes (refused-is (some-number p))
 
-  pub refused-place : place l ≡ p
-  unfolding answer placed
-  refused-place = sym (ap placed (g .says ∙ ap answer (refuses l met)))
+    pub refused-table : 0 < code a → new ≡ old
+    unfolding leaves
+    refused-table p = g .table ∙ ap (λ (o : Outcome). leaves o old) (refuses (some-number p))
 
-  pub refused-table : new ≡ old
-  unfolding leaves
-  refused-table = g .table ∙ ap (λ (o : Outcome). leaves o old) (refuses l met)
+    pub refused-later : code a ≡ 8 → refusal (reachOf l) (callOf l) (stateOf l) ≡ 8
+    refused-later e = by (misfits l)
+        (λ b. let z = first-number l b in let w : ⊥ = omega (arith, coded) in absurd w)
+        (λ b. sym (later-number l b) ∙ sym coded ∙ e)
 
-  pub refused-later : k ≡ 8 → refusal (reachOf l) (callOf l) (stateOf l) ≡ 8
-  refused-later e = by (misfits l)
-      (λ b. let z = first-number l b in let w : ⊥ = omega (arith, refused-number) in absurd w)
-      (λ b. sym (later-number l b) ∙ refused-number ∙ e)
+    -- of an accepted call its place, its volumes and the table
+    pub accepted-place : code a ≡ 0 → placed a ≡ 0
+    unfolding placed
+    accepted-place e = ap placed (accepted-is (sym coded ∙ e))
 
--- and one whose number is not nought
-pub refuses-with : (l : Lent) (k : ℕ) (a : Answer) (old new : List ℤ) → number l ≡ k → 0 < k → Gives (stepOf l) a old new
-    → a ≡ Refused k (place l)
-unfolding answer
-refuses-with l k a old new e p g =
-    g .says ∙ ap answer (refuses l (λ z. let w : ⊥ = omega arith in w)) ∙ ap (λ (m : ℕ). Refused m (place l)) e
+    pub accepted-volumes : code a ≡ 0 → volumes a ≡ both (crossed l 0) (crossed l (cellsOf l))
+    unfolding volumes
+    accepted-volumes e = ap volumes (accepted-is (sym coded ∙ e))
+
+    pub accepted-table : code a ≡ 0 → new ≡ filled l
+    unfolding leaves
+    accepted-table e = g .table ∙ ap (λ (o : Outcome). leaves o old) (accepts (sym coded ∙ e))
+
+-- an answer with volumes has the number 0
+pub volumes-code : (a : Answer) (w v : ℤ) → volumes a ≡ both w v → code a ≡ 0
+unfolding volumes code
+volumes-code (Refused k p) w v e = let z : _≡_ {A = ℕ} 0 1 = cc in let f : ⊥ = omega arith in absurd f
+volumes-code (Accepted x y) w v e = refl
 
 -- an accepted call: its number, its volumes and its table
 pub record Taken (l : Lent) (w v : ℤ) (new : List ℤ) : Type 0 where
@@ -127,12 +146,10 @@ pub record Taken (l : Lent) (w v : ℤ) (new : List ℤ) : Type 0 where
   pub right : v ≡ crossed l (cellsOf l)
   pub table : new ≡ filled l
 
-pub taken : (l : Lent) (w v : ℤ) (old new : List ℤ) → Gives (stepOf l) (Accepted w v) old new → Taken l w v new
-unfolding code answer leaves atLeft atRight
-taken l w v old new g =
-    let e : number l ≡ 0 = sym (coded l g) in
-    let p : Accepted w v ≡ Accepted (crossed l 0) (crossed l (cellsOf l)) = g .says ∙ ap answer (accepts l e) in
-    record { number = e; left = ap atLeft p; right = ap atRight p; table = g .table ∙ ap (λ (o : Outcome). leaves o old) (accepts l e) }
+pub taken : (l : Lent) (a : Answer) (w v : ℤ) (old new : List ℤ) → volumes a ≡ both w v → Gives (stepOf l) a old new → Taken l w v new
+taken l a w v old new e g =
+    let z = volumes-code a w v e in let p : both w v ≡ both (crossed l 0) (crossed l (cellsOf l)) = sym e ∙ accepted-volumes l g z in
+    record { number = sym (coded l g) ∙ z; left = cc; right = cc; table = accepted-table l g z }
 
 -- ---- tables as states
 abbrev pub reachAt : List ℤ → ℕ → ℕ → Reach
@@ -222,6 +239,15 @@ pub inflow-left : (l : Lent) → l .left .kind ≡ inflowKind → crossed l 0 �
 unfolding crossed brought
 inflow-left l e = left-brought (reachOf l) lawful (callOf l) e (stateOf l)
 
+-- at any other end no more passes than half of the greatest depth
+pub passed-left : (l : Lent) → number l ≡ 0 → (l .left .kind ≡ inflowKind → ⊥) → sizeZ (crossed l 0) ≤ℤ mostPassed
+unfolding crossed sizeZ
+passed-left l e other =
+    let r = reachOf l in let c = callOf l in let s = stateOf l in
+    let some = fitted (length (l .now)) (l .room) (length (l .bed)) (cellsOf l) (fits l e) .some in
+    let most = left-most r lawful c other s some (accepted-call r c s (unrefused l e)) .abs in
+    le-of (sizeZ (crossed l 0)) mostPassed (omega (arith, most))
+
 -- ---- an accepted call as a step of the rules
 pub record One (bed : List ℤ) (n dx : ℕ) (c : Call) (s m : List ℤ) (w v : ℤ) : Type 0 where
   pub some : 0 < n
@@ -236,16 +262,16 @@ pub record One (bed : List ℤ) (n dx : ℕ) (c : Call) (s m : List ℤ) (w v : 
 abbrev pub call : {bed : List ℤ} {n dx : ℕ} {s : List ℤ} {a : Answer} {old m : List ℤ} → Called bed n dx s a old m → Call
 call c = callOf (lent c)
 
-pub one : (bed : List ℤ) (n dx : ℕ) (s : List ℤ) (w v : ℤ) (old m : List ℤ) (c : Called bed n dx s (Accepted w v) old m)
-    → One bed n dx (call c) s m w v
+pub one : (bed : List ℤ) (n dx : ℕ) (s : List ℤ) (a : Answer) (w v : ℤ) (old m : List ℤ) → volumes a ≡ both w v
+    → (c : Called bed n dx s a old m) → One bed n dx (call c) s m w v
 unfolding filled crossed
-one bed n dx s w v old m c = subst (λ (k : ℕ). One bed k dx (call c) s m w v) (c .cells) whole
+one bed n dx s a w v old m e c = subst (λ (k : ℕ). One bed k dx (call c) s m w v) (c .given .cells) whole
   where
-    whole : One bed (length (c .friction)) dx (call c) s m w v
+    whole : One bed (length (c .given .friction)) dx (call c) s m w v
     whole =
-        let t = taken (lent c) w v old m (c .gave) in
-        let f = fitted (length s) (length old) (length bed) (length (c .friction)) (fits (lent c) (t .number)) in
-        let k = length (c .friction) in let y = next (reachOf (lent c)) (call c) (cellIn k s) in
+        let t = taken (lent c) a w v old m e (c .gave) in let k = length (c .given .friction) in
+        let f = fitted (length s) (length old) (length bed) k (fits (lent c) (t .number)) in
+        let y = next (reachOf (lent c)) (call c) (cellIn k s) in
         record {
           some = f .some;
           now = f .now;
@@ -260,6 +286,43 @@ one bed n dx s w v old m c = subst (λ (k : ℕ). One bed k dx (call c) s m w v)
 pub run : (bed : List ℤ) (n dx : ℕ) {s t : List ℤ} {a b : ℤ} → Calls bed n dx s t a b
     → Run (reachAt bed n dx) (cellIn n s) (cellIn n t) a b
 run bed n dx (none t) = stop (cellIn n t)
-run bed n dx (more s m t old w v a b c k) =
-    let o = one bed n dx s w v old m c in
+run bed n dx (more s m t old x w v a b e c k) =
+    let o = one bed n dx s x w v old m e c in
     rw (o .left, o .right) (step (call c) (cellIn n s) (cellIn n m) (cellIn n t) a b (o .unstopped) (o .same) (run bed n dx k))
+
+-- ---- a lake at rest: a number over 5 is a 7
+pub lake-number : (l : Lent) → Lake (l .bed) (l .now) (cellsOf l) → l .left .q ≡ 0 → l .right .q ≡ 0 → 5 < number l → number l ≡ 7
+lake-number l lake left right over = by (misfits l)
+    (λ b. let z = first-number l b in let w : ⊥ = omega arith in absurd w)
+    (λ b.
+    let r = reachOf l in let c = callOf l in let s = stateOf l in
+    let is = later-number l b ∙ two-parts r c s in
+    let past = went-past 5 (input r c s) (worked r c s) tt (subst (λ (k : ℕ). 5 < k) is over) in
+    let some = fitted (length (l .now)) (l .room) (length (l .bed)) (cellsOf l) b .some in
+    let number = is ∙ past .1 in
+    ⊎-elim (λ e. let z = number ∙ e in let w : ⊥ = omega arith in absurd w) (λ e. number ∙ e)
+    (seven-alone r lawful some c (record { left = left; right = right }) s (at-rest (l .bed) (l .now) (l .dx) (cellsOf l) lake) (past .0)))
+
+-- ---- check 5 of a call that is lent what an accepted one wrote
+module _ (l m : Lent) (ok : number l ≡ 0) (now : m .now ≡ filled l) (bed : m .bed ≡ l .bed) (cells : cellsOf m ≡ cellsOf l) where
+  abbrev offIn : ℕ → List ℤ → List ℤ → Bool
+  offIn k b t = some (λ i. offCell (record { zl = getD b i (pos 0); zr = getD b (suc i) (pos 0) }) (cellIn k t i)) k
+
+  pub again-in-range : applies (checkFive m) ≡ false
+  unfolding off filled
+  again-in-range =
+      let n = cellsOf l in let r = reachOf l in let end = next r (callOf l) (stateOf l) in
+      (λ j. offIn (cells j) (bed j) (now j))
+      ∙ some-same (λ i. offCell (under r i) (cellIn n (tableOf n end) i)) (off r end) n
+      (λ i b. ap (offCell (under r i)) (cellIn-table n end i b))
+      ∙ accepted-call r (callOf l) (stateOf l) (unrefused l ok) .end
+
+-- a 5 is given by check 5 alone
+pub five-applies : (m : Lent) → number m ≡ 5 → applies (checkFive m) ≡ true
+unfolding allChecks checks early stageChecks verdict
+five-applies m e =
+    let r = reachOf m in let c = callOf m in let s = stateOf m in
+    let lent = passed 5 (ofCall 1 (misfits m) ∷ ofCall 2 (badCall r c) ∷ each 3 (suc (r .n)) (λ i. badBed (r .bed i))
+    ∷ each 4 (r .n) (λ i. badRough (c .rough i)) ∷ []) (checkFive m ∷ worked r c s) tt (sym (number-is m) ∙ e) .1 in
+    by (applies (checkFive m)) (λ b. b)
+    (λ b. let z = passed 5 (worked r c s) [] tt (rw b at lent) .1 in let w : ⊥ = omega arith in absurd w)

@@ -9,13 +9,18 @@
 -- Assumes nothing.
 use mathlib.Core.Path.{_≡_, refl, sym, _∙_, ap, ap₂, subst}
 use mathlib.Core.Bool.{Bool, true, false}
-use mathlib.Core.List.{List}
+use mathlib.Core.List.{List, [], _∷_, _++_}
 use mathlib.Core.Logic.{_⊎_, inl, inr, ⊎-elim}
 use Prim.Native.Nat.{ℕ, suc, _-_, _*_, _≤_, _<_}
+use native.Mathlib.Omega.{arith}
+use native.Mathlib.Decide.{decLt}
 use lib.ListN.{length}
 use lib.IntN.{ℤ, pos, negℤ, negℤ-negℤ, _+ℤ_, _-ℤ_}
 use lib.Signed.{_≤ℤ_, _<ℤ_}
 use lib.Ieee.{Float}
+use Rattle.whole.specs.Flags.{clash}
+use Rattle.whole.specs.Parts.{abs-neg}
+use Rattle.whole.specs.Choice.{sizeZ}
 use Rattle.rules.specs.Face.{Side}
 use Rattle.tables.specs.Cells.{Cell, cellIn, tableOf, cellIn-table, table-is, table-cells}
 use Rattle.rules.specs.Reach.{Reach, Call, State, under, h0}
@@ -36,15 +41,15 @@ use Rattle.before.specs.Laws.E13.{without-place}
 use Rattle.before.specs.E7 as before-E7
 use Rattle.before.specs.E7.{ColumnsOfOne, lentInColumns, lentInCells, givenInColumns}
 use Rattle.before.specs.Laws.E7.{of-one, in-columns, from-cells}
-use Rattle.rules.specs.Laws.Lengths.{fitted, foundOf, unrefused}
+use Rattle.rules.specs.Laws.Lengths.{fitted}
 use Rattle.rules.specs.Laws.Within.{place-within}
 use Rattle.rules.specs.Step.{rubbed, stageOne, next}
-use Rattle.rules.specs.Refusals.{checks, early, stageChecks}
+use Rattle.rules.specs.Refusals.{off, each, applies, Clear, stageChecks, early, checks}
 use Rattle.rules.specs.Lent.{Lent, cellsOf, reachOf, callOf, stateOf, misfits, place, filled, crossed, stepOf}
-use Rattle.rules.specs.Laws.Accept.{Clear}
-use Rattle.rules.specs.Laws.Verdicts.{at, cleared}
+use Rattle.rules.specs.Found.{Found, at, foundOf}
+use Rattle.rules.specs.Laws.Verdicts.{cleared, none-stops}
 use Rattle.rules.specs.Laws.Face.{lawful}
-use Rattle.rules.specs.Laws.Runs.{Large, depths, eight, accepted-depths, run-balanced, run-wet, accepted-rest}
+use Rattle.rules.specs.Laws.Runs.{reached-one, reached-end, Large, eight, depths, accepted-depths, run-balanced, run-wet, accepted-rest}
 use Rattle.survey.specs.Turned.{turnedCell, turnedTable, turnedCall}
 use Rattle.survey.specs.Laws.Twice.{call-twice}
 use Rattle.survey.specs.Laws.Lent.{number-turned}
@@ -69,19 +74,20 @@ use Rattle.finishing.specs.Laws.OneFinish.{one-finish}
 use Rattle.stage.specs.Worked.{WorkedSays}
 use Rattle.stage.specs.Laws.OneAnswer.{one-said}
 use Rattle.stage.specs.declared.worked.Worked.{Worked}
-use Rattle.step.specs.Gives.{Gives, one-answer, one-table}
+use Rattle.step.specs.Gives.{code, placed, volumes, absent, both, Gives, one-answer, one-table}
 use Rattle.step.specs.declared.Answer.{Answer}
-use Rattle.step.specs.declared.Answer.the-variants.{Refused, Accepted}
+use Rattle.step.specs.declared.Answer.the-variants.{Accepted}
+use Rattle.promises.specs.Seen.{allChecks, toStageOne, toEnd, checkFive, FirstMet, FirstMetAt}
 use Rattle.promises.specs.Seen.{level, levelSlope, discharge, dischargeSlope, meanDepth, NoneBelow, Excess, stageTable, frictionTable}
-use Rattle.promises.specs.Seen.{correctedStageTable, NoShortfall, water, Listed, brought, Lake}
+use Rattle.promises.specs.Seen.{correctedStageTable, NoShortfall, water, Listed, mostPassed, brought, Lake}
 use Rattle.promises.specs.Seen.{Called, lent, Calls, none, more, NoInflow, FitsI32, NoneLeast, FromOtherEnd}
-use Rattle.promises.specs.First.{FirstMet, first-verdict, verdict-first, first-listed, FirstMetAt, first-of, first-found, found-first}
-use Rattle.promises.specs.Outcomes.{allChecks, found-is, number-is, refuses-with, refused-number, refused-some, refused-place}
-use Rattle.promises.specs.Outcomes.{whole-place}
-use Rattle.promises.specs.Outcomes.{refused-table, refused-later, Taken, taken, reachAt, call, one, none-below}
-use Rattle.promises.specs.Outcomes.{both-listed, wall-left, inflow-left}
+use Rattle.promises.specs.First.{first-verdict, verdict-first, first-listed, first-of, first-found, found-first}
+use Rattle.promises.specs.Outcomes.{found-is, number-is, whole-place, coded, refused-place, refused-volumes, refused-table}
+use Rattle.promises.specs.Outcomes.{refused-later, accepted-place, accepted-volumes, accepted-table, volumes-code, Taken, taken}
+use Rattle.promises.specs.Outcomes.{reachAt, none-below, wet, water-is, at-rest, none-below-table, none-short-table, excess-table}
+use Rattle.promises.specs.Outcomes.{written-calm, both-listed, wall-left, inflow-left, passed-left, call, one, run, lake-number}
+use Rattle.promises.specs.Outcomes.{again-in-range, five-applies}
 use Rattle.promises.specs.OtherEnd.{other-gives, other-run, turned-fits, accepted-none-least}
-use Rattle.promises.specs.Outcomes.{none-below-table, none-short-table, excess-table, wet, water-is, at-rest, written-calm, run}
 
 -- ---- demand 1: one answer, one content of the table
 pub step-answer : (l : Lent) {a b : Answer} {old new new′ : List ℤ} → Gives (stepOf l) a old new → Gives (stepOf l) b old new′ → a ≡ b
@@ -117,52 +123,70 @@ root-one p q = root-unique p q
 pub double-one : (hl ul hr ur : Float) (a b : DoubleAnswer) → FaceIs hl ul hr ur a → FaceIs hl ul hr ur b → a ≡ b
 double-one hl ul hr ur a b x y = doubles.face-unique hl ul hr ur a b x y
 
--- a call is refused with k exactly when a check numbered k is the first one met,
-pub refused-first : (l : Lent) (k p : ℕ) (old new : List ℤ) → Gives (stepOf l) (Refused k p) old new → FirstMet k (allChecks l)
-refused-first l k p old new g =
-    verdict-first k (allChecks l) (refused-some l k p old new g) (sym (number-is l) ∙ refused-number l k p old new g)
+-- ---- the answer, by its number, its place and its volumes (`code`, `placed`, `volumes`)
+module _ (l : Lent) (a : Answer) (old new : List ℤ) (g : Gives (stepOf l) a old new) where
+  -- a call is refused with k exactly when a check numbered k is the first one met,
+  pub refused-first : 0 < code a → FirstMet (code a) (allChecks l)
+  refused-first some = verdict-first (code a) (allChecks l) some (sym (coded l g ∙ number-is l))
 
-pub first-refused : (l : Lent) (k : ℕ) (a : Answer) (old new : List ℤ) → FirstMet k (allChecks l) → Gives (stepOf l) a old new
-    → a ≡ Refused k (place l)
-unfolding allChecks checks early stageChecks
-first-refused l k a old new f g = refuses-with l k a old new (number-is l ∙ first-verdict k f) (first-listed k f tt .0) g
+  pub first-refused : (k : ℕ) → FirstMet k (allChecks l) → code a ≡ k
+  first-refused k f = coded l g ∙ number-is l ∙ first-verdict k f
 
--- a number from 1 to 8; and the table is then what it was
-pub refused-listed : (l : Lent) (k p : ℕ) (old new : List ℤ) → Gives (stepOf l) (Refused k p) old new → (0 < k) × (k < 9)
-unfolding allChecks checks early stageChecks
-refused-listed l k p old new g = first-listed k (refused-first l k p old new g) tt
+  -- a number from 1 to 8; the table is then what it was, and there are no volumes
+  pub refused-listed : code a < 9
+  unfolding allChecks checks early stageChecks
+  refused-listed = listed (decLt 0 (code a))
+    where
+      listed : Dec (0 < code a) → code a < 9
+      listed (yes some) = first-listed (code a) (refused-first some) tt .1
+      listed (no nought) = omega (arith, nought)
 
-pub refused-untouched : (l : Lent) (k p : ℕ) (old new : List ℤ) → Gives (stepOf l) (Refused k p) old new → new ≡ old
-refused-untouched l k p old new g = refused-table l k p old new g
+  pub refused-untouched : 0 < code a → (new ≡ old) × (volumes a ≡ absent)
+  refused-untouched some = (refused-table l g some, refused-volumes l g some)
 
--- and at p exactly when p is below the number of places that this check has (bed values, cells, faces, or one for the call as a whole), its
--- condition holds there, and at no lower one;
-pub refused-at : (l : Lent) (k p : ℕ) (old new : List ℤ) → Gives (stepOf l) (Refused k p) old new → FirstMetAt k p (allChecks l)
-refused-at l k p old new g = found-first k p (allChecks l) (refused-some l k p old new g)
-    (sym (found-is l) ∙ (λ i. at (refused-number l k p old new g i) (refused-place l k p old new g i)))
+  -- and at p exactly when p is below the number of places that this check has (bed values, cells, faces, or one for the call as a whole),
+  -- its condition holds there, and at no lower one;
+  pub refused-at : 0 < code a → FirstMetAt (code a) (placed a) (allChecks l)
+  refused-at some = found-first (code a) (placed a) (allChecks l) some
+      (sym ((λ i. at (coded l g i) (refused-place l g some i)) ∙ found-is l))
 
-pub at-refused : (l : Lent) (k p : ℕ) (a : Answer) (old new : List ℤ) → FirstMetAt k p (allChecks l) → Gives (stepOf l) a old new
-    → a ≡ Refused k p
-at-refused l k p a old new f g = let is = found-is l ∙ first-found k p f in
-    first-refused l k a old new (first-of k p f) g ∙ (λ i. Refused k (is i .place))
+  pub at-refused : (k p : ℕ) → FirstMetAt k p (allChecks l) → (code a ≡ k) × (placed a ≡ p)
+  unfolding allChecks checks early stageChecks
+  at-refused k p f =
+      let first = first-of k p f in let is = first-refused k first in
+      let some = subst (λ (m : ℕ). 0 < m) (sym is) (first-listed k first tt .0) in
+      (is, refused-place l g some ∙ ap (λ (x : Found). x .place) (found-is l ∙ first-found k p f))
 
--- for a 1 or a 2 that is 0, and for none does it lie past the last face
-pub refused-whole : (l : Lent) (k p : ℕ) (old new : List ℤ) → k ≤ 2 → Gives (stepOf l) (Refused k p) old new → p ≡ 0
-refused-whole l k p old new m g =
-    sym (refused-place l k p old new g) ∙ whole-place l k m (refused-some l k p old new g) (refused-number l k p old new g)
+  -- for a 1 or a 2 that is 0, as it is when the call is accepted, and for none does it lie past the last face
+  pub refused-whole : code a ≤ 2 → placed a ≡ 0
+  refused-whole few = whole (decLt 0 (code a))
+    where
+      whole : Dec (0 < code a) → placed a ≡ 0
+      whole (yes some) = refused-place l g some ∙ whole-place l (code a) few some (sym (coded l g))
+      whole (no nought) = accepted-place l g (omega (arith, nought))
 
-pub refused-within : (l : Lent) (k p : ℕ) (old new : List ℤ) → Gives (stepOf l) (Refused k p) old new → p ≤ cellsOf l
-refused-within l k p old new g = subst (λ (m : ℕ). m ≤ cellsOf l) (refused-place l k p old new g) (place-within l)
+  pub refused-within : placed a ≤ cellsOf l
+  refused-within = within (decLt 0 (code a))
+    where
+      within : Dec (0 < code a) → placed a ≤ cellsOf l
+      within (yes some) = subst (λ (m : ℕ). m ≤ cellsOf l) (sym (refused-place l g some)) (place-within l)
+      within (no nought) = let e = accepted-place l g (omega (arith, nought)) in omega arith
 
--- it is accepted exactly when none is met
-pub accepted-clear : (l : Lent) (w v : ℤ) (old new : List ℤ) → Gives (stepOf l) (Accepted w v) old new → Clear (allChecks l)
-unfolding allChecks checks early stageChecks
-accepted-clear l w v old new g = cleared (allChecks l) tt (sym (taken l w v old new g .number) ∙ number-is l)
+  -- it is accepted exactly when none is met
+  pub accepted-clear : code a ≡ 0 → Clear (allChecks l)
+  unfolding allChecks checks early stageChecks
+  accepted-clear e = cleared (allChecks l) tt (sym e ∙ coded l g ∙ number-is l)
 
--- ---- demand 2: an accepted call's table and volumes are those of the rules' two stages, number for number
-pub accepted-rules : (l : Lent) (w v : ℤ) (old new : List ℤ) → Gives (stepOf l) (Accepted w v) old new
-    → (new ≡ filled l) × (w ≡ crossed l 0) × (v ≡ crossed l (cellsOf l))
-accepted-rules l w v old new g = let t = taken l w v old new g in (t .table, t .left, t .right)
+  pub clear-accepted : Clear (allChecks l) → code a ≡ 0
+  clear-accepted k = coded l g ∙ number-is l ∙ sym (ap (λ (x : Found). x .no) (none-stops (allChecks l) k))
+
+  -- ---- demand 2: an accepted call's table and volumes are those of the rules' two stages, number for number
+  pub accepted-rules : code a ≡ 0 → (new ≡ filled l) × (volumes a ≡ both (crossed l 0) (crossed l (cellsOf l)))
+  accepted-rules e = (accepted-table l g e, accepted-volumes l g e)
+
+-- an answer with volumes is that of an accepted call
+pub volumes-accepted : (a : Answer) (w v : ℤ) → volumes a ≡ both w v → code a ≡ 0
+volumes-accepted a w v e = volumes-code a w v e
 
 -- ---- what E13 changed: a refusal has a place
 -- without it every call is answered as before: the same number, or the same table and volumes. What follows of other requests is said of
@@ -208,10 +232,10 @@ four-as-before l f g = let m = with-no-inflow (before-E3.given 4 l) in
     columns-as-before m ∙ ap (givenInColumns (cellsOf m)) (given-four l f g)
 
 -- whichever it is, what an accepted call writes has no discharge where it is no deeper
-pub shallow-calm : (l : Lent) (w v : ℤ) (old new : List ℤ) → Gives (stepOf l) (Accepted w v) old new → (i : ℕ) → i < cellsOf l
+pub shallow-calm : (l : Lent) (a : Answer) (old new : List ℤ) → Gives (stepOf l) a old new → code a ≡ 0 → (i : ℕ) → i < cellsOf l
     → meanDepth (l .bed) new (cellsOf l) i ≤ℤ pos (l .dry)
     → (discharge new (cellsOf l) i ≡ pos 0) × (dischargeSlope new (cellsOf l) i ≡ pos 0)
-shallow-calm l w v old new g i m d = written-calm l (taken l w v old new g .table) i m d
+shallow-calm l a old new g e i m d = written-calm l (accepted-table l g e) i m d
 
 -- ---- what E4 changed: an end may be an inflow, which brings in a given discharge Q
 -- where neither is one, a call is answered as before, when an end had a kind alone: the same number, or the same table, in columns, and
@@ -220,20 +244,33 @@ pub no-inflow-as-before : (l : before-E4.Lent) → (l .left ≡ 2 → ⊥) → (
     unplaced (stepOf (lentInColumns m)) ≡ givenInColumns (cellsOf m) (before-E4.stepOf l)
 no-inflow-as-before l f g = let m = with-no-inflow l in columns-as-before m ∙ ap (givenInColumns (cellsOf m)) (no-inflow l f g)
 
-module _ (l : Lent) (w v : ℤ) (old new : List ℤ) (g : Gives (stepOf l) (Accepted w v) old new) where
+-- ---- the ends of an accepted call, and what crosses them
+module _ (l : Lent) (a : Answer) (w v : ℤ) (old new : List ℤ) (is : volumes a ≡ both w v) (g : Gives (stepOf l) a old new) where
   abbrev went : Taken l w v new
-  went = taken l w v old new g
+  went = taken l a w v old new is g
 
-  -- what crosses the right end is what crosses the left one of the call turned round
+  -- the call turned round is accepted too
+  abbrev there : Taken (turnedCall l) (negℤ v) (negℤ w) (turnedTable (cellsOf l) new)
+  unfolding volumes
+  there = taken (turnedCall l) (Accepted (negℤ v) (negℤ w)) (negℤ v) (negℤ w) old (turnedTable (cellsOf l) new) refl
+      (other-gives l a w v old new is g old)
+
+  -- what crosses the right end is what crosses the left one of that call
   right-is : {x : ℤ} → crossed (turnedCall l) 0 ≡ x → v ≡ negℤ x
-  right-is e = let there = taken (turnedCall l) (negℤ v) (negℤ w) old (turnedTable (cellsOf l) new) (other-gives l w v old new g old) in
-      sym (negℤ-negℤ v) ∙ ap negℤ (there .left ∙ e)
+  right-is e = sym (negℤ-negℤ v) ∙ ap negℤ (there .left ∙ e)
 
-  -- the ends of an accepted call are in their lists, and Q is nought at an end of another kind
+  -- each end is in its lists, and Q is nought at an end of another kind than 2
   pub ends-listed : Listed (l .left) × Listed (l .right)
   ends-listed = both-listed l (went .number)
 
-  -- what an inflow brought in is known before the step: Q·dt/dx, whatever the state; nothing crosses a wall
+  -- nothing crosses a wall;
+  pub left-wall : l .left .kind ≡ 0 → w ≡ pos 0
+  left-wall e = went .left ∙ wall-left l e
+
+  pub right-wall : l .right .kind ≡ 0 → v ≡ pos 0
+  right-wall e = right-is (wall-left (turnedCall l) e)
+
+  -- what an inflow brought in is known before the step: Q·dt/dx, whatever the state, into the reach at either end;
   pub left-inflow : l .left .kind ≡ 2 → w ≡ brought l (l .left)
   left-inflow e = went .left ∙ inflow-left l e
 
@@ -241,11 +278,15 @@ module _ (l : Lent) (w v : ℤ) (old new : List ℤ) (g : Gives (stepOf l) (Acce
   unfolding brought
   right-inflow e = right-is (inflow-left (turnedCall l) e)
 
-  pub left-wall : l .left .kind ≡ 0 → w ≡ pos 0
-  left-wall e = went .left ∙ wall-left l e
+  -- and at a wall or an open end no more than 131,072 passes either way
+  pub left-within : (l .left .kind ≡ 2 → ⊥) → sizeZ w ≤ℤ mostPassed
+  left-within f = subst (λ (z : ℤ). sizeZ z ≤ℤ mostPassed) (sym (went .left)) (passed-left l (went .number) f)
 
-  pub right-wall : l .right .kind ≡ 0 → v ≡ pos 0
-  right-wall e = right-is (wall-left (turnedCall l) e)
+  pub right-within : (l .right .kind ≡ 2 → ⊥) → sizeZ v ≤ℤ mostPassed
+  unfolding sizeZ
+  right-within f = let far = crossed (turnedCall l) 0 in
+      subst (λ (z : ℤ). z ≤ℤ mostPassed) (ap pos (sym (abs-neg far)) ∙ ap sizeZ (sym (right-is refl)))
+      (passed-left (turnedCall l) (there .number) f)
 
 -- ---- what E6 took out: where a level at a face fell short of the bed, the shortfall was taken from both
 -- no level does: not in the state after friction, where a call passes checks 1 to 5, nor in the finished stage one, where it passes its 8;
@@ -263,6 +304,39 @@ no-shortfall-two l q = none-short-table (l .bed) (cellsOf l) (l .dx) (before-E6.
 pub uncorrected-as-before : (l : Lent) → unplaced (stepOf (lentInColumns l)) ≡ givenInColumns (cellsOf l) (before-E6.stepOf l)
 uncorrected-as-before l = columns-as-before l ∙ ap (givenInColumns (cellsOf l)) (uncorrected l)
 
+-- ---- demand 3, of any call
+module _ (l : Lent) where
+  -- no depth is below nought in a finished stage one or end state that a call reaches, whether it is refused there or later, or accepted
+  pub none-below-stage : Clear (toStageOne l) → NoneBelow (l .bed) (stageTable l) (cellsOf l)
+  unfolding stageTable toStageOne
+  none-below-stage ok = none-below-table (l .bed) (cellsOf l) (l .dx) (stageOne (reachOf l) (callOf l) (stateOf l))
+      (reached-one (reachOf l) lawful (callOf l) (stateOf l) (ok .1))
+
+  pub none-below-end : Clear (toEnd l) → NoneBelow (l .bed) (filled l) (cellsOf l)
+  unfolding filled toEnd toStageOne
+  none-below-end ok = none-below-table (l .bed) (cellsOf l) (l .dx) (next (reachOf l) (callOf l) (stateOf l))
+      (reached-end (reachOf l) lawful (callOf l) (stateOf l) (ok .1))
+
+  -- these are the checks before those of the finished stage one and of the end state
+  pub in-order : allChecks l ≡ toEnd l ++ each 8 (cellsOf l) (off (reachOf l) (next (reachOf l) (callOf l) (stateOf l))) ∷ []
+  unfolding allChecks toEnd toStageOne checks early stageChecks
+  in-order = refl
+
+  -- a lake at rest into which no water is brought: where what is lent passes 1 to 5, it can be refused by 7 alone
+  pub lake-seven : (a : Answer) (old new : List ℤ) → Gives (stepOf l) a old new → Lake (l .bed) (l .now) (cellsOf l)
+      → l .left .q ≡ 0 → l .right .q ≡ 0 → 5 < code a → code a ≡ 7
+  lake-seven a old new g lake left right high =
+      coded l g ∙ lake-number l lake left right (subst (λ (k : ℕ). 5 < k) (coded l g) high)
+
+-- what an accepted call wrote passes check 5 when it is lent again on that bed, so no call that is lent it gives a 5
+module _ (l : Lent) (a : Answer) (old new : List ℤ) (g : Gives (stepOf l) a old new) (e : code a ≡ 0) (m : Lent) (now : m .now ≡ new)
+    (bed : m .bed ≡ l .bed) (cells : cellsOf m ≡ cellsOf l) where
+  pub lent-again : applies (checkFive m) ≡ false
+  lent-again = again-in-range l m (sym (coded l g) ∙ e) (now ∙ accepted-table l g e) bed cells
+
+  pub never-five : (b : Answer) (old′ new′ : List ℤ) → Gives (stepOf m) b old′ new′ → code b ≡ 5 → ⊥
+  never-five b old′ new′ h f = clash (sym lent-again ∙ five-applies m (sym (coded m h) ∙ f))
+
 -- ---- demand 3, over any number of accepted calls on one bed with n cells of length dx; all else that they are given may differ
 module _ (bed : List ℤ) (n dx : ℕ) where
   -- the water balances with what the ends bring and take, to the unit
@@ -270,56 +344,47 @@ module _ (bed : List ℤ) (n dx : ℕ) where
   water-balances {s} {t} {a} {b} k =
       water-is bed t dx n ∙ run-balanced (reachAt bed n dx) (run bed n dx k) ∙ ap (λ (x : ℤ). x +ℤ a -ℤ b) (sym (water-is bed s dx n))
 
-  -- no depth is below nought: in the state that an accepted call is lent, in its finished first stage,
-  -- and in the state that it or a later one writes,
-  pub none-below-now : (s : List ℤ) (w v : ℤ) (old m : List ℤ) → Called bed n dx s (Accepted w v) old m → NoneBelow bed s n
-  none-below-now s w v old m c =
-      let o = one bed n dx s w v old m c in
-      none-below bed s dx n (accepted-depths (reachAt bed n dx) lawful (call c) (cellIn n s) (o .unstopped) .0)
-
-  pub none-below-stage : (s : List ℤ) (w v : ℤ) (old m : List ℤ) (c : Called bed n dx s (Accepted w v) old m)
-      → NoneBelow bed (stageTable (lent c)) n
-  unfolding stageTable
-  none-below-stage s w v old m c = let l = lent c in
-      subst (λ (k : ℕ). NoneBelow bed (stageTable l) k) (c .cells)
-      (none-below-table bed (length (c .friction)) dx (stageOne (reachOf l) (call c) (stateOf l))
-      (accepted-depths (reachOf l) lawful (call c) (stateOf l) (unrefused l (taken l w v old m (c .gave) .number)) .1 .faces))
-
+  -- no depth falls below nought: in the state that an accepted call is lent none is, nor in the state that it or a later one writes,
   pub none-below-next : {s t : List ℤ} {a b : ℤ} → Calls bed n dx s t a b → NoneBelow bed s n → NoneBelow bed t n
   none-below-next {s} {t} k d =
       none-below bed t dx n (depths (reachAt bed n dx) (cellIn n t) (run-wet (reachAt bed n dx) lawful (run bed n dx k) (wet bed s dx n d)))
 
-  pub none-below-written : (s : List ℤ) (w v : ℤ) (old m : List ℤ) → Called bed n dx s (Accepted w v) old m → NoneBelow bed m n
-  none-below-written s w v old m c = none-below-next (more s m m old w v (pos 0) (pos 0) c (none m)) (none-below-now s w v old m c)
+  module _ (s : List ℤ) (a : Answer) (w v : ℤ) (old m : List ℤ) (e : volumes a ≡ both w v) (c : Called bed n dx s a old m) where
+    pub none-below-now : NoneBelow bed s n
+    none-below-now = none-below bed s dx n
+        (accepted-depths (reachAt bed n dx) lawful (call c) (cellIn n s) (one bed n dx s a w v old m e c .unstopped) .0)
+
+    pub none-below-written : NoneBelow bed m n
+    none-below-written = none-below-next (more s m m old a w v (pos 0) (pos 0) e c (none m)) none-below-now
 
   abbrev Over : List ℤ → ℕ → Type 0
   Over t k = NoneBelow bed t k × Excess bed t k
 
   -- and no call is refused because one would have been: after an 8 some value is too large, and every depth at or above nought
-  pub eight-too-large : (s : List ℤ) (p : ℕ) (old new : List ℤ) (c : Called bed n dx s (Refused 8 p) old new)
+  pub eight-too-large : (s : List ℤ) (a : Answer) (old new : List ℤ) (c : Called bed n dx s a old new) → code a ≡ 8
       → (NoneBelow bed (stageTable (lent c)) n × Excess bed (stageTable (lent c)) n)
       ⊎ (NoneBelow bed (filled (lent c)) n × Excess bed (filled (lent c)) n)
   unfolding stageTable filled
-  eight-too-large s p old new c = let l = lent c in
-      subst (λ (k : ℕ). Over (stageTable l) k ⊎ Over (filled l) k) (c .cells) (⊎-elim
-      (λ h. inl (both (stageOne (reachOf l) (call c) (stateOf l)) h))
-      (λ h. inr (both (next (reachOf l) (call c) (stateOf l)) h))
-      (eight (reachOf l) lawful (call c) (stateOf l) (refused-later l 8 p old new (c .gave) refl)))
+  eight-too-large s a old new c e = let l = lent c in
+      subst (λ (k : ℕ). Over (stageTable l) k ⊎ Over (filled l) k) (c .given .cells) (⊎-elim
+      (λ h. inl (both-of (stageOne (reachOf l) (call c) (stateOf l)) h))
+      (λ h. inr (both-of (next (reachOf l) (call c) (stateOf l)) h))
+      (eight (reachOf l) lawful (call c) (stateOf l) (refused-later l (c .gave) e)))
     where
-      both : (t : State) → Large (reachOf (lent c)) t → let k = length (c .friction) in Over (tableOf k t) k
-      both t h = (none-below-table bed (length (c .friction)) dx t (h .wet), excess-table bed (length (c .friction)) dx t h)
+      both-of : (t : State) → Large (reachOf (lent c)) t → let k = length (c .given .friction) in Over (tableOf k t) k
+      both-of t h = let k = length (c .given .friction) in (none-below-table bed k dx t (h .wet), excess-table bed k dx t h)
 
   -- a lake at rest into which no water is brought keeps every number of its table, and nothing crosses its ends
   pub lake-rests : {s t : List ℤ} {a b : ℤ} (k : Calls bed n dx s t a b) → NoInflow k → Lake bed s n
       → (t ≡ s) × (a ≡ pos 0) × (b ≡ pos 0)
   lake-rests (none s) d k = (refl, refl, refl)
-  lake-rests (more s m t old w v a b c q) d k =
-      let o = one bed n dx s w v old m c in let r = reachAt bed n dx in
+  lake-rests (more s m t old x w v a b e c q) d k =
+      let o = one bed n dx s x w v old m e c in let r = reachAt bed n dx in
       let z = accepted-rest r lawful (o .some) (call c) (cellIn n s) (o .unstopped) (record { left = d .0; right = d .1 })
       (at-rest bed s dx n k) in
-      let e : m ≡ s = table-is n m (cellIn n s) (o .size) (λ i l. o .same i l ∙ z .0 i l) ∙ table-cells n s (o .now) in
-      let rest = lake-rests q (d .2) (subst (λ (x : List ℤ). Lake bed x n) (sym e) k) in
-      (rest .0 ∙ e, ap₂ _+ℤ_ (o .left ∙ z .1) (rest .1), ap₂ _+ℤ_ (o .right ∙ z .2) (rest .2))
+      let same : m ≡ s = table-is n m (cellIn n s) (o .size) (λ i l. o .same i l ∙ z .0 i l) ∙ table-cells n s (o .now) in
+      let rest = lake-rests q (d .2) (subst (λ (y : List ℤ). Lake bed y n) (sym same) k) in
+      (rest .0 ∙ same, ap₂ _+ℤ_ (o .left ∙ z .1) (rest .1), ap₂ _+ℤ_ (o .right ∙ z .2) (rest .2))
 
 -- ---- E9: the same reach, surveyed from the other end
 -- a call turned round has its cells, bed and friction from the last to the first, its level slopes and discharge means with their signs
@@ -341,21 +406,23 @@ turned-lendable l fit words ok = let size = fitted (length (l .now)) (l .room) (
     turned-fits (cellsOf l) (l .now) size words ok
 
 -- as it is of every call that is accepted
-pub accepted-turnable : (l : Lent) (w v : ℤ) (old new : List ℤ) → Gives (stepOf l) (Accepted w v) old new → NoneLeast (l .now) (cellsOf l)
-accepted-turnable l w v old new g = accepted-none-least l (taken l w v old new g .number)
+pub accepted-turnable : (l : Lent) (a : Answer) (old new : List ℤ) → Gives (stepOf l) a old new → code a ≡ 0
+    → NoneLeast (l .now) (cellsOf l)
+accepted-turnable l a old new g e = accepted-none-least l (sym (coded l g) ∙ e)
 
--- it is refused with the same number, at the place that is the lowest from there;
-pub turned-refused : (l : Lent) → misfits l ≡ false → (k p : ℕ) (old new : List ℤ) → Gives (stepOf l) (Refused k p) old new
-    → (a : Answer) (old′ new′ : List ℤ) → Gives (stepOf (turnedCall l)) a old′ new′ → a ≡ Refused k (place (turnedCall l))
-turned-refused l fit k p old new g a old′ new′ g′ =
-    refuses-with (turnedCall l) k a old′ new′ (number-turned l fit ∙ refused-number l k p old new g) (refused-some l k p old new g) g′
+-- it gives the same number, and when it is refused its place is the lowest from there;
+pub turned-number : (l : Lent) → misfits l ≡ false → (a b : Answer) (old new old′ new′ : List ℤ) → Gives (stepOf l) a old new
+    → Gives (stepOf (turnedCall l)) b old′ new′ → (code b ≡ code a) × (0 < code a → placed b ≡ place (turnedCall l))
+turned-number l fit a b old new old′ new′ g h =
+    let same = coded (turnedCall l) h ∙ number-turned l fit ∙ sym (coded l g) in
+    (same, λ some. refused-place (turnedCall l) h (subst (λ (k : ℕ). 0 < k) (sym same) some))
 
--- or it is accepted with the turned table, and the volumes exchanged with their signs changed;
-pub turned-accepted : (l : Lent) (w v : ℤ) (old new : List ℤ) → Gives (stepOf l) (Accepted w v) old new
-    → (a : Answer) (old′ new′ : List ℤ) → Gives (stepOf (turnedCall l)) a old′ new′
-    → (a ≡ Accepted (negℤ v) (negℤ w)) × (new′ ≡ turnedTable (cellsOf l) new)
-turned-accepted l w v old new g a old′ new′ g′ =
-    let there = other-gives l w v old new g old′ in (one-answer g′ there, one-table g′ there)
+-- and when it is accepted its table is the turned one, and its volumes are exchanged with their signs changed;
+pub turned-accepted : (l : Lent) (a b : Answer) (w v : ℤ) (old new old′ new′ : List ℤ) → volumes a ≡ both w v → Gives (stepOf l) a old new
+    → Gives (stepOf (turnedCall l)) b old′ new′ → (volumes b ≡ both (negℤ v) (negℤ w)) × (new′ ≡ turnedTable (cellsOf l) new)
+unfolding volumes
+turned-accepted l a b w v old new old′ new′ e g h =
+    let there = other-gives l a w v old new e g old′ in (ap volumes (one-answer h there), one-table h there)
 
 -- and so it is over any number of accepted calls, each turned round
 pub turned-calls : {bed : List ℤ} {n dx : ℕ} {s t : List ℤ} {a b : ℤ} (k : Calls bed n dx s t a b) → FromOtherEnd k

@@ -1,28 +1,59 @@
--- What a caller sees: the depths and the water of the lent tables, and calls one after another.
+-- To be believed. What a caller sees: the depths and the water of the lent tables, and calls one after another.
 use mathlib.Core.Path.{_≡_}
-use mathlib.Core.List.{List, reverse}
+use mathlib.Core.Bool.{true, false}
+use mathlib.Core.List.{List, _∷_, _++_, reverse}
 use mathlib.Core.Logic.{_⊎_}
 use Prim.Native.Nat.{ℕ, zero, suc, _*_, _≤_, _<_}
 use lib.ListN.{length, getD}
 use lib.IntN.{ℤ, pos, negsuc, negℤ, _+ℤ_, _-ℤ_, _*ℤ_}
 use lib.Signed.{quotZ, _≤ℤ_, _<ℤ_}
 use Rattle.whole.specs.Choice.{sizeZ}
+use Rattle.tables.specs.Some.{IsLowest}
 use Rattle.tables.specs.Columns.{inColumn}
 use Rattle.tables.specs.Cells.{tableOf}
 use Rattle.rules.specs.Limits.{deepest, fullest, largestInflow}
 use Rattle.rules.specs.Ends.{End, inflowKind}
 use Rattle.rules.specs.Step.{rubbed, stageOne}
-use Rattle.rules.specs.Lent.{Lent, cellsOf, reachOf, callOf, stateOf, stepOf}
+use Rattle.rules.specs.Refusals.{Check, each, ofCall, applies, off, stageChecks, early, checks}
+use Rattle.rules.specs.Lent.{Lent, cellsOf, reachOf, callOf, stateOf, misfits, stepOf}
 use Rattle.before.specs.E6 as before-E6
 use Rattle.before.specs.E7 as before-E7
 use Rattle.survey.specs.Turned.{turnedTable, turnedCall}
-use Rattle.step.specs.Gives.{lend, Gives}
+use Rattle.step.specs.Gives.{lend, volumes, both, Gives}
 use Rattle.step.specs.declared.Answer.{Answer}
-use Rattle.step.specs.declared.Answer.the-variants.{Accepted}
+use Rattle.editor.specs.Told.{StepTold}
 
 -- entry j of a table
 abbrev pub at : List ℤ → ℕ → ℤ
 at t j = getD t j (pos 0)
+
+-- ---- the checks of a call
+-- all of them, in their order
+unfoldable pub allChecks : Lent → List Check
+allChecks l = ofCall 1 (misfits l) ∷ checks (reachOf l) (callOf l) (stateOf l)
+
+-- those that it has passed when its stage one is finished, and when its end state is: that stage, or the end, is reached where none of them
+-- is met
+unfoldable pub toStageOne : Lent → List Check
+toStageOne l = ofCall 1 (misfits l) ∷ early (reachOf l) (callOf l) (stateOf l)
+
+unfoldable pub toEnd : Lent → List Check
+toEnd l = let r = reachOf l in let c = callOf l in let one = stageOne r c (stateOf l) in
+    toStageOne l ++ each 8 (cellsOf l) (off r one) ∷ stageChecks r c one
+
+-- check 5: the present state is not in range
+abbrev pub checkFive : Lent → Check
+checkFive l = each 5 (cellsOf l) (off (reachOf l) (stateOf l))
+
+-- a check with the number k applies, and none before it
+pub data FirstMet (k : ℕ) : List Check → Type 0 where
+  here : (x : Check) (xs : List Check) → applies x ≡ true → x .no ≡ k → FirstMet k (x ∷ xs)
+  later : (x : Check) (xs : List Check) → applies x ≡ false → FirstMet k xs → FirstMet k (x ∷ xs)
+
+-- and with its place: it applies there, and at no lower one
+pub data FirstMetAt (k p : ℕ) : List Check → Type 0 where
+  here-at : (x : Check) (xs : List Check) → IsLowest (x .at) (x .many) p → x .no ≡ k → FirstMetAt k p (x ∷ xs)
+  later-at : (x : Check) (xs : List Check) → applies x ≡ false → FirstMetAt k p xs → FirstMetAt k p (x ∷ xs)
 
 -- ---- cell i of a state of n cells: its table has a column each of level means, level slopes, discharge means and discharge slopes
 abbrev pub level : List ℤ → ℕ → ℕ → ℤ
@@ -99,6 +130,10 @@ pub record Listed (e : End) : Type 0 where
   pub q : e .q ≤ largestInflow
   pub other : (e .kind ≡ inflowKind → ⊥) → e .q ≡ 0
 
+-- the most that passes an end of another kind in a step, either way: half of the greatest depth
+abbrev pub mostPassed : ℤ
+mostPassed = pos 131072
+
 -- what an inflow brings in over a step: Q·dt/dx, cut toward nought
 unfoldable pub brought : Lent → End → ℤ
 brought l e = quotZ (pos (e .q) *ℤ pos (l .dt)) (pos (l .dx))
@@ -113,9 +148,8 @@ pub record Lake (bed t : List ℤ) (n : ℕ) : Type 0 where
   pub meet : (i : ℕ) → suc i < n → (level t n i +ℤ levelSlope t n i) ≡ (level t n (suc i) -ℤ levelSlope t n (suc i))
 
 -- ---- calls
--- one call on a bed with n cells of length dx: what was lent and given besides, its own dry depth and ends too, and that the answer and the
--- table are the contract's
-pub record Called (bed : List ℤ) (n dx : ℕ) (now : List ℤ) (a : Answer) (old new : List ℤ) : Type 0 where
+-- what a call on a bed with n cells is given besides: friction, a time step, a jump, a dry depth and ends of its own
+pub record Besides (n : ℕ) : Type 0 where
   pub friction : List ℕ
   pub cells : length friction ≡ n
   pub dt : ℕ
@@ -123,24 +157,48 @@ pub record Called (bed : List ℤ) (n dx : ℕ) (now : List ℤ) (a : Answer) (o
   pub dry : ℕ
   pub left : End
   pub right : End
-  pub gave : Gives (stepOf (lend now (length old) bed friction dx dt jump dry left right)) a old new
+
+-- and all that is lent to it, with cells of length dx and a table of `room` numbers to write
+abbrev pub lending : {n : ℕ} → List ℤ → ℕ → List ℤ → ℕ → Besides n → Lent
+lending bed dx now room g = lend now room bed (g .friction) dx (g .dt) (g .jump) (g .dry) (g .left) (g .right)
+
+-- one call: the answer and the table are the contract's
+pub record Called (bed : List ℤ) (n dx : ℕ) (now : List ℤ) (a : Answer) (old new : List ℤ) : Type 0 where
+  pub given : Besides n
+  pub gave : Gives (stepOf (lending bed dx now (length old) given)) a old new
 
 -- what was lent to it
 module _ {bed : List ℤ} {n dx : ℕ} {s : List ℤ} {a : Answer} {old m : List ℤ} (c : Called bed n dx s a old m) where
   abbrev pub lent : Lent
-  lent = lend s (length old) bed (c .friction) dx (c .dt) (c .jump) (c .dry) (c .left) (c .right)
+  lent = lending bed dx s (length old) (c .given)
 
--- any number of accepted calls, each lent what the one before wrote, and with a friction, a time step, a jump, a dry depth and ends of its
--- own; a and b: the sums of W at face 0 and at face n
+-- any number of accepted calls, each lent what the one before wrote; w and v are the volumes of an accepted one, a and b the sums of W at
+-- face 0 and at face n
 pub data Calls (bed : List ℤ) (n dx : ℕ) : List ℤ → List ℤ → ℤ → ℤ → Type 0 where
   none : (t : List ℤ) → Calls bed n dx t t (pos 0) (pos 0)
-  more : (s m t old : List ℤ) (w v a b : ℤ) → Called bed n dx s (Accepted w v) old m → Calls bed n dx m t a b
+  more : (s m t old : List ℤ) (x : Answer) (w v a b : ℤ) → volumes x ≡ both w v → Called bed n dx s x old m → Calls bed n dx m t a b
       → Calls bed n dx s t (w +ℤ a) (v +ℤ b)
 
 -- none of them brings water in: Q is nought at both ends of each
 abbrev pub NoInflow : {bed : List ℤ} {n dx : ℕ} {s t : List ℤ} {a b : ℤ} → Calls bed n dx s t a b → Type 0
 NoInflow (none t) = Unit {0}
-NoInflow (more s m t old w v a b c k) = (c .left .q ≡ 0) × (c .right .q ≡ 0) × NoInflow k
+NoInflow (more s m t old x w v a b e c k) = (c .given .left .q ≡ 0) × (c .given .right .q ≡ 0) × NoInflow k
+
+-- ---- calls from C
+-- one call of `bassoonsun_step`: r is the number that it gives; vs and ps are the two volumes and the place before it, vs′ and ps′ after it
+pub record CalledFromC (bed : List ℤ) (n dx : ℕ) (now : List ℤ) (r : ℕ) (old new vs vs′ : List ℤ) (ps ps′ : List ℕ) : Type 0 where
+  pub given : Besides n
+  pub told : StepTold (stepOf (lending bed dx now (length old) given)) r old new vs vs′ ps ps′
+
+-- any number of them that gave 0, each lent what the one before wrote; a and b are the sums of what they left in the two volumes
+pub data CallsFromC (bed : List ℤ) (n dx : ℕ) : List ℤ → List ℤ → ℤ → ℤ → Type 0 where
+  none-c : (t : List ℤ) → CallsFromC bed n dx t t (pos 0) (pos 0)
+  more-c : (s m t old vs vs′ : List ℤ) (ps ps′ : List ℕ) (a b : ℤ) → length vs ≡ 2 → CalledFromC bed n dx s 0 old m vs vs′ ps ps′
+      → CallsFromC bed n dx m t a b → CallsFromC bed n dx s t (at vs′ 0 +ℤ a) (at vs′ 1 +ℤ b)
+
+abbrev pub NoneComesIn : {bed : List ℤ} {n dx : ℕ} {s t : List ℤ} {a b : ℤ} → CallsFromC bed n dx s t a b → Type 0
+NoneComesIn (none-c t) = Unit {0}
+NoneComesIn (more-c s m t old vs vs′ ps ps′ a b l c k) = (c .given .left .q ≡ 0) × (c .given .right .q ≡ 0) × NoneComesIn k
 
 -- ---- the other end
 -- every number of a table is an i32; and no level slope or discharge mean is the least of these, the only one whose opposite is none
@@ -157,9 +215,10 @@ NoneLeast t n = (i : ℕ) → i < n → (levelSlope t n i ≡ leastI32 → ⊥) 
 abbrev pub EachTurned : {bed bed′ : List ℤ} {n dx : ℕ} {s t s′ t′ : List ℤ} {a b a′ b′ : ℤ}
     → Calls bed n dx s t a b → Calls bed′ n dx s′ t′ a′ b′ → Type 0
 EachTurned (none t) (none t′) = Unit {0}
-EachTurned (none t) (more s′ m′ t′ old′ w′ v′ a′ b′ c′ k′) = ⊥
-EachTurned (more s m t old w v a b c k) (none t′) = ⊥
-EachTurned (more s m t old w v a b c k) (more s′ m′ t′ old′ w′ v′ a′ b′ c′ k′) = (lent c′ ≡ turnedCall (lent c)) × EachTurned k k′
+EachTurned (none t) (more s′ m′ t′ old′ x′ w′ v′ a′ b′ e′ c′ k′) = ⊥
+EachTurned (more s m t old x w v a b e c k) (none t′) = ⊥
+EachTurned (more s m t old x w v a b e c k) (more s′ m′ t′ old′ x′ w′ v′ a′ b′ e′ c′ k′) =
+    (lent c′ ≡ turnedCall (lent c)) × EachTurned k k′
 
 -- those calls are accepted too: they lead from the turned table to the turned table, and what crosses either end is what crossed the other,
 -- with its sign changed

@@ -1,4 +1,4 @@
--- What the code is told, as the rules' records.
+-- To be believed. What the code is told, as the rules' records.
 use mathlib.Core.List.{List}
 use Prim.Native.Nat.{ℕ, suc}
 use lib.ListN.{getD}

@@ -1,4 +1,5 @@
--- The two ends of a reach, and what crosses each: beside a wall or an open end as between two sides; at an inflow what is given.
+-- To be believed. The two ends of a reach, and what crosses each: beside a wall or an open end as between two sides; at an inflow what is
+-- given.
 -- Q and uQ are the letters of E4, F, K, A and S those of the scope document.
 use mathlib.Core.Bool.{Bool, cond}
 use Prim.Native.Nat.{ℕ}

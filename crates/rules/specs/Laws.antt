@@ -26,3 +26,4 @@ pub mod Limiter
 pub mod DryDepth
 pub mod Runs
 pub mod EndVolumes
+pub mod StillChecks

@@ -11,6 +11,7 @@ pub mod Friction
 pub mod Step
 pub mod Refusals
 pub mod Lent
+pub mod Found
 pub mod AtRest
 pub mod Numbers
 pub mod Laws

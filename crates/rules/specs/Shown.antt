@@ -1,4 +1,5 @@
--- A row of cells as its faces see it: the sides that the cells show, the rule between two of them, and what crosses the two ends.
+-- To be believed. A row of cells as its faces see it: the sides that the cells show, the rule between two of them, and what crosses the
+-- two ends.
 -- Nothing here knows what a cell holds or how it comes to show a side. The letter V is the scope document's.
 use mathlib.Core.Bool.{cond}
 use Prim.Native.Nat.{ℕ, zero, suc}

@@ -1,4 +1,4 @@
--- One stage: its faces and what they carry, and each cell after it. The letters E, D, g1 and g2 are the scope document's.
+-- To be believed. One stage: its faces and what they carry, and each cell after it. The letters E, D, g1 and g2 are the scope document's.
 use Prim.Native.Nat.{ℕ}
 use lib.IntN.{ℤ, pos, _+ℤ_, _-ℤ_, _*ℤ_}
 use lib.Signed.{quotZ}

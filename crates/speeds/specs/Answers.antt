@@ -1,3 +1,4 @@
+-- To be believed: `valueOf`.
 -- What each case of an answer says, in the scope document's values; no two answers say the same.
 use mathlib.Core.Path.{_≡_, refl, sym, _∙_, ap}
 use Prim.Native.Nat.{ℕ}

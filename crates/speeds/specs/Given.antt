@@ -1,4 +1,4 @@
--- What the public functions give: the rule's number within the limits, and beyond them a refusal, with no number.
+-- To be believed. What the public functions give: the rule's number within the limits, and beyond them a refusal, with no number.
 use mathlib.Core.Bool.{Bool, not, cond, _&&_}
 use lib.IntN.{ℤ, pos}
 use Rattle.rules.specs.Limits.{deepest, fullest}

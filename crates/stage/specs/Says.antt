@@ -13,7 +13,7 @@ use Rattle.rules.specs.Stage.{faceAt, stage}
 use Rattle.rules.specs.Finishing.{finish}
 use Rattle.rules.specs.Step.{rubbed, stageOne, next}
 use Rattle.rules.specs.Refusals.{badBed, badRough, offCell, off, fastCell, fastFace, Check, each, stageChecks}
-use Rattle.rules.specs.Laws.Verdicts.{Found, at, found}
+use Rattle.rules.specs.Found.{Found, at, found}
 use Rattle.rules.specs.Laws.Agree.{Same}
 use Rattle.reach.specs.declared.Reach.{Reach as ToldReach}
 use Rattle.reach.specs.declared.Call.{Call as ToldCall}

@@ -1,4 +1,4 @@
--- What the public function says, by the cases of its answer.
+-- To be believed. What the public function says, by the cases of its answer.
 use mathlib.Core.Path.{_≡_}
 use mathlib.Core.List.{List, _++_}
 use Prim.Native.Nat.{ℕ, _<_}
@@ -8,8 +8,7 @@ use Rattle.tables.specs.Cells.{cellIn, tableOf}
 use Rattle.rules.specs.Reach.{Reach, Call, State}
 use Rattle.rules.specs.Step.{carry, next}
 use Rattle.rules.specs.Lent.{Lent, reachOf, callOf, stateOf}
-use Rattle.rules.specs.Laws.Verdicts.{Found, at, found}
-use Rattle.rules.specs.Laws.Lengths.{foundOf}
+use Rattle.rules.specs.Found.{Found, at, found, foundOf}
 use Rattle.reach.specs.declared.Reach.{Reach as ToldReach}
 use Rattle.reach.specs.declared.Call.{Call as ToldCall}
 use Rattle.reach.specs.declared.Given.{Given}

@@ -26,7 +26,7 @@ ghost use mathlib.Core.Path.{_≡_};
 ghost use Prim.Native.Nat.{_+_, _*_};
 ghost use lib.ListN.{length};
 ghost use Rattle.tables.specs.Cells.{seen};
-ghost use Rattle.rules.specs.Laws.Verdicts.{found};
+ghost use Rattle.rules.specs.Found.{found};
 ghost use Rattle.reach.specs.Ranges.{DryDepth, Wides};
 ghost use Rattle.stage.specs.Ranges.{InOrder, Room, FaceRoom, Ranged, FaceRows};
 ghost use Rattle.stage.specs.Says.{foundIn, readyChecks, OneSays, TwoSays, BothSay};

@@ -9,7 +9,7 @@ use borrow.Author.Tests.{eq-eqb, ne-eqb}
 use lib.Dec.{eqb}
 use lib.IntN.{ℤ}
 use Rattle.rules.specs.Lent.{Lent, number, filled, crossed, stepOf}
-use Rattle.rules.specs.Laws.Verdicts.{Found}
+use Rattle.rules.specs.Found.{Found}
 use Rattle.stage.specs.Worked.{Volume, WorkedSays}
 use Rattle.stage.specs.declared.worked.Worked.{Worked}
 use Rattle.stage.specs.declared.worked.Worked.the-variants as worked

@@ -1,8 +1,9 @@
+-- To be believed: all but the two laws at the end.
 -- What the call says: one answer, and one content of the lent table.
 use mathlib.Core.Path.{_≡_, sym, _∙_}
 use mathlib.Core.List.{List}
 use Prim.Native.Nat.{ℕ}
-use lib.IntN.{ℤ, pos}
+use lib.IntN.{ℤ}
 use Rattle.rules.specs.Ends.{End}
 use Rattle.rules.specs.Lent.{Lent, Outcome, refused, accepted}
 use Rattle.step.specs.declared.Answer.{Answer}
@@ -26,8 +27,8 @@ lend state room bed friction dx dt jump dry left right = record {
   right = right;
 }
 
--- the scope document's number and values of each answer: the refusal's number and its place, both 0 for an accepted step; and W at face 0
--- and at face n
+-- ---- the scope document's number and values of each answer
+-- the number of a refusal and its place, both 0 for an accepted step;
 unfoldable pub code : Answer → ℕ
 code (Refused k p) = k
 code (Accepted w v) = 0
@@ -36,14 +37,16 @@ unfoldable pub placed : Answer → ℕ
 placed (Refused k p) = p
 placed (Accepted w v) = 0
 
-unfoldable pub atLeft : Answer → ℤ
-atLeft (Refused k p) = pos 0
-atLeft (Accepted w v) = w
+-- and W at face 0 and at face n, which an accepted step has and a refusal has not
+pub data Volumes : Type 0 where
+  absent : Volumes
+  both : ℤ → ℤ → Volumes
 
-unfoldable pub atRight : Answer → ℤ
-atRight (Refused k p) = pos 0
-atRight (Accepted w v) = v
+unfoldable pub volumes : Answer → Volumes
+volumes (Refused k p) = absent
+volumes (Accepted w v) = both w v
 
+-- ---- what a call gives
 -- the answer of an outcome,
 unfoldable pub answer : Outcome → Answer
 answer (refused k p) = Refused k p

@@ -1,4 +1,4 @@
--- A reach and a call on it, turned round: what another office would lend that surveyed the reach from its other end.
+-- To be believed. A reach and a call on it, turned round: what another office would lend that surveyed the reach from its other end.
 use mathlib.Core.List.{List, reverse}
 use Prim.Native.Nat.{ℕ, suc, _-_}
 use lib.IntN.{ℤ, negℤ}

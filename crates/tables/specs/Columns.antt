@@ -1,3 +1,4 @@
+-- To be believed: `columns`, `column` and `inColumn`.
 -- A lent table in columns of n numbers, one after another: what it shows, and what a loop has stored of it.
 -- Assumes nothing.
 use mathlib.Core.Path.{_≡_, refl, sym, ap, _∙_, subst}

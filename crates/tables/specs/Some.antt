@@ -1,3 +1,4 @@
+-- To be believed: `some`, `lowest` and `IsLowest`.
 -- Tests of every place below n: whether some place has a property, and the lowest that has.
 -- Assumes nothing.
 use mathlib.Core.Path.{_≡_, refl, sym, _∙_, ap₂}

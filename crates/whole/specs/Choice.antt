@@ -1,3 +1,4 @@
+-- To be believed: `minZ`, `maxZ` and `sizeZ`.
 -- The lesser and the greater of two whole numbers, and the size of one; how they turn when signs do.
 -- Assumes nothing.
 use mathlib.Core.Path.{_≡_, refl, ap}

@@ -12,9 +12,8 @@ use Rattle.rules.specs.Reach as reach
 use Rattle.rules.specs.Reach.{Reach, Call, Bed, under, ql, qr, hl, hr}
 use Rattle.rules.specs.Stage as rules
 use Rattle.rules.specs.Step.{rubbed}
-use Rattle.rules.specs.Refusals.{badCall}
+use Rattle.rules.specs.Refusals.{badCall, Clear}
 use Rattle.rules.specs.Lent.{Lent, cellsOf, reachOf, callOf}
-use Rattle.rules.specs.Laws.Accept.{Clear}
 use Rattle.rules.specs.Laws.Positive.{Nonneg, rubbed-wet}
 use Rattle.before.specs.E7 as E7
 use Rattle.before.specs.E7.{stateOf}

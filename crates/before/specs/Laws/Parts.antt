@@ -22,11 +22,11 @@ use Rattle.rules.specs.Reach.{Reach, Call, State, Bed, under, sideL, sideR}
 use Rattle.rules.specs.Stage.{atLeft, atRight, faceAt, update, stage}
 use Rattle.rules.specs.Step.{rubbed, stageOne, half, carry, joinedCell, joined, next}
 use Rattle.rules.specs.Refusals.{badCall, badBed, badRough, off, fastFriction, fastSide, fastInflow, fastFace}
-use Rattle.rules.specs.Refusals.{tooLong, Check, each, ofCall, verdict, stageChecks, early, checks, refusal}
+use Rattle.rules.specs.Refusals.{tooLong, Check, each, ofCall, verdict, stageChecks, early, checks, refusal, Clear}
 use Rattle.rules.specs.Lent.{Lent, cellsOf, reachOf, callOf, misfits}
 use Rattle.rules.specs.Laws.Shown.{last, at-same}
 use Rattle.rules.specs.Laws.Agree.{Same, faceAt-same, stage-same, finish-same, off-same, stageChecks-same}
-use Rattle.rules.specs.Laws.Accept.{Clear, passed}
+use Rattle.rules.specs.Laws.Accept.{passed}
 use Rattle.rules.specs.Laws.Verdicts.{clear-at, of-call, verdict-after}
 use Rattle.rules.specs.Laws.Alike.{Alike, end, also, alike-after, alike-self, alike-alike, same-number}
 use Rattle.rules.specs.Laws.Lengths.{fitted}

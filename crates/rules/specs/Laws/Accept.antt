@@ -7,7 +7,7 @@ use mathlib.Core.Logic.{_⊎_, inl, inr}
 use Prim.Native.Nat.{ℕ, zero, suc}
 use lib.Dec.{T, eqb, eqb-refl}
 use Rattle.whole.specs.Flags.{holds, or-l, or-r, clash}
-use Rattle.rules.specs.Refusals.{any, Check, applies, verdict}
+use Rattle.rules.specs.Refusals.{any, Check, applies, verdict, Clear}
 
 -- none of a list holds
 abbrev pub None : List Bool → Type 0
@@ -44,11 +44,6 @@ any-one (b ∷ bs) e = go b refl e (any-one bs)
     go : (a : Bool) → b ≡ a → (a || any bs) ≡ true → (any bs ≡ true → One bs) → (b ≡ true) ⊎ One bs
     go true d e f = inl d
     go false d e f = inr (f e)
-
--- no check of a list applies
-abbrev pub Clear : List Check → Type 0
-Clear [] = Unit {0}
-Clear (x ∷ xs) = (applies x ≡ false) × Clear xs
 
 -- none of them has the number k
 abbrev pub other : ℕ → List Check → Bool

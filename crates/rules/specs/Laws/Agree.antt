@@ -126,7 +126,7 @@ module _ (r : Reach) (c : Call) (s t : State) (e : Same r s t) where
         (fastInflow (c .dry) (c .right) (atRight r c t i)) (fastSide (atLeft r c t (suc i)))
         (ap (fastInflow (c .dry) (c .right)) q) (λ k. ap fastSide (atLeft-same r c s t e (suc i) k)))
 
-    tooLong-same : (i : ℕ) → i < suc (r .n) → tooLong r c s i ≡ tooLong r c t i
+    pub tooLong-same : (i : ℕ) → i < suc (r .n) → tooLong r c s i ≡ tooLong r c t i
     unfolding tooLong
     tooLong-same i l = ap (λ (f : Flux). ltZ (pos 4096 *ℤ r .dx) (pos 2 *ℤ c .dt *ℤ f .S)) (faceAt-same r c s t e o i l)
 

@@ -6,7 +6,7 @@ use mathlib.Core.List.{List, [], _∷_, _++_}
 use Prim.Native.Nat.{ℕ, _<_}
 use Rattle.tables.specs.Some.{some-same, lowest-same}
 use Rattle.rules.specs.Refusals.{Check, each, verdict, spot}
-use Rattle.rules.specs.Laws.Verdicts.{Found, at, found}
+use Rattle.rules.specs.Found.{Found, at, found}
 
 pub data Alike : List Check → List Check → Type 0 where
   end : Alike [] []

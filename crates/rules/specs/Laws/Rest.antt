@@ -103,12 +103,12 @@ module _ (r : Reach) (ev : EvenBed r) (s : State) (a : AtRest r s) where
   meet i l = hr-is r ev i (omega arith) (s i) ∙ ap (λ (z : ℤ). z -ℤ r .bed (suc i)) (a .level i l) ∙ sym (hl-is r ev (suc i) l (s (suc i)))
 
   module _ (law : Lawful (r .face)) (c : Call) (shut : NoInflow c) where
-    sideL-rest : (i : ℕ) → i < r .n → atLeft r c s i ≡ resting (hl (under r i) (s i))
+    pub sideL-rest : (i : ℕ) → i < r .n → atLeft r c s i ≡ resting (hl (under r i) (s i))
     unfolding sideL
     sideL-rest i l = side-calm (c .dry) (ql (s i)) (hl (under r i) (s i))
         (eq! (at (s i .q0) ⊟ at (s i .q1)) (lit 0) (omega (arith, of-eq (a .calm i l .q0), of-eq (a .calm i l .q1))))
 
-    sideR-rest : (i : ℕ) → i < r .n → atRight r c s i ≡ resting (hr (under r i) (s i))
+    pub sideR-rest : (i : ℕ) → i < r .n → atRight r c s i ≡ resting (hr (under r i) (s i))
     unfolding sideR
     sideR-rest i l = side-calm (c .dry) (qr (s i)) (hr (under r i) (s i))
         (eq! (at (s i .q0) ⊞ at (s i .q1)) (lit 0) (omega (arith, of-eq (a .calm i l .q0), of-eq (a .calm i l .q1))))
@@ -247,18 +247,18 @@ module _ (r : Reach) (ev : EvenBed r) (s : State) (a : AtRest r s) where
 -- ---- the step
 module _ (r : Reach) (law : Lawful (r .face)) (ev : EvenBed r) (n>0 : 0 < r .n) (c : Call) (shut : NoInflow c) (j : pos 0 ≤ℤ c .jump)
     (s : State) (a : AtRest r s) where
-  rubbed-at : AtRest r (rubbed r c s)
+  pub rubbed-at : AtRest r (rubbed r c s)
   rubbed-at = rest-same r s (rubbed r c s) (rubbed-rest r ev s a law c shut) a
 
   staged : Same r (stage r c (rubbed r c s)) s
   staged i l = stage-rest r ev (rubbed r c s) rubbed-at law c shut i l ∙ rubbed-rest r ev s a law c shut i l
 
-  stageOne-rest : Same r (stageOne r c s) s
+  pub stageOne-rest : Same r (stageOne r c s) s
   unfolding stageOne
   stageOne-rest i l = finish-rest r ev (stage r c (rubbed r c s)) (rest-same r s (stage r c (rubbed r c s)) staged a) law c shut j i l
       ∙ staged i l
 
-  stageOne-at : AtRest r (stageOne r c s)
+  pub stageOne-at : AtRest r (stageOne r c s)
   stageOne-at = rest-same r s (stageOne r c s) stageOne-rest a
 
   -- nothing crosses any face

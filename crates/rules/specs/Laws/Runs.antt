@@ -24,12 +24,12 @@ use Rattle.rules.specs.Stage.{faceAt}
 use Rattle.rules.specs.Step.{rubbed, stageOne, carry, next}
 use Rattle.rules.specs.Refusals.{outside, past, callTests, badEnd, badCall, badBed, cellTests, offCell, off}
 use Rattle.rules.specs.Refusals.{fastCell, fastFriction, fastFace, tooLong}
-use Rattle.rules.specs.Refusals.{Check, each, stageChecks, early, checks, verdict, refusal}
+use Rattle.rules.specs.Refusals.{Check, each, stageChecks, early, checks, verdict, refusal, Clear}
 use Rattle.rules.specs.AtRest.{AtRest}
 use Rattle.rules.specs.Laws.Agree.{Same}
-use Rattle.rules.specs.Laws.Inside.{above-least}
-use Rattle.rules.specs.Laws.Accept.{Clear, none-at, One, any-one, passed}
-use Rattle.rules.specs.Laws.Verdicts.{cleared, clear-at, of-call}
+use Rattle.rules.specs.Laws.Inside.{above-least, below-most}
+use Rattle.rules.specs.Laws.Accept.{none-at, One, any-one, passed}
+use Rattle.rules.specs.Laws.Verdicts.{cleared, clear-at, of-call, clear-parts}
 use Rattle.rules.specs.Laws.Order as order
 use Rattle.rules.specs.Laws.Positive.{Fine, Nonneg, Wet, mean≥0, Brief, stageOne-wet, next-wet}
 use Rattle.rules.specs.Laws.Balance.{sum-same, water, balanced}
@@ -38,7 +38,7 @@ use Rattle.rules.specs.Laws.EndChecks.{SlowInflows, slow-inflows}
 use Rattle.rules.specs.Laws.Rest.{NoInflow, next-rest, carry-none}
 
 -- ---- what the checks say
-fine : (r : Reach) (c : Call) → badCall r c ≡ false → Fine r c
+pub fine : (r : Reach) (c : Call) → badCall r c ≡ false → Fine r c
 unfolding badCall
 fine r c e =
     let fails = none-at (callTests r c) e in
@@ -48,7 +48,7 @@ fine r c e =
       jump = above-least (pos 0) largestJump (c .jump) (fails 2);
     }
 
-even-bed : (r : Reach) → some (λ i. badBed (r .bed i)) (suc (r .n)) ≡ false → EvenBed r
+pub even-bed : (r : Reach) → some (λ i. badBed (r .bed i)) (suc (r .n)) ≡ false → EvenBed r
 unfolding badBed
 even-bed r e i l =
     let z = r .bed i in let odd = eqb (natAbs z % 2) 0 in
@@ -61,6 +61,14 @@ in-range r s e i l =
     let b = under r i in let x = s i in
     let fails = none-at (cellTests b x) (some-none (off r s) (r .n) e i l) in
     record { left = above-least (pos 0) deepest (hl b x) (fails 0); right = above-least (pos 0) deepest (hr b x) (fails 1) }
+
+pub in-depth : (r : Reach) (s : State) → some (off r s) (r .n) ≡ false → (i : ℕ) → i < r .n
+    → (hl (under r i) (s i) ≤ℤ deepest) × (hr (under r i) (s i) ≤ℤ deepest)
+unfolding off offCell
+in-depth r s e i l =
+    let b = under r i in let x = s i in
+    let fails = none-at (cellTests b x) (some-none (off r s) (r .n) e i l) in
+    (below-most (pos 0) deepest (hl b x) (fails 0), below-most (pos 0) deepest (hr b x) (fails 1))
 
 brief : (r : Reach) (c : Call) (s : State) → some (tooLong r c s) (suc (r .n)) ≡ false → Brief r c s
 unfolding tooLong
@@ -131,6 +139,14 @@ module _ (r : Reach) (law : Lawful (r .face)) (c : Call) (s : State) where
   pub wet-next : Early r c s → Brief r c (stageOne r c s) → Wet r (next r c s)
   wet-next a b = next-wet r law c (a .fine) s (a .wet) (a .brief) b
 
+  -- which is so of every call that reaches them: none of the checks before them is met
+  pub reached-one : Clear (early r c s) → Wet r (stageOne r c s)
+  reached-one k = wet-stageOne (early-of r c s k)
+
+  pub reached-end : Clear (early r c s ++ each 8 (r .n) (off r (stageOne r c s)) ∷ stageChecks r c (stageOne r c s)) → Wet r (next r c s)
+  reached-end k = let p = clear-parts (early r c s) (each 8 (r .n) (off r (stageOne r c s)) ∷ stageChecks r c (stageOne r c s)) k in
+      wet-next (early-of r c s (p .0)) (stage-brief r c (stageOne r c s) (p .1 .1))
+
   -- the two states whose range is checked by an 8: the finished stage one, and the end state
   pub eight : refusal r c s ≡ 8 → Large r (stageOne r c s) ⊎ Large r (next r c s)
   unfolding refusal checks early stageChecks verdict
@@ -148,6 +164,7 @@ module _ (r : Reach) (law : Lawful (r .face)) (c : Call) (s : State) where
 -- ---- an accepted call
 pub record Accepted (r : Reach) (c : Call) (s : State) : Type 0 where
   pub early : Early r c s
+  pub now : some (off r s) (r .n) ≡ false
   pub brief : Brief r c (stageOne r c s)
   pub one : some (off r (stageOne r c s)) (r .n) ≡ false
   pub end : some (off r (next r c s)) (r .n) ≡ false
@@ -159,6 +176,7 @@ accepted r c s e =
     let clear = clear-at (late r c s) (cleared (late r c s) tt (sym (p .1))) in
     record {
       early = early-of r c s (p .0);
+      now = clear-at (early r c s) (p .0) order.state;
       brief = brief r c (stageOne r c s) (clear order.faces-two);
       one = clear order.stage-one;
       end = clear order.end;

@@ -5,26 +5,13 @@ use mathlib.Core.Path.{_≡_, refl, sym, _∙_, ap, subst}
 use mathlib.Core.Bool.{Bool, true, false, cond}
 use mathlib.Core.List.{List, [], _∷_, _++_}
 use Prim.Native.Nat.{ℕ, zero, suc, _≤_, _<_}
-use lib.Dec.{T, eqb, eqb-refl}
-use Rattle.whole.specs.Flags.{holds, clash, by}
+use native.Mathlib.Omega.{arith}
+use lib.Dec.{T, eqb, eqb-refl, leb, leb→le}
+use Rattle.whole.specs.Flags.{holds, held, clash, by}
 use Rattle.tables.specs.Some.{some, lowest-below, lowest-past}
-use Rattle.rules.specs.Refusals.{Check, ofCall, applies, lowestOf, verdict, spot}
-use Rattle.rules.specs.Laws.Accept.{Clear, other}
-
--- a number and a place
-pub record Found : Type 0 where
-  pub no : ℕ
-  pub place : ℕ
-
-abbrev pub at : ℕ → ℕ → Found
-at k p = record { no = k; place = p }
-
--- those of a list; and where none of it applies
-abbrev pub found : List Check → Found
-found xs = at (verdict xs) (spot xs)
-
-abbrev pub none : Found
-none = at 0 0
+use Rattle.rules.specs.Refusals.{Check, ofCall, applies, lowestOf, verdict, spot, Clear}
+use Rattle.rules.specs.Found.{Found, at, found, none}
+use Rattle.rules.specs.Laws.Accept.{other}
 
 pub stopped : (xs ys : List Check) (k : Found) → k ≡ found xs → (k .no ≡ 0 → ⊥) → k ≡ found (xs ++ ys)
 unfolding verdict spot
@@ -112,3 +99,22 @@ pub none-stops : (xs : List Check) → Clear xs → none ≡ found xs
 unfolding verdict spot
 none-stops [] c = refl
 none-stops (x ∷ xs) c = rw (c .0) (none-stops xs (c .1))
+
+-- two lists in a row
+pub clear-parts : (xs ys : List Check) → Clear (xs ++ ys) → (Clear xs) × (Clear ys)
+clear-parts [] ys c = (tt, c)
+clear-parts (x ∷ xs) ys c = let rest = clear-parts xs ys (c .1) in ((c .0, rest .0), rest .1)
+
+-- none of a list has a number over m, so a verdict over m is that of what comes after it
+abbrev pub upTo : ℕ → List Check → Bool
+upTo m [] = true
+upTo m (x ∷ xs) = cond (leb (x .no) m) (upTo m xs) false
+
+pub went-past : (m : ℕ) (xs ys : List Check) → T (upTo m xs) → m < verdict (xs ++ ys) → (Clear xs) × (verdict (xs ++ ys) ≡ verdict ys)
+unfolding verdict
+went-past m [] ys t l = (tt, refl)
+went-past m (x ∷ xs) ys t l = by (leb (x .no) m)
+    (λ low. by (applies x)
+    (λ b. let few = leb→le (x .no) m (held (leb (x .no) m) low) in let over : m < x .no = rw b at l in let z : ⊥ = omega arith in absurd z)
+    (λ b. let rest = went-past m xs ys (rw low at t) (rw b at l) in ((b, rest .0), rw b (rest .1))))
+    (λ high. absurd (rw high at t))

@@ -13,7 +13,7 @@ use Rattle.tables.specs.Some.{lowest-is}
 use Rattle.rules.specs.Reach.{Reach, Call, State}
 use Rattle.rules.specs.Refusals.{Check, applies, verdict, spot, stageChecks, early, checks}
 use Rattle.rules.specs.Lent.{Lent, cellsOf, reachOf, callOf, stateOf, misfits, place}
-use Rattle.rules.specs.Laws.Verdicts.{Found}
+use Rattle.rules.specs.Found.{Found}
 use Rattle.rules.specs.Laws.Lengths.{fitted, first-found, later-found}
 
 -- no check of a list has more than m places and one

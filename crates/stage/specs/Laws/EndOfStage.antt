@@ -10,7 +10,8 @@ use Rattle.tables.specs.Cells.{asCell, seen, Holds}
 use Rattle.rules.specs.Reach.{Reach, Call, State}
 use Rattle.rules.specs.Finishing.{finish}
 use Rattle.rules.specs.Refusals.{offCell, off}
-use Rattle.rules.specs.Laws.Verdicts.{Found, at, none, clear-found, checkAt, clear-at, stops-at, passes, none-stops}
+use Rattle.rules.specs.Found.{Found, at, none}
+use Rattle.rules.specs.Laws.Verdicts.{clear-found, checkAt, clear-at, stops-at, passes, none-stops}
 use Rattle.reach.specs.declared.Reach.{Reach as ToldReach}
 use Rattle.reach.specs.declared.Call.{Call as ToldCall}
 use Rattle.reach.specs.Told.{reachIn, callOn, bedAt}

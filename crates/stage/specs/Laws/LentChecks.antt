@@ -14,9 +14,8 @@ use Rattle.whole.specs.Parts.{Within, b-nonneg, le-trans, nat-nonneg}
 use Rattle.tables.specs.Some.{some, some-none}
 use Rattle.rules.specs.Limits.{highestBed}
 use Rattle.rules.specs.Reach.{State}
-use Rattle.rules.specs.Refusals.{outside, badBed, badRough, offCell, fastCell, applies}
+use Rattle.rules.specs.Refusals.{outside, badBed, badRough, offCell, fastCell, applies, Clear}
 use Rattle.rules.specs.Laws.Inside.{above-least, below-most}
-use Rattle.rules.specs.Laws.Accept.{Clear}
 use Rattle.rules.specs.Laws.Verdicts.{checkAt, clear-at}
 use Rattle.rules.specs.Laws.Alike.{Alike, end, also}
 use Rattle.reach.specs.Told.{bedAt}

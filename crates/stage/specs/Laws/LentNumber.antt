@@ -14,8 +14,8 @@ use Rattle.rules.specs.Limits.{longestCell, longestStep, largestJump}
 use Rattle.rules.specs.Refusals.{callTests, badCall, off, fastFriction, Check, ofCall, verdict, spot, stageChecks, early, checks}
 use Rattle.rules.specs.Laws.Accept.{none-at}
 use Rattle.rules.specs.Laws.Inside.{above-least}
-use Rattle.rules.specs.Laws.Verdicts.{at, found}
-use Rattle.rules.specs.Laws.Lengths.{foundOf, first-found, later-found}
+use Rattle.rules.specs.Found.{at, found, foundOf}
+use Rattle.rules.specs.Laws.Lengths.{first-found, later-found}
 use Rattle.rules.specs.Lent.{Lent, reachOf, callOf, stateOf, misfit}
 use Rattle.reach.specs.declared.Reach.{Reach}
 use Rattle.reach.specs.declared.Call.{Call}

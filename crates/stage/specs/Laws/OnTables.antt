@@ -15,9 +15,9 @@ use Rattle.tables.specs.Cells.{asCell, asList, cellIn, tableOf, table-same, see
 use Rattle.rules.specs.Limits.{leastDry}
 use Rattle.rules.specs.Reach.{Reach, Call, State}
 use Rattle.rules.specs.Step.{rubbedCell, rubbed, next}
-use Rattle.rules.specs.Refusals.{Check, off, stageChecks}
-use Rattle.rules.specs.Laws.Accept.{Clear}
-use Rattle.rules.specs.Laws.Verdicts.{Found, found, stopped, clear-found, clear-at, went-on}
+use Rattle.rules.specs.Refusals.{Check, off, stageChecks, Clear}
+use Rattle.rules.specs.Found.{Found, found}
+use Rattle.rules.specs.Laws.Verdicts.{stopped, clear-found, clear-at, went-on}
 use Rattle.rules.specs.Laws.Alike.{same-found}
 use Rattle.reach.specs.declared.Reach.{Reach as ToldReach}
 use Rattle.reach.specs.declared.Call.{Call as ToldCall}

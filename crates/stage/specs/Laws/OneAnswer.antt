@@ -5,7 +5,7 @@ use mathlib.Core.List.{List}
 use native.Mathlib.Omega.{arith}
 use lib.IntN.{ℤ}
 use Rattle.rules.specs.Reach.{Reach, Call, State}
-use Rattle.rules.specs.Laws.Verdicts.{Found}
+use Rattle.rules.specs.Found.{Found}
 use Rattle.stage.specs.Worked.{Stopped, Went, Says}
 use Rattle.stage.specs.declared.worked.Worked.{Worked}
 use Rattle.stage.specs.declared.worked.Worked.the-variants.{Refused, Done}

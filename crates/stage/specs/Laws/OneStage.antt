@@ -15,7 +15,8 @@ use Rattle.rules.specs.Reach.{State}
 use Rattle.rules.specs.Shown.{crossAt}
 use Rattle.rules.specs.Stage.{faceRight, faceAt, stage}
 use Rattle.rules.specs.Refusals.{fastFace, fastGauss, tooLong, Check, stageChecks}
-use Rattle.rules.specs.Laws.Verdicts.{at, none, found, checkAt, stops-at, passes, none-stops}
+use Rattle.rules.specs.Found.{at, found, none}
+use Rattle.rules.specs.Laws.Verdicts.{checkAt, stops-at, passes, none-stops}
 use Rattle.reach.specs.declared.Reach.{Reach}
 use Rattle.reach.specs.declared.Call.{Call}
 use Rattle.reach.specs.Told.{reachIn, callOn, bedAt}

@@ -12,7 +12,8 @@ use Rattle.rules.specs.Finishing.{finish}
 use Rattle.rules.specs.Step.{rubbed, stageOne, half, carry, joinedCell, joined, next}
 use Rattle.rules.specs.Refusals.{stageChecks}
 use Rattle.rules.specs.Laws.Agree.{Same, faceAt-same, stage-same, finish-same, off-same, stageChecks-same}
-use Rattle.rules.specs.Laws.Verdicts.{Found, found, stopped, went-on}
+use Rattle.rules.specs.Found.{Found, found}
+use Rattle.rules.specs.Laws.Verdicts.{stopped, went-on}
 use Rattle.rules.specs.Laws.Alike as alike
 use Rattle.rules.specs.Laws.Alike.{also, same-found}
 use Rattle.stage.specs.Rows.{faceRow, volumeOf, volumeAt}

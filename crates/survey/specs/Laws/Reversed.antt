@@ -6,8 +6,7 @@ use mathlib.Core.List.{List, [], _∷_, _++_}
 use Prim.Native.Nat.{ℕ, suc, _+_}
 use Rattle.whole.specs.Flags.{by}
 use Rattle.tables.specs.Some.{some, some-reversed}
-use Rattle.rules.specs.Refusals.{Check, each, verdict}
-use Rattle.rules.specs.Laws.Accept.{Clear}
+use Rattle.rules.specs.Refusals.{Check, each, verdict, Clear}
 
 pub data Reversed : List Check → List Check → Type 0 where
   end : Reversed [] []

@@ -11,8 +11,8 @@ use lib.IntN.{ℤ, pos}
 use Rattle.whole.specs.Machine.{back64, rd}
 use Rattle.rules.specs.Lent.{Lent, misfit, stateOf, reachOf, callOf}
 use Rattle.rules.specs.Refusals.{badCall}
-use Rattle.rules.specs.Laws.Verdicts.{found}
-use Rattle.rules.specs.Laws.Lengths.{Fitted, fitted, foundOf}
+use Rattle.rules.specs.Found.{found, foundOf}
+use Rattle.rules.specs.Laws.Lengths.{Fitted, fitted}
 use Rattle.reach.specs.Told.{reachIn, callOn}
 use Rattle.stage.specs.Ranges.{InOrder}
 use Rattle.stage.specs.Says.{readyChecks, bothChecks}
