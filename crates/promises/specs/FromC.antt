@@ -12,17 +12,19 @@ use native.Mathlib.Omega.{arith}
 use lib.ListN.{length, length-set, getD, set}
 use lib.Seq.{getD-set-same, getD-set-other}
 use lib.IntN.{ℤ, pos, negℤ, _+ℤ_, _-ℤ_}
+use lib.Signed.{_≤ℤ_}
 use lib.Ieee.{Float}
-use Rattle.rules.specs.Face.{Flux}
+use Rattle.whole.specs.Choice.{sizeZ}
 use Rattle.rules.specs.Refusals.{applies, Clear}
 use Rattle.rules.specs.Lent.{Lent, cellsOf, misfits, filled, crossed, Outcome, refused, accepted, stepOf}
 use Rattle.survey.specs.Turned.{turnedTable, turnedCall}
-use Rattle.speeds.specs.Given.{Perhaps}
+use Rattle.face.specs.Given.{side, faceGiven}
 use Rattle.step.specs.Gives.{code, placed, volumes, both, answer, Gives}
 use Rattle.step.specs.declared.Answer.{Answer}
 use Rattle.editor.specs.Told as told
 use Rattle.editor.specs.Told.{volumesOf, StepTold, FaceTold, DoubleTold, RootTold}
-use Rattle.promises.specs.Seen.{allChecks, checkFive, FirstMet, FirstMetAt, at, NoneBelow, Excess, stageTable, water, Lake}
+use Rattle.promises.specs.Seen.{allChecks, checkFive, FirstMet, FirstMetAt, at, NoneBelow, Excess, stageTable, water, mostPassed}
+use Rattle.promises.specs.Seen.{brought, Lake}
 use Rattle.promises.specs.Seen.{lending, Called, Calls, none, more, NoInflow, CalledFromC, CallsFromC, none-c, more-c, NoneComesIn}
 use Rattle.promises.specs.Promises as page
 
@@ -31,9 +33,9 @@ pub step-one : (l : Lent) {r r′ : ℕ} {old new new′ vs v v′ : List ℤ} {
     → StepTold (stepOf l) r old new vs v ps p → StepTold (stepOf l) r′ old new′ vs v′ ps p′ → (r ≡ r′) × (new ≡ new′) × (v ≡ v′) × (p ≡ p′)
 step-one l x y = told.step-one x y
 
-pub face-one : {p : Perhaps Flux} {r r′ : ℕ} {old new new′ : List ℤ} → FaceTold p r old new → FaceTold p r′ old new′
-    → (r ≡ r′) × (new ≡ new′)
-face-one x y = told.face-one x y
+pub face-one : (hl ul hr ur : ℤ) {r r′ : ℕ} {old new new′ : List ℤ} → FaceTold (faceGiven (side hl ul) (side hr ur)) r old new
+    → FaceTold (faceGiven (side hl ul) (side hr ur)) r′ old new′ → (r ≡ r′) × (new ≡ new′)
+face-one hl ul hr ur x y = told.face-one x y
 
 pub double-one : {hl ul hr ur : Float} {r r′ : ℕ} {old new new′ : List Float} → DoubleTold hl ul hr ur r old new
     → DoubleTold hl ul hr ur r′ old new′ → (r ≡ r′) × (new ≡ new′)
@@ -121,7 +123,32 @@ module _ (l : Lent) {r : ℕ} {old new vs vs′ : List ℤ} {ps ps′ : List ℕ
       let k = page.accepted-rules l said old new gave (over (λ m. m ≡ 0) e) in
       let v = volumes-are l g two e (crossed l 0) (crossed l (cellsOf l)) (k .1) in (k .0, v .0, v .1)
 
-  -- ---- demand 3, of any call: what an accepted one wrote passes check 5 when it is lent again on that bed
+  -- nothing crosses a wall, at an inflow Q·dt/dx comes in, and at a wall or an open end no more than 131,072 passes either way
+  module _ (two : length vs ≡ 2) (e : r ≡ 0) where
+    pub wrote : volumes said ≡ both (at vs′ 0) (at vs′ 1)
+    wrote = let k = accepted-rules two e in let w = sym (k .1) in let v = sym (k .2) in
+        page.accepted-rules l said old new gave (over (λ m. m ≡ 0) e) .1 ∙ (λ i. both (w i) (v i))
+
+    pub left-wall : l .left .kind ≡ 0 → at vs′ 0 ≡ pos 0
+    left-wall k = page.left-wall l said (at vs′ 0) (at vs′ 1) old new wrote gave k
+
+    pub right-wall : l .right .kind ≡ 0 → at vs′ 1 ≡ pos 0
+    right-wall k = page.right-wall l said (at vs′ 0) (at vs′ 1) old new wrote gave k
+
+    pub left-inflow : l .left .kind ≡ 2 → at vs′ 0 ≡ brought l (l .left)
+    left-inflow k = page.left-inflow l said (at vs′ 0) (at vs′ 1) old new wrote gave k
+
+    pub right-inflow : l .right .kind ≡ 2 → at vs′ 1 ≡ negℤ (brought l (l .right))
+    right-inflow k = page.right-inflow l said (at vs′ 0) (at vs′ 1) old new wrote gave k
+
+    pub left-within : (l .left .kind ≡ 2 → ⊥) → sizeZ (at vs′ 0) ≤ℤ mostPassed
+    left-within k = page.left-within l said (at vs′ 0) (at vs′ 1) old new wrote gave k
+
+    pub right-within : (l .right .kind ≡ 2 → ⊥) → sizeZ (at vs′ 1) ≤ℤ mostPassed
+    right-within k = page.right-within l said (at vs′ 0) (at vs′ 1) old new wrote gave k
+
+  -- ---- demand 3, of any call (that no depth is below nought in a stage that it reaches is said of what is lent, in `Promises`): what an
+  -- accepted one wrote passes check 5 when it is lent again on that bed
   pub lent-again : r ≡ 0 → (m : Lent) → m .now ≡ new → m .bed ≡ l .bed → cellsOf m ≡ cellsOf l → applies (checkFive m) ≡ false
   lent-again e m now bed cells = page.lent-again l said old new gave (over (λ k. k ≡ 0) e) m now bed cells
 
@@ -162,17 +189,26 @@ module _ {bed : List ℤ} {n dx : ℕ} where
   calls : {s t : List ℤ} {a b : ℤ} → CallsFromC bed n dx s t a b → Calls bed n dx s t a b
   calls (none-c t) = none t
   calls (more-c s m t old vs vs′ ps ps′ a b two c k) =
-      let l = lending bed dx s (length old) (c .given) in let x = answer (stepOf l) in
-      let is = page.accepted-rules l x old m (called c .gave) (sym (c .told .number)) .1 in
-      let v = volumes-are l (c .told) two refl (crossed l 0) (crossed l (cellsOf l)) is in
-      let w = sym (v .0) in let y = sym (v .1) in
-      more s m t old x (at vs′ 0) (at vs′ 1) a b (is ∙ (λ i. both (w i) (y i))) (called c) (calls k)
+      let l = lending bed dx s (length old) (c .given) in
+      more s m t old (answer (stepOf l)) (at vs′ 0) (at vs′ 1) a b (wrote l (c .told) two refl) (called c) (calls k)
 
   -- the water balances with what they left in the two volumes, to the unit
   pub water-balances : {s t : List ℤ} {a b : ℤ} → CallsFromC bed n dx s t a b → water bed t n ≡ water bed s n +ℤ a -ℤ b
   water-balances k = page.water-balances bed n dx (calls k)
 
-  -- no depth falls below nought,
+  -- no depth falls below nought: in what is lent to a call that gives 0 none is, nor in what it or a later one writes,
+  module _ {s old m vs vs′ : List ℤ} {ps ps′ : List ℕ} (two : length vs ≡ 2) (c : CalledFromC bed n dx s 0 old m vs vs′ ps ps′) where
+    abbrev l : Lent
+    l = lending bed dx s (length old) (c .given)
+
+    pub none-below-now : NoneBelow bed s n
+    none-below-now =
+        page.none-below-now bed n dx s (answer (stepOf l)) (at vs′ 0) (at vs′ 1) old m (wrote l (c .told) two refl) (called c)
+
+    pub none-below-written : NoneBelow bed m n
+    none-below-written =
+        page.none-below-written bed n dx s (answer (stepOf l)) (at vs′ 0) (at vs′ 1) old m (wrote l (c .told) two refl) (called c)
+
   pub none-below-next : {s t : List ℤ} {a b : ℤ} → CallsFromC bed n dx s t a b → NoneBelow bed s n → NoneBelow bed t n
   none-below-next k d = page.none-below-next bed n dx (calls k) d
 
