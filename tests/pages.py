@@ -6,7 +6,8 @@
   "`a` Reach.antt", is defined there.  On docs/RULES.md every name has to stand so, and a file without a folder
   is one of the rules'; elsewhere a short name may be that of several files, and one has to define it.
 - Each label (S7, R14) of docs/RULES.md and docs/DECISIONS.md is an entry of the latter.
-- An edit that stands with its crate, as in "`a`, `b` crates/rules", is in that crate's must-fail.
+- An edit that stands with its crate, as in "`a`, `b` crates/rules", is in that crate's must-fail. Every edit says in
+  its first line what it tries, and docs/PROMISES.md names it.
 - docs/RULES.md names every public definition of the files of WHOLE, the rules and what else it takes whole.
   Its limits are those of Limits.antt, and its twelve rows of numbers those that Numbers.antt proves.
 - The files that docs/PROMISES.md lists as to be believed are those whose first line says so.
@@ -146,6 +147,14 @@ def edits(page):
     return [(there("%s/must-fail/%s.edit" % (crate, name)), "%s: %s has no edit %s" % (page, crate, name)) for name, crate in found]
 
 
+def told():
+    """Every edit that must fail, with a first line of its own and named on the page of promises."""
+    named = set(parted(read(PROMISES)))
+    files = [path for path in sorted(tree()) if re.match(r"crates/\w+/must-fail/.*\.edit$", path)]
+    return ([(not re.match(r"(file|old|new):|$", read(path)), "%s does not say in its first line what it tries" % path) for path in files]
+            + [(os.path.basename(path)[:-5] in named, "%s: %s is not named" % (PROMISES, path)) for path in files])
+
+
 # ---- The page of rules is whole
 
 def lonely():
@@ -208,6 +217,7 @@ def main():
     for page in (RULES, DECISIONS):
         cases("%s: labels" % page, labels(page))
     cases("%s: edits with their crate" % PROMISES, edits(PROMISES))
+    cases("edits", told())
     case(not lonely(), "%s: without a file stand %s" % (RULES, ", ".join(lonely())))
     cases("%s: public definitions" % RULES, whole())
     cases("%s: limits" % RULES, limits())
