@@ -10,7 +10,8 @@
   its first line what it tries, and docs/PROMISES.md names it.
 - docs/RULES.md names every public definition of the files of WHOLE, the rules and what else it takes whole.
   Its limits are those of Limits.antt, and its twelve rows of numbers those that Numbers.antt proves.
-- The files that docs/PROMISES.md lists as to be believed are those whose first line says so.
+- The files that docs/PROMISES.md lists as to be believed are those whose first line says so, and those that the
+  promises and the contracts speak of (spoken.py).
 
 Not looked at: whether what a page says of a name is so; a name or an edit with no file or crate beside it, or
 with other words between; functions of code; links from one page to another.  docs/LANDINGS.md is left out, as
@@ -24,6 +25,8 @@ import functools
 import os
 import re
 import sys
+
+import spoken
 
 ROOT = os.path.join(os.path.dirname(os.path.abspath(__file__)), "..")
 RULES, PROMISES, DECISIONS = "docs/RULES.md", "docs/PROMISES.md", "docs/DECISIONS.md"
@@ -203,9 +206,11 @@ def marked():
 
 
 def believed():
-    lists, marks = listed(), marked()
+    lists, marks, words = listed(), marked(), spoken.files()
     return ([(path in marks, "%s: the first line of %s does not say 'To be believed'" % (PROMISES, path)) for path in sorted(lists)]
-            + [(path in lists, "%s: %s says 'To be believed' and is not in the list" % (PROMISES, path)) for path in sorted(marks)])
+            + [(path in words, "%s: no promise and no contract speaks of %s" % (PROMISES, path)) for path in sorted(lists)]
+            + [(path in lists, "%s: %s says 'To be believed' and is not in the list" % (PROMISES, path)) for path in sorted(marks)]
+            + [(path in lists, "%s: a promise or a contract speaks of %s" % (PROMISES, path)) for path in sorted(words)])
 
 
 def main():

@@ -1,4 +1,4 @@
--- A finished cell, as the code holds it.
+-- To be believed. A finished cell, as the code holds it.
 use mathlib.Core.List.{List}
 use Prim.Native.Nat.{ℕ}
 use lib.IntN.{ℤ}

@@ -258,20 +258,16 @@ pub record One (bed : List ℤ) (n dx : ℕ) (c : Call) (s m : List ℤ) (w v : 
   pub left : w ≡ carry (reachAt bed n dx) c (cellIn n s) 0
   pub right : v ≡ carry (reachAt bed n dx) c (cellIn n s) n
 
--- what it may change
-abbrev pub call : {bed : List ℤ} {n dx : ℕ} {s : List ℤ} {a : Answer} {old m : List ℤ} → Called bed n dx s a old m → Call
-call c = callOf (lent c)
-
 pub one : (bed : List ℤ) (n dx : ℕ) (s : List ℤ) (a : Answer) (w v : ℤ) (old m : List ℤ) → volumes a ≡ both w v
-    → (c : Called bed n dx s a old m) → One bed n dx (call c) s m w v
+    → (c : Called bed n dx s a old m) → One bed n dx (callOf (lent c)) s m w v
 unfolding filled crossed
-one bed n dx s a w v old m e c = subst (λ (k : ℕ). One bed k dx (call c) s m w v) (c .given .cells) whole
+one bed n dx s a w v old m e c = subst (λ (k : ℕ). One bed k dx (callOf (lent c)) s m w v) (c .given .cells) whole
   where
-    whole : One bed (length (c .given .friction)) dx (call c) s m w v
+    whole : One bed (length (c .given .friction)) dx (callOf (lent c)) s m w v
     whole =
         let t = taken (lent c) a w v old m e (c .gave) in let k = length (c .given .friction) in
         let f = fitted (length s) (length old) (length bed) k (fits (lent c) (t .number)) in
-        let y = next (reachOf (lent c)) (call c) (cellIn k s) in
+        let y = next (reachOf (lent c)) (callOf (lent c)) (cellIn k s) in
         record {
           some = f .some;
           now = f .now;
@@ -288,7 +284,7 @@ pub run : (bed : List ℤ) (n dx : ℕ) {s t : List ℤ} {a b : ℤ} → Calls b
 run bed n dx (none t) = stop (cellIn n t)
 run bed n dx (more s m t old x w v a b e c k) =
     let o = one bed n dx s x w v old m e c in
-    rw (o .left, o .right) (step (call c) (cellIn n s) (cellIn n m) (cellIn n t) a b (o .unstopped) (o .same) (run bed n dx k))
+    rw (o .left, o .right) (step (callOf (lent c)) (cellIn n s) (cellIn n m) (cellIn n t) a b (o .unstopped) (o .same) (run bed n dx k))
 
 -- ---- a lake at rest: a number over 5 is a 7
 pub lake-number : (l : Lent) → Lake (l .bed) (l .now) (cellsOf l) → l .left .q ≡ 0 → l .right .q ≡ 0 → 5 < number l → number l ≡ 7

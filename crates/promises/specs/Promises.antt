@@ -68,7 +68,7 @@ use Rattle.promises.specs.First.{first-verdict, verdict-first, first-lis
 use Rattle.promises.specs.Outcomes.{found-is, number-is, whole-place, coded, refused-place, refused-volumes, refused-table}
 use Rattle.promises.specs.Outcomes.{refused-later, accepted-place, accepted-volumes, accepted-table, volumes-code, Taken, taken}
 use Rattle.promises.specs.Outcomes.{reachAt, none-below, wet, water-is, at-rest, none-below-table, excess-table}
-use Rattle.promises.specs.Outcomes.{written-calm, both-listed, wall-left, inflow-left, passed-left, call, one, run, lake-number}
+use Rattle.promises.specs.Outcomes.{written-calm, both-listed, wall-left, inflow-left, passed-left, one, run, lake-number}
 use Rattle.promises.specs.Outcomes.{again-in-range, five-applies}
 use Rattle.promises.specs.OtherEnd.{other-gives, other-run, turned-fits, accepted-none-least}
 
@@ -269,7 +269,7 @@ module _ (bed : List ℤ) (n dx : ℕ) where
   module _ (s : List ℤ) (a : Answer) (w v : ℤ) (old m : List ℤ) (e : volumes a ≡ both w v) (c : Called bed n dx s a old m) where
     pub none-below-now : NoneBelow bed s n
     none-below-now = none-below bed s dx n
-        (accepted-depths (reachAt bed n dx) lawful (call c) (cellIn n s) (one bed n dx s a w v old m e c .unstopped) .0)
+        (accepted-depths (reachAt bed n dx) lawful (callOf (lent c)) (cellIn n s) (one bed n dx s a w v old m e c .unstopped) .0)
 
     pub none-below-written : NoneBelow bed m n
     none-below-written = none-below-next (more s m m old a w v (pos 0) (pos 0) e c (none m)) none-below-now
@@ -284,9 +284,9 @@ module _ (bed : List ℤ) (n dx : ℕ) where
   unfolding stageTable filled
   eight-too-large s a old new c e = let l = lent c in
       subst (λ (k : ℕ). Over (stageTable l) k ⊎ Over (filled l) k) (c .given .cells) (⊎-elim
-      (λ h. inl (both-of (stageOne (reachOf l) (call c) (stateOf l)) h))
-      (λ h. inr (both-of (next (reachOf l) (call c) (stateOf l)) h))
-      (eight (reachOf l) lawful (call c) (stateOf l) (refused-later l (c .gave) e)))
+      (λ h. inl (both-of (stageOne (reachOf l) (callOf (lent c)) (stateOf l)) h))
+      (λ h. inr (both-of (next (reachOf l) (callOf (lent c)) (stateOf l)) h))
+      (eight (reachOf l) lawful (callOf (lent c)) (stateOf l) (refused-later l (c .gave) e)))
     where
       both-of : (t : State) → Large (reachOf (lent c)) t → let k = length (c .given .friction) in Over (tableOf k t) k
       both-of t h = let k = length (c .given .friction) in (none-below-table bed k dx t (h .wet), excess-table bed k dx t h)
@@ -297,7 +297,7 @@ module _ (bed : List ℤ) (n dx : ℕ) where
   lake-rests (none s) d k = (refl, refl, refl)
   lake-rests (more s m t old x w v a b e c q) d k =
       let o = one bed n dx s x w v old m e c in let r = reachAt bed n dx in
-      let z = accepted-rest r lawful (o .some) (call c) (cellIn n s) (o .unstopped) (record { left = d .0; right = d .1 })
+      let z = accepted-rest r lawful (o .some) (callOf (lent c)) (cellIn n s) (o .unstopped) (record { left = d .0; right = d .1 })
       (at-rest bed s dx n k) in
       let same : m ≡ s = table-is n m (cellIn n s) (o .size) (λ i l. o .same i l ∙ z .0 i l) ∙ table-cells n s (o .now) in
       let rest = lake-rests q (d .2) (subst (λ (y : List ℤ). Lake bed y n) (sym same) k) in
@@ -310,9 +310,9 @@ pub turned-twice : (l : Lent) → misfits l ≡ false → turnedCall (turnedCall
 turned-twice l fit = call-twice l fit
 
 -- its state has the cells of the other from the last to the first, as a caller sees them,
-pub turned-columns : (n : ℕ) (t : List ℤ) (i : ℕ) → i < n → let there = turnedTable n t in let j = n - suc i in
-    (level there n i ≡ level t n j) × (levelSlope there n i ≡ negℤ (levelSlope t n j))
-    × (discharge there n i ≡ negℤ (discharge t n j)) × (dischargeSlope there n i ≡ dischargeSlope t n j)
+pub turned-columns : (n : ℕ) (t : List ℤ) (i : ℕ) → i < n → let far = turnedTable n t in let j = n - suc i in
+    (level far n i ≡ level t n j) × (levelSlope far n i ≡ negℤ (levelSlope t n j))
+    × (discharge far n i ≡ negℤ (discharge t n j)) × (dischargeSlope far n i ≡ dischargeSlope t n j)
 unfolding turnedTable
 turned-columns n t i l = let e = cellIn-table n (λ k. turnedCell (cellIn n t (n - suc k))) i l in
     (ap (λ (x : Cell). x .e0) e, ap (λ (x : Cell). x .e1) e, ap (λ (x : Cell). x .q0) e, ap (λ (x : Cell). x .q1) e)

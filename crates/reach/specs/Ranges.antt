@@ -1,4 +1,4 @@
--- To be believed: `widest`.
+-- To be believed: `widest` and `UpTo`.
 -- How large the numbers of a call, a bed and a cell in work may be.
 use mathlib.Core.List.{List}
 use Prim.Native.Nat.{ℕ, _≤_, _<_}

@@ -1,4 +1,4 @@
--- To be believed: `heldSize`.
+-- To be believed: `largest64` and `heldSize`.
 -- The size of a number in 64 bits with a sign.
 -- Assumes nothing.
 use mathlib.Core.Path.{_≡_, _∙_, ap}

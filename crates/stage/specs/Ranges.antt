@@ -1,3 +1,4 @@
+-- To be believed: `mostVolume`.
 -- What the functions of a stage ask of one another: room in the tables, and ranges that keep every product within 64 bits.
 use mathlib.Core.Path.{_≡_}
 use mathlib.Core.Bool.{false}

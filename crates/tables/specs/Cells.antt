@@ -1,4 +1,4 @@
--- To be believed: `Cell`, `asCell`, `seen`, `columnsOf`, `tableOf` and `cellIn`.
+-- To be believed: `Cell`, `asList`, `asCell`, `seen`, `columnsOf`, `tableOf` and `cellIn`.
 -- Cells of four whole numbers: as the code holds them, and in lent tables, a column for each of the four.
 -- Assumes nothing.
 use mathlib.Core.Path.{_≡_, refl, sym, ap, _∙_}

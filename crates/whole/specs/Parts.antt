@@ -1,3 +1,4 @@
+-- To be believed: `Within`.
 -- ℤ by way of the native ℕ: z is `up z - dn z`, and every statement about sums, products and orders of integers becomes one about
 -- naturals, which `omega` proves.
 -- Assumes nothing.
