@@ -3,10 +3,11 @@
 root=$(cd "$(dirname "${BASH_SOURCE[0]}")/.." && pwd)
 
 if [ "$(uname -m)" = x86_64 ]; then
-    compiler=cc emulator=()
+    compiler=cc compiler_cpp=g++ binutils='' emulator=()
     command -v cc >/dev/null 2>&1 || compiler=gcc
 else
-    compiler=x86_64-linux-gnu-gcc emulator=(qemu-x86_64 -L /usr/x86_64-linux-gnu)
+    compiler=x86_64-linux-gnu-gcc compiler_cpp=x86_64-linux-gnu-g++ binutils=x86_64-linux-gnu-
+    emulator=(qemu-x86_64 -L /usr/x86_64-linux-gnu)
 fi
 
 # Sees to it that command $1 is there, from Debian's packages $2...
@@ -24,6 +25,15 @@ need_c() {
     else
         need "$compiler" gcc-x86-64-linux-gnu libc6-dev-amd64-cross
         need "${emulator[0]}" qemu-user
+    fi
+}
+
+# Sees to it that C++ programs can be built here, too.
+need_cpp() {
+    if [ "${#emulator[@]}" -eq 0 ]; then
+        need "$compiler_cpp" g++
+    else
+        need "$compiler_cpp" g++-x86-64-linux-gnu
     fi
 }
 

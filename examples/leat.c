@@ -19,16 +19,14 @@
 #include <string.h>
 
 enum {
-    METRE = 4096, /* levels, lengths, times and discharges all count 1/4096 */
-    SECOND = 4096,
+    METRE = BASSOONSUN_UNIT, /* levels, lengths, times and discharges all count 1/4096 */
+    SECOND = BASSOONSUN_UNIT,
     CELLS = 64,
     CELL_LENGTH = METRE,
     LONGEST_STEP = SECOND,
     JUMP = 64, /* slopes are limited where two cells differ by more than 1/64 m */
     DRY_DEPTH = 4, /* about 1 mm, as for an earth ditch: water no deeper has no speed */
     MANNING = 30, /* 0.030, an earth channel with some weed */
-    OPEN = 1, /* kinds of an end; 0 would be a wall */
-    INFLOW = 2,
     CREST = 48, /* the face on top of the weir */
     GAUGE = 40, /* the cell whose level is told */
     BASE_FLOW = METRE / 5, /* 0.2 m2/s, */
@@ -146,21 +144,20 @@ static int64_t sum_of_depths(const Leat *leat)
     return sum;
 }
 
-/* What a refusal means and what one may do about it; and what its place counts. */
+/* What one may do about a refusal, beside what bassoonsun.h says of it; and what its place counts. */
 typedef struct {
     const char *advice, *counts;
 } Refusal;
 
 static const Refusal refusals[] = {
-    {"no refusal", NULL},
-    {"the tables do not fit each other. Give 4n, 4n, n + 1 and n numbers, n from 1 to 1024", NULL},
-    {"dx, dt, J, the dry depth, an end's kind or its Q is out of range. See the ranges in bassoonsun.h", NULL},
-    {"the bed is out of range or odd. Round it to even numbers from 0 to 1048576", "bed value"},
-    {"the friction value is over 200. Give Manning's n in thousandths, 30 for 0.030", "cell"},
-    {"a depth or a discharge of the present state is out of range. Look for a level below the bed", "cell"},
-    {"the water is faster than 32 m/s. Start with deeper water, or let the inflow rise more slowly", "face or cell"},
-    {"the time step is too long for these cells. Shorten dt to 4096*dx/(3*S), or lengthen dx", "face"},
-    {"a depth or a discharge has grown too large. Start with less water, or bring in less", "cell"},
+    [BASSOONSUN_TABLES_MISFIT] = {"Give 4n, 4n, n + 1 and n numbers, n from 1 to 1024", NULL},
+    [BASSOONSUN_NUMBER_OUT_OF_RANGE] = {"See the ranges in bassoonsun.h", NULL},
+    [BASSOONSUN_BED_OUT_OF_RANGE] = {"Round it to even numbers from 0 to 1048576", "bed value"},
+    [BASSOONSUN_FRICTION_OUT_OF_RANGE] = {"Give Manning's n in thousandths, 30 for 0.030", "cell"},
+    [BASSOONSUN_STATE_OUT_OF_RANGE] = {"Look for a level below the bed", "cell"},
+    [BASSOONSUN_WATER_TOO_FAST] = {"Start with deeper water, or let the inflow rise more slowly", "face or cell"},
+    [BASSOONSUN_TIME_STEP_TOO_LONG] = {"Shorten dt to 4096*dx/(3*S), or lengthen dx", "face"},
+    [BASSOONSUN_RESULT_TOO_LARGE] = {"Start with less water, or bring in less", "cell"},
 };
 
 /* The refusal in words, with its place and how far that is down the leat: whatever a place counts, place cells lie
@@ -204,8 +201,8 @@ static void say_refused(const Leat *leat)
     fflush(stdout); /* so that the lines of the balance come first, in a pipe too */
     fprintf(stderr, "leat: at %.2f s ", (double)leat->time / SECOND);
     say_place(stderr, leat);
-    fprintf(stderr, ": %s\n", refusals[leat->refusal].advice);
-    if (leat->refusal == 7)
+    fprintf(stderr, ": %s. %s\n", bassoonsun_refusal_text(leat->refusal), refusals[leat->refusal].advice);
+    if (leat->refusal == BASSOONSUN_TIME_STEP_TOO_LONG)
         fprintf(stderr, "      S, the greatest of |u| + a, is %lld here: take --dt %u or less\n",
                 (long long)top_speed(leat), (unsigned)stable_step(leat));
 }
@@ -220,14 +217,14 @@ static void step(Leat *leat)
         .dt = leat->dt != NULL ? *leat->dt : stable_step(leat),
         .jump = JUMP,
         .dry = DRY_DEPTH,
-        .left = leat->from_below ? OPEN : INFLOW,
+        .left = leat->from_below ? BASSOONSUN_OPEN : BASSOONSUN_INFLOW,
         .left_q = leat->from_below ? 0 : comes_in,
-        .right = leat->from_below ? INFLOW : OPEN,
+        .right = leat->from_below ? BASSOONSUN_INFLOW : BASSOONSUN_OPEN,
         .right_q = leat->from_below ? comes_in : 0,
     };
     leat->refusal = bassoonsun_step_call(leat->now, STATE, leat->next, STATE, leat->bed, CELLS + 1, leat->friction,
                                          CELLS, call, volumes, &leat->place);
-    if (leat->refusal == 0) { /* only now do next and volumes hold anything */
+    if (leat->refusal == BASSOONSUN_ACCEPTED) { /* only now do next and volumes hold anything */
         memcpy(leat->now, leat->next, sizeof leat->now);
         leat->came_in += leat->from_below ? -volumes[1] : volumes[0]; /* rightward is positive */
         leat->went_out += leat->from_below ? -volumes[0] : volumes[1];
@@ -362,7 +359,7 @@ static int write_svg(const Leat *leat, const char *path)
     fputs("font-family=\"sans-serif\" font-size=\"11\">\n", out);
     fprintf(out, "<rect x=\"-50\" y=\"-30\" width=\"%d\" height=\"255\" fill=\"white\"/>\n", 10 * CELLS + 70);
     fputs("<text x=\"0\" y=\"-12\">A flood comes down a leat: ", out);
-    if (leat->refusal != 0)
+    if (leat->refusal != BASSOONSUN_ACCEPTED)
         say_place(out, leat);
     else
         fprintf(out, "before it and %d s later", (DRAWN - FLOOD_COMES) / SECOND);
@@ -389,7 +386,7 @@ static int run_until(Leat *leat, int32_t time)
 {
     while (leat->time < time) {
         step(leat);
-        if (leat->refusal != 0)
+        if (leat->refusal != BASSOONSUN_ACCEPTED)
             return say_refused(leat), keep_refused(leat), 1;
     }
     return 0;

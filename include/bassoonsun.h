@@ -1,8 +1,8 @@
 /* One step of shallow flow along a straight reach of equal cells, and the flux at one face.
  *
- * Built by `make` as target/libbassoonsun.a (x86-64, System V calling convention); it needs memcpy
- * and memset of the C library and nothing else. examples/leat.c shows its use, and
- * `bash examples/run` builds and runs that example.
+ * Built by `make` as target/libbassoonsun.a (x86-64, System V calling convention); it needs nothing
+ * of the C library but memcpy and memset. examples/leat.c shows its use, and
+ * `bash examples/run` builds and runs that example; examples/fill.h fills a state from levels.
  *
  * UNITS. Whole numbers count 1/4096 of a metre, a second, m/s or m2/s: a level of 6144 is 1.5 m,
  * a time step of 204 is about 1/20 s. Discharge is for one metre of width, rightward positive.
@@ -31,9 +31,59 @@
 extern "C" {
 #endif
 
-/* One step of the water. Gives 0 when the step is accepted, else the number of its refusal.
+/* The version of this header and of the library that goes with it. There has been no release, so the first number
+ * is 0. The second changes where a program has to be changed or compiled anew, or a call is answered otherwise; the
+ * third with all else. */
+#define BASSOONSUN_VERSION_MAJOR 0
+#define BASSOONSUN_VERSION_MINOR 1
+#define BASSOONSUN_VERSION_PATCH 0
+#define BASSOONSUN_VERSION "0.1.0"
+
+/* So many units are one metre, second, m/s or m2/s, and so many cells a reach has at most. */
+#define BASSOONSUN_UNIT 4096
+#define BASSOONSUN_MOST_CELLS 1024
+
+/* What an end of the reach is. */
+enum bassoonsun_end {
+    BASSOONSUN_WALL = 0,
+    BASSOONSUN_OPEN = 1, /* the water outside is as deep and as fast as that at the end face */
+    BASSOONSUN_INFLOW = 2 /* a given discharge comes in */
+};
+
+/* What a step answers: that it is accepted, or why it is refused. bassoonsun_step says more of each, below. The faces
+ * and the root answer with numbers of their own. */
+enum bassoonsun_refusal {
+    BASSOONSUN_ACCEPTED = 0,
+    BASSOONSUN_TABLES_MISFIT = 1,
+    BASSOONSUN_NUMBER_OUT_OF_RANGE = 2,
+    BASSOONSUN_BED_OUT_OF_RANGE = 3, /* or odd */
+    BASSOONSUN_FRICTION_OUT_OF_RANGE = 4,
+    BASSOONSUN_STATE_OUT_OF_RANGE = 5,
+    BASSOONSUN_WATER_TOO_FAST = 6,
+    BASSOONSUN_TIME_STEP_TOO_LONG = 7,
+    BASSOONSUN_RESULT_TOO_LARGE = 8
+};
+
+/* What a step answered, in a few words to be shown to a user; also of a number that is none of those above. */
+static inline const char *bassoonsun_refusal_text(uint32_t refusal)
+{
+    switch (refusal) {
+    case BASSOONSUN_ACCEPTED: return "accepted";
+    case BASSOONSUN_TABLES_MISFIT: return "the tables do not fit each other";
+    case BASSOONSUN_NUMBER_OUT_OF_RANGE: return "dx, dt, J, the dry depth, an end's kind or its Q is out of range";
+    case BASSOONSUN_BED_OUT_OF_RANGE: return "the bed is out of range or odd";
+    case BASSOONSUN_FRICTION_OUT_OF_RANGE: return "the friction value is over 200";
+    case BASSOONSUN_STATE_OUT_OF_RANGE: return "a depth or a discharge of the present state is out of range";
+    case BASSOONSUN_WATER_TOO_FAST: return "the water is faster than 32 m/s";
+    case BASSOONSUN_TIME_STEP_TOO_LONG: return "the time step is too long for these cells";
+    case BASSOONSUN_RESULT_TOO_LARGE: return "a depth or a discharge has grown too large";
+    default: return "no answer of a step";
+    }
+}
+
+/* One step of the water. Gives BASSOONSUN_ACCEPTED, 0, when the step is accepted, else the number of its refusal.
  *
- * The number of cells n is friction_len, 1 to 1024. Cell i lies between faces i and i + 1.
+ * The number of cells n is friction_len, 1 to BASSOONSUN_MOST_CELLS, 1024. Cell i lies between faces i and i + 1.
  *
  *   now       4n numbers, the present state, in four columns of n: the means of the level, now[0]
  *             to now[n - 1]; its slopes, from now[n] on; the means of the discharge, from now[2n]
@@ -55,8 +105,7 @@ extern "C" {
  *             to keep face depths from falling below 0. It still levels out where depths at a face
  *             differ. 4, about 1 mm, suits an ordinary ditch; a lined flume takes less, a reed bed
  *             more. It may be another in each step
- *   left      kind of the left end: 0 a wall, 1 open (the water outside is as deep and as fast as
- *             that at the end face), 2 a given inflow
+ *   left      kind of the left end: BASSOONSUN_WALL, 0; BASSOONSUN_OPEN, 1; or BASSOONSUN_INFLOW, 2
  *   right     kind of the right end, likewise
  *   left_q    Q, the discharge that comes into the reach at the left end: 0 to 8388608 (2048 m2/s)
  *             at an end of kind 2, and 0 at a wall or an open end. At either end it is counted into
@@ -139,7 +188,8 @@ uint32_t bassoonsun_step(const int32_t *now, size_t now_len, int32_t *next, size
 
 /* The numbers of one step, to be filled by name, since in a row they are easily exchanged:
  *
- *     struct bassoonsun_call call = {.dx = 4096, .dt = 317, .jump = 64, .dry = 4, .left = 2, .left_q = 2048};
+ *     struct bassoonsun_call call = {.dx = 4096, .dt = 317, .jump = 64, .dry = 4,
+ *                                    .left = BASSOONSUN_INFLOW, .left_q = 2048};
  *
  * A field that is not named is 0: an end is then a wall, and a dx, a dt or a dry depth that was
  * forgotten is refused with 2. (C++ before C++20: `bassoonsun_call call = {};`, then `call.dx = 4096;`

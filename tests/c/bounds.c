@@ -10,7 +10,7 @@
 #include <bassoonsun.h>
 #include <math.h>
 
-enum { METRE = 4096, DX = METRE, DT = METRE / 20, DRY = 4, MARK = -77 };
+enum { METRE = BASSOONSUN_UNIT, DX = METRE, DT = METRE / 20, DRY = 4, MARK = -77 };
 
 static int passed, failed;
 
@@ -124,8 +124,8 @@ static int keeps_water(const Lent *t)
 static int takes_in(const Lent *t, const Call *c)
 {
     const int64_t *volumes = t->volumes.first;
-    return (c->left != 2 || volumes[0] == (int64_t)c->left_q * c->dt / c->dx) &&
-           (c->right != 2 || volumes[1] == -((int64_t)c->right_q * c->dt / c->dx));
+    return (c->left != BASSOONSUN_INFLOW || volumes[0] == (int64_t)c->left_q * c->dt / c->dx) &&
+           (c->right != BASSOONSUN_INFLOW || volumes[1] == -((int64_t)c->right_q * c->dt / c->dx));
 }
 
 static uint32_t make_step(const Lent *t, const Call *c, int by_name)
@@ -156,7 +156,7 @@ static void try_call_at(const Call *c, size_t n, int spot, int at_end)
         uint32_t given = make_step(&t, c, by_name);
         check(given == c->due, c->what, n, at_end);
         check(placed(&t, c), c->what, n, at_end);
-        check(given == 0 ? keeps_water(&t) && takes_in(&t, c) : untouched(&t), c->what, n, at_end);
+        check(given == BASSOONSUN_ACCEPTED ? keeps_water(&t) && takes_in(&t, c) : untouched(&t), c->what, n, at_end);
         unfence(t.now), unfence(t.next), unfence(t.bed), unfence(t.friction), unfence(t.volumes), unfence(t.place);
     }
 }
@@ -167,66 +167,84 @@ static void try_call(const Call *c, size_t n, int at_end)
         try_call_at(c, n, spot, at_end);
 }
 
-#define GOOD .dx = DX, .dt = DT, .jump = 64, .dry = DRY, .left = 0, .right = 1, \
+#define GOOD .dx = DX, .dt = DT, .jump = 64, .dry = DRY, .left = BASSOONSUN_WALL, .right = BASSOONSUN_OPEN, \
              .spot_bed = 128, .spot_friction = 30, .spot_level = 5 * METRE / 4
 
 /* A later member of a list takes the place of the same one in GOOD; that is meant here. */
 #pragma GCC diagnostic ignored "-Woverride-init"
 static const Call calls[] = {
-    {GOOD, .what = "accepted", .due = 0},
-    {GOOD, .what = "accepted, ends the other way", .due = 0, .left = 1, .right = 0},
-    {GOOD, .what = "accepted, dry depth 1", .due = 0, .dry = 1},
-    {GOOD, .what = "accepted, dry depth 64", .due = 0, .dry = 64},
-    {GOOD, .what = "accepted, inflow at the left", .due = 0, .left = 2, .left_q = 4000},
-    {GOOD, .what = "accepted, inflow at the right", .due = 0, .right = 2, .right_q = 3000},
-    {GOOD, .what = "accepted, inflow at both ends", .due = 0, .left = 2, .left_q = 4000, .right = 2, .right_q = 3000},
-    {GOOD, .what = "accepted, inflow of 0", .due = 0, .left = 2, .right = 2},
-    {GOOD, .what = "now too long", .due = 1, .now_more = 1},
-    {GOOD, .what = "now too short", .due = 1, .now_more = -1},
-    {GOOD, .what = "next too long", .due = 1, .next_more = 1},
-    {GOOD, .what = "next too short", .due = 1, .next_more = -1},
-    {GOOD, .what = "bed too long", .due = 1, .bed_more = 1},
-    {GOOD, .what = "bed too short", .due = 1, .bed_more = -1},
-    {GOOD, .what = "dx 0", .due = 2, .dx = 0},
-    {GOOD, .what = "dx too large", .due = 2, .dx = 1048577},
-    {GOOD, .what = "dt 0", .due = 2, .dt = 0},
-    {GOOD, .what = "dt too large", .due = 2, .dt = 4097},
-    {GOOD, .what = "J too large", .due = 2, .jump = 262145},
-    {GOOD, .what = "dry depth 0", .due = 2, .dry = 0},
-    {GOOD, .what = "dry depth 65", .due = 2, .dry = 65},
-    {GOOD, .what = "dry depth 4294967295", .due = 2, .dry = UINT32_MAX},
-    {GOOD, .what = "left end 3", .due = 2, .left = 3},
-    {GOOD, .what = "right end 3", .due = 2, .right = 3},
-    {GOOD, .what = "right end 4294967295", .due = 2, .right = UINT32_MAX},
-    {GOOD, .what = "left Q 8388609", .due = 2, .left = 2, .left_q = 8388609},
-    {GOOD, .what = "right Q 8388609", .due = 2, .right = 2, .right_q = 8388609},
-    {GOOD, .what = "right Q 4294967295", .due = 2, .right = 2, .right_q = UINT32_MAX},
-    {GOOD, .what = "a Q at a wall", .due = 2, .left_q = 1},
-    {GOOD, .what = "a Q at an open end", .due = 2, .right_q = 1},
-    {GOOD, .what = "odd bed", .due = 3, .place = AT_BED, .spot_bed = 127},
-    {GOOD, .what = "bed below nought", .due = 3, .place = AT_BED, .spot_bed = -2},
-    {GOOD, .what = "bed too high", .due = 3, .place = AT_BED, .spot_bed = 1048578},
-    {GOOD, .what = "friction 201", .due = 4, .place = AT_CELL, .spot_friction = 201},
-    {GOOD, .what = "level below the bed", .due = 5, .place = AT_CELL, .spot_level = -1},
-    {GOOD, .what = "level too high", .due = 5, .place = AT_CELL, .spot_level = 300000},
-    {GOOD, .what = "level too steep", .due = 5, .place = AT_CELL, .spot_level_slope = 2 * METRE},
-    {GOOD, .what = "discharge too large", .due = 5, .place = AT_CELL, .spot_discharge = 8388609},
-    {GOOD, .what = "discharge too steep", .due = 5, .place = AT_CELL, .spot_discharge_slope = 8388609},
-    {GOOD, .what = "water too fast", .due = 6, .place = AT_CELL, .spot_discharge = 8388608},
-    {GOOD, .what = "water too fast at both faces", .due = 6, .place = AT_CELL, .spot_discharge_slope = 8388608},
-    {GOOD, .what = "water too fast at the left face", .due = 6, .place = AT_CELL,
+    {GOOD, .what = "accepted", .due = BASSOONSUN_ACCEPTED},
+    {GOOD, .what = "accepted, ends the other way", .due = BASSOONSUN_ACCEPTED, .left = BASSOONSUN_OPEN,
+     .right = BASSOONSUN_WALL},
+    {GOOD, .what = "accepted, dry depth 1", .due = BASSOONSUN_ACCEPTED, .dry = 1},
+    {GOOD, .what = "accepted, dry depth 64", .due = BASSOONSUN_ACCEPTED, .dry = 64},
+    {GOOD, .what = "accepted, inflow at the left", .due = BASSOONSUN_ACCEPTED, .left = BASSOONSUN_INFLOW,
+     .left_q = 4000},
+    {GOOD, .what = "accepted, inflow at the right", .due = BASSOONSUN_ACCEPTED, .right = BASSOONSUN_INFLOW,
+     .right_q = 3000},
+    {GOOD, .what = "accepted, inflow at both ends", .due = BASSOONSUN_ACCEPTED, .left = BASSOONSUN_INFLOW,
+     .left_q = 4000, .right = BASSOONSUN_INFLOW, .right_q = 3000},
+    {GOOD, .what = "accepted, inflow of 0", .due = BASSOONSUN_ACCEPTED, .left = BASSOONSUN_INFLOW,
+     .right = BASSOONSUN_INFLOW},
+    {GOOD, .what = "now too long", .due = BASSOONSUN_TABLES_MISFIT, .now_more = 1},
+    {GOOD, .what = "now too short", .due = BASSOONSUN_TABLES_MISFIT, .now_more = -1},
+    {GOOD, .what = "next too long", .due = BASSOONSUN_TABLES_MISFIT, .next_more = 1},
+    {GOOD, .what = "next too short", .due = BASSOONSUN_TABLES_MISFIT, .next_more = -1},
+    {GOOD, .what = "bed too long", .due = BASSOONSUN_TABLES_MISFIT, .bed_more = 1},
+    {GOOD, .what = "bed too short", .due = BASSOONSUN_TABLES_MISFIT, .bed_more = -1},
+    {GOOD, .what = "dx 0", .due = BASSOONSUN_NUMBER_OUT_OF_RANGE, .dx = 0},
+    {GOOD, .what = "dx too large", .due = BASSOONSUN_NUMBER_OUT_OF_RANGE, .dx = 1048577},
+    {GOOD, .what = "dt 0", .due = BASSOONSUN_NUMBER_OUT_OF_RANGE, .dt = 0},
+    {GOOD, .what = "dt too large", .due = BASSOONSUN_NUMBER_OUT_OF_RANGE, .dt = 4097},
+    {GOOD, .what = "J too large", .due = BASSOONSUN_NUMBER_OUT_OF_RANGE, .jump = 262145},
+    {GOOD, .what = "dry depth 0", .due = BASSOONSUN_NUMBER_OUT_OF_RANGE, .dry = 0},
+    {GOOD, .what = "dry depth 65", .due = BASSOONSUN_NUMBER_OUT_OF_RANGE, .dry = 65},
+    {GOOD, .what = "dry depth 4294967295", .due = BASSOONSUN_NUMBER_OUT_OF_RANGE, .dry = UINT32_MAX},
+    {GOOD, .what = "left end 3", .due = BASSOONSUN_NUMBER_OUT_OF_RANGE, .left = 3},
+    {GOOD, .what = "right end 3", .due = BASSOONSUN_NUMBER_OUT_OF_RANGE, .right = 3},
+    {GOOD, .what = "right end 4294967295", .due = BASSOONSUN_NUMBER_OUT_OF_RANGE, .right = UINT32_MAX},
+    {GOOD, .what = "left Q 8388609", .due = BASSOONSUN_NUMBER_OUT_OF_RANGE, .left = BASSOONSUN_INFLOW,
+     .left_q = 8388609},
+    {GOOD, .what = "right Q 8388609", .due = BASSOONSUN_NUMBER_OUT_OF_RANGE, .right = BASSOONSUN_INFLOW,
+     .right_q = 8388609},
+    {GOOD, .what = "right Q 4294967295", .due = BASSOONSUN_NUMBER_OUT_OF_RANGE, .right = BASSOONSUN_INFLOW,
+     .right_q = UINT32_MAX},
+    {GOOD, .what = "a Q at a wall", .due = BASSOONSUN_NUMBER_OUT_OF_RANGE, .left_q = 1},
+    {GOOD, .what = "a Q at an open end", .due = BASSOONSUN_NUMBER_OUT_OF_RANGE, .right_q = 1},
+    {GOOD, .what = "odd bed", .due = BASSOONSUN_BED_OUT_OF_RANGE, .place = AT_BED, .spot_bed = 127},
+    {GOOD, .what = "bed below nought", .due = BASSOONSUN_BED_OUT_OF_RANGE, .place = AT_BED, .spot_bed = -2},
+    {GOOD, .what = "bed too high", .due = BASSOONSUN_BED_OUT_OF_RANGE, .place = AT_BED, .spot_bed = 1048578},
+    {GOOD, .what = "friction 201", .due = BASSOONSUN_FRICTION_OUT_OF_RANGE, .place = AT_CELL, .spot_friction = 201},
+    {GOOD, .what = "level below the bed", .due = BASSOONSUN_STATE_OUT_OF_RANGE, .place = AT_CELL, .spot_level = -1},
+    {GOOD, .what = "level too high", .due = BASSOONSUN_STATE_OUT_OF_RANGE, .place = AT_CELL, .spot_level = 300000},
+    {GOOD, .what = "level too steep", .due = BASSOONSUN_STATE_OUT_OF_RANGE, .place = AT_CELL,
+     .spot_level_slope = 2 * METRE},
+    {GOOD, .what = "discharge too large", .due = BASSOONSUN_STATE_OUT_OF_RANGE, .place = AT_CELL,
+     .spot_discharge = 8388609},
+    {GOOD, .what = "discharge too steep", .due = BASSOONSUN_STATE_OUT_OF_RANGE, .place = AT_CELL,
+     .spot_discharge_slope = 8388609},
+    {GOOD, .what = "water too fast", .due = BASSOONSUN_WATER_TOO_FAST, .place = AT_CELL, .spot_discharge = 8388608},
+    {GOOD, .what = "water too fast at both faces", .due = BASSOONSUN_WATER_TOO_FAST, .place = AT_CELL,
+     .spot_discharge_slope = 8388608},
+    {GOOD, .what = "water too fast at the left face", .due = BASSOONSUN_WATER_TOO_FAST, .place = AT_CELL,
      .spot_discharge = -80000, .spot_discharge_slope = 90000},
-    {GOOD, .what = "water too fast at the right face", .due = 6, .place = AT_RIGHT_FACE,
+    {GOOD, .what = "water too fast at the right face", .due = BASSOONSUN_WATER_TOO_FAST, .place = AT_RIGHT_FACE,
      .spot_discharge = 80000, .spot_discharge_slope = 90000},
-    {GOOD, .what = "left inflow too fast", .due = 6, .place = AT_0, .left = 2, .left_q = 8388608},
-    {GOOD, .what = "right inflow too fast", .due = 6, .place = AT_N, .right = 2, .right_q = 8388608},
-    {GOOD, .what = "left inflow and water too fast", .due = 6, .place = AT_0, .left = 2, .left_q = 8388608,
+    {GOOD, .what = "left inflow too fast", .due = BASSOONSUN_WATER_TOO_FAST, .place = AT_0, .left = BASSOONSUN_INFLOW,
+     .left_q = 8388608},
+    {GOOD, .what = "right inflow too fast", .due = BASSOONSUN_WATER_TOO_FAST, .place = AT_N, .right = BASSOONSUN_INFLOW,
+     .right_q = 8388608},
+    {GOOD, .what = "left inflow and water too fast", .due = BASSOONSUN_WATER_TOO_FAST, .place = AT_0,
+     .left = BASSOONSUN_INFLOW, .left_q = 8388608,
      .spot_discharge_slope = 8388608},
-    {GOOD, .what = "right inflow and water too fast", .due = 6, .place = AT_CELL, .right = 2, .right_q = 8388608,
+    {GOOD, .what = "right inflow and water too fast", .due = BASSOONSUN_WATER_TOO_FAST, .place = AT_CELL,
+     .right = BASSOONSUN_INFLOW, .right_q = 8388608,
      .spot_discharge_slope = 8388608},
-    {GOOD, .what = "time step too long", .due = 7, .place = AT_0, .dt = 4096},
-    {GOOD, .what = "time step too long for the left inflow", .due = 7, .place = AT_0, .left = 2, .left_q = 100000},
-    {GOOD, .what = "time step too long for the right inflow", .due = 7, .place = AT_N, .right = 2, .right_q = 100000},
+    {GOOD, .what = "time step too long", .due = BASSOONSUN_TIME_STEP_TOO_LONG, .place = AT_0, .dt = 4096},
+    {GOOD, .what = "time step too long for the left inflow", .due = BASSOONSUN_TIME_STEP_TOO_LONG, .place = AT_0,
+     .left = BASSOONSUN_INFLOW, .left_q = 100000},
+    {GOOD, .what = "time step too long for the right inflow", .due = BASSOONSUN_TIME_STEP_TOO_LONG, .place = AT_N,
+     .right = BASSOONSUN_INFLOW, .right_q = 100000},
 };
 
 /* The faces and the root. Their tables are fenced too, and change only where 0 is given. */
@@ -254,14 +272,14 @@ static void try_faces(int at_end)
 
 int main(void)
 {
-    static const size_t cells[] = {1, 2, 16, 1024};
-    static const Call good = {GOOD, .what = "too many cells or none", .due = 1};
+    static const size_t cells[] = {1, 2, 16, BASSOONSUN_MOST_CELLS};
+    static const Call good = {GOOD, .what = "too many cells or none", .due = BASSOONSUN_TABLES_MISFIT};
     for (int at_end = 0; at_end <= 1; at_end++) {
         for (size_t k = 0; k < sizeof cells / sizeof *cells; k++)
             for (size_t c = 0; c < sizeof calls / sizeof *calls; c++)
                 try_call(&calls[c], cells[k], at_end);
         try_call(&good, 0, at_end);
-        try_call(&good, 1025, at_end);
+        try_call(&good, BASSOONSUN_MOST_CELLS + 1, at_end);
         try_faces(at_end);
     }
     printf("%d passed, %d failed\n", passed, failed);

@@ -9,7 +9,7 @@
 #include <pthread.h>
 #include <stdio.h>
 
-enum { KIB = 1024, STACK = 512 * KIB, MOST_CELLS = 1024, SHORT_CELLS = 64, SHORT_MOST = 32 * KIB };
+enum { KIB = 1024, STACK = 512 * KIB, MOST_CELLS = BASSOONSUN_MOST_CELLS, SHORT_CELLS = 64, SHORT_MOST = 32 * KIB };
 #define PATTERN UINT64_C(0x9d3c51e7a6f08b42)
 
 static int32_t now[4 * MOST_CELLS], next[4 * MOST_CELLS], bed[MOST_CELLS + 1];
@@ -29,8 +29,8 @@ static void *make_step(void *given)
 {
     Trial *trial = given;
     size_t n = trial->cells;
-    trial->refusal = bassoonsun_step(now, 4 * n, next, 4 * n, bed, n + 1, friction, n, 4096, 204, 64, 4, 2, 1, 4096, 0,
-                                     volumes, place);
+    trial->refusal = bassoonsun_step(now, 4 * n, next, 4 * n, bed, n + 1, friction, n, 4096, 204, 64, 4,
+                                     BASSOONSUN_INFLOW, BASSOONSUN_OPEN, 4096, 0, volumes, place);
     const uint64_t *lowest = trial->stack;
     while (*lowest == PATTERN)
         lowest++;
@@ -71,7 +71,7 @@ static int try_reach(size_t cells, size_t most)
     fill(cells);
     next[0] = 0;
     run_thread(&trial);
-    int passed = trial.refusal == 0 && next[0] != 0 && trial.taken < most;
+    int passed = trial.refusal == BASSOONSUN_ACCEPTED && next[0] != 0 && trial.taken < most;
     printf("%s  a step of %zu cells, answer %u: %.1f KiB of stack, under %zu wanted\n", passed ? "passed" : "FAILED",
            cells, (unsigned)trial.refusal, (double)trial.taken / KIB, most / KIB);
     return passed;

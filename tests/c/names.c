@@ -1,0 +1,173 @@
+/* Holds each name of bassoonsun.h to what the library does, and calls each of its functions. It is C and C++ at once:
+ * tests/c/run compiles it as both, strictly, the header being included first and twice; and once more with others
+ * before it. The last line is 'N passed, M failed'. */
+#include <bassoonsun.h>
+#include <bassoonsun.h>
+#include <math.h>
+#include <stdio.h>
+#include <string.h>
+
+enum { CELLS = 4, ROOM = BASSOONSUN_MOST_CELLS + 1, MARK = 77 };
+
+static int passed, failed;
+
+static void check(int good, const char *what)
+{
+    if (good)
+        passed++;
+    else
+        failed++, printf("failed: %s\n", what);
+}
+
+/* A call and all that it is lent: good water that runs rightward, until a test spoils something. */
+typedef struct {
+    size_t cells;
+    struct bassoonsun_call call;
+    int32_t now[4 * ROOM], next[4 * ROOM], bed[ROOM + 1];
+    uint16_t friction[ROOM];
+    int64_t volumes[2];
+    uint32_t place;
+} Lent;
+
+static Lent lent;
+
+/* Water 1 m deep on a flat bed between walls, with 0.1 m2/s to the right; cells of 1 m, a twentieth of a second. */
+static void make_good(size_t cells)
+{
+    memset(&lent, 0, sizeof lent);
+    lent.cells = cells;
+    for (size_t i = 0; i < cells; i++) {
+        lent.now[i] = BASSOONSUN_UNIT;
+        lent.now[2 * cells + i] = BASSOONSUN_UNIT / 10;
+    }
+    lent.call.dx = BASSOONSUN_UNIT;
+    lent.call.dt = BASSOONSUN_UNIT / 20;
+    lent.call.jump = 64;
+    lent.call.dry = 4;
+    lent.call.left = lent.call.right = BASSOONSUN_WALL;
+    lent.volumes[0] = lent.volumes[1] = lent.place = MARK;
+}
+
+static uint32_t step(void)
+{
+    size_t n = lent.cells;
+    return bassoonsun_step_call(lent.now, 4 * n, lent.next, 4 * n, lent.bed, n + 1, lent.friction, n, lent.call,
+                                lent.volumes, &lent.place);
+}
+
+/* The same with its numbers in a row. */
+static uint32_t step_in_a_row(void)
+{
+    size_t n = lent.cells;
+    const struct bassoonsun_call *c = &lent.call;
+    return bassoonsun_step(lent.now, 4 * n, lent.next, 4 * n, lent.bed, n + 1, lent.friction, n, c->dx, c->dt, c->jump,
+                           c->dry, c->left, c->right, c->left_q, c->right_q, lent.volumes, &lent.place);
+}
+
+static void check_sizes(void)
+{
+    make_good(BASSOONSUN_MOST_CELLS);
+    check(step() == BASSOONSUN_ACCEPTED, "the most cells are accepted");
+    make_good(BASSOONSUN_MOST_CELLS + 1);
+    check(step() == BASSOONSUN_TABLES_MISFIT, "one cell more is refused");
+}
+
+/* The double face speaks of metres and seconds, so that it tells what one unit is. */
+static void check_unit(void)
+{
+    int64_t whole[4];
+    double metres[4], root[1];
+    check(bassoonsun_face(BASSOONSUN_UNIT, 0, BASSOONSUN_UNIT, 0, whole) == 0 &&
+          bassoonsun_face_double(1, 0, 1, 0, metres) == 0 && whole[3] == (int64_t)floor(BASSOONSUN_UNIT * metres[3]),
+          "the waves of a metre of water are as fast in units");
+    check(bassoonsun_root(9.81, root) == 0 && root[0] == metres[3], "and that fast is the root of g in metres");
+}
+
+static void check_ends(void)
+{
+    make_good(CELLS);
+    check(step() == BASSOONSUN_ACCEPTED && lent.volumes[0] == 0 && lent.volumes[1] == 0, "nothing crosses a wall");
+    make_good(CELLS);
+    lent.call.right = BASSOONSUN_OPEN;
+    check(step() == BASSOONSUN_ACCEPTED && lent.volumes[0] == 0 && lent.volumes[1] > 0, "water leaves by an open end");
+    make_good(CELLS);
+    lent.call.left = BASSOONSUN_INFLOW;
+    lent.call.left_q = 2000;
+    check(step() == BASSOONSUN_ACCEPTED && lent.volumes[0] == 2000 * (BASSOONSUN_UNIT / 20) / BASSOONSUN_UNIT,
+          "what is given comes in at an inflow");
+    make_good(CELLS);
+    lent.call.left = BASSOONSUN_OPEN;
+    lent.call.left_q = 2000;
+    check(step() == BASSOONSUN_NUMBER_OUT_OF_RANGE, "and at no other end");
+    make_good(CELLS);
+    lent.call.right = BASSOONSUN_INFLOW + 1;
+    check(step() == BASSOONSUN_NUMBER_OUT_OF_RANGE, "there is no fourth kind of end");
+}
+
+/* Good water of some cells, of which one thing is spoilt. */
+static void spoil(uint32_t refusal)
+{
+    make_good(refusal == BASSOONSUN_TABLES_MISFIT ? 0 : CELLS);
+    switch (refusal) {
+    case BASSOONSUN_NUMBER_OUT_OF_RANGE: lent.call.dt = 0; break;
+    case BASSOONSUN_BED_OUT_OF_RANGE: lent.bed[2] = 1; break;
+    case BASSOONSUN_FRICTION_OUT_OF_RANGE: lent.friction[2] = 201; break;
+    case BASSOONSUN_STATE_OUT_OF_RANGE: lent.now[2] = -1; break;
+    case BASSOONSUN_WATER_TOO_FAST: lent.now[2 * CELLS + 2] = 40 * BASSOONSUN_UNIT; break;
+    case BASSOONSUN_TIME_STEP_TOO_LONG: lent.call.dt = BASSOONSUN_UNIT; break;
+    case BASSOONSUN_RESULT_TOO_LARGE: /* 64 m of still water, and more comes in */
+        for (int i = 0; i < CELLS; i++) {
+            lent.now[i] = 64 * BASSOONSUN_UNIT;
+            lent.now[2 * CELLS + i] = 0;
+        }
+        lent.call.dt = BASSOONSUN_UNIT / 100;
+        lent.call.left = BASSOONSUN_INFLOW;
+        lent.call.left_q = BASSOONSUN_UNIT;
+        break;
+    default: break;
+    }
+}
+
+static void check_refusals(void)
+{
+    for (uint32_t refusal = BASSOONSUN_ACCEPTED; refusal <= BASSOONSUN_RESULT_TOO_LARGE; refusal++) {
+        spoil(refusal);
+        check(step() == refusal, bassoonsun_refusal_text(refusal));
+        check(lent.place != MARK && (refusal == BASSOONSUN_ACCEPTED) == (lent.volumes[0] != MARK), "what is written");
+        spoil(refusal);
+        check(step_in_a_row() == refusal, bassoonsun_refusal_text(refusal));
+    }
+}
+
+/* Of every number that a step answers a text of its own, and one for all others. */
+static void check_texts(void)
+{
+    const uint32_t none = BASSOONSUN_RESULT_TOO_LARGE + 1;
+    for (uint32_t i = 0; i <= none; i++) {
+        const char *text = bassoonsun_refusal_text(i);
+        check(text != NULL && text[0] != '\0', "a text is not empty");
+        for (uint32_t j = 0; j < i; j++)
+            check(strcmp(text, bassoonsun_refusal_text(j)) != 0, "no two texts are equal");
+    }
+    check(strcmp(bassoonsun_refusal_text(UINT32_MAX), bassoonsun_refusal_text(none)) == 0, "one text for all others");
+}
+
+static void check_version(void)
+{
+    char numbers[32];
+    snprintf(numbers, sizeof numbers, "%d.%d.%d", BASSOONSUN_VERSION_MAJOR, BASSOONSUN_VERSION_MINOR,
+             BASSOONSUN_VERSION_PATCH);
+    check(strcmp(numbers, BASSOONSUN_VERSION) == 0, "the version in words is that in numbers");
+}
+
+int main(void)
+{
+    check_sizes();
+    check_unit();
+    check_ends();
+    check_refusals();
+    check_texts();
+    check_version();
+    printf("%d passed, %d failed\n", passed, failed);
+    return failed != 0;
+}
