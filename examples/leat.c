@@ -11,6 +11,7 @@
  * as it is then, with the place marked. With a file, the section is also written there as a picture. The exit
  * status is 0 when every step was accepted, every unit of water was found again and the picture, where one is
  * asked for, was written; 1 when not; 2 when the words above are not understood. */
+#include "fill.h"
 #include <bassoonsun.h>
 #include <ctype.h>
 #include <errno.h>
@@ -84,11 +85,9 @@ static void fill(Leat *leat)
     for (int i = 0; i <= CELLS; i++)
         leat->bed[i] = bed_height(i);
     for (int i = 0; i < CELLS; i++) {
-        int32_t low = leat->bed[i + 1], high = leat->bed[i];
-        leat->now[LEVEL + i] = i < CREST ? METRE * 112 / 100 : (low + high) / 2 + METRE / 10;
-        leat->now[LEVEL_SLOPE + i] = i < CREST ? 0 : (low - high) / 2;
-        leat->now[DISCHARGE + i] = BASE_FLOW;
-        leat->now[DISCHARGE_SLOPE + i] = 0;
+        int32_t pool = METRE * 112 / 100, chute = METRE / 10;
+        fill_cell(leat->now, leat->bed, CELLS, (size_t)i, i < CREST ? pool : leat->bed[i] + chute,
+                  i < CREST ? pool : leat->bed[i + 1] + chute, BASE_FLOW);
         leat->friction[i] = MANNING;
     }
 }
