@@ -65,6 +65,16 @@ build_library() {
     cp "$root/target/staticlib/libeditor.a" "$library" || exit 2
 }
 
+# Makes target/libbassoonsun.so of the archive, under the name $1 by which programs will ask for it. It shows the header's
+# functions and nothing else, and is not made at all where the code is not position independent or a name is missing.
+build_shared() {
+    need_c
+    echo '{ global: bassoonsun_*; local: *; };' >"$root/target/exports.map" || exit 2
+    "$compiler" -shared -nostartfiles -Wl,-soname,"$1" -Wl,--version-script="$root/target/exports.map" \
+        -Wl,-z,text -Wl,-z,defs -Wl,-z,noexecstack \
+        -Wl,--whole-archive "$root/target/libbassoonsun.a" -Wl,--no-whole-archive -o "$root/target/libbassoonsun.so" || exit 2
+}
+
 # Compiles the C file $1 and links it with the library, as $2; more arguments go to the compiler.
 build_program() {
     need_c
