@@ -329,8 +329,8 @@ def hold(case):
     if said := re.match(r"(\d) at (\d+)\b", name):
         assert model.step(*case.call) == ("refused", *map(int, said.groups())), name
     if name in TOLD:
-        told = variants.otherwise_under(lambda: line(case, model.step))
-        assert set(TOLD[name]) <= set(told), (name, TOLD[name], told)
+        untold = variants.same_under(TOLD[name], lambda: line(case, model.step))
+        assert not untold, (name, untold)
 
 
 def main():

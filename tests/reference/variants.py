@@ -442,11 +442,11 @@ READINGS = {
 }
 
 
-def otherwise_under(line):
-    """The readings under which the model gives another line."""
+def same_under(names, line):
+    """Those of the readings of these names under which the model gives the same line."""
     own, found = line(), []
-    for name, reading in READINGS.items():
-        with reading():
-            if line() != own:
+    for name in names:
+        with READINGS[name]():
+            if line() == own:
                 found.append(name)
     return found
