@@ -91,13 +91,22 @@ def millimetres(metres):
 
 
 def mean_errors(rises, reference):
-    return [millimetres(sum(abs(a - b) for a, b in zip(x, y)) / len(x)) for x, y in zip(rises, reference)]
+    """At the shore, below it and above it."""
+    return [sum(abs(a - b) for a, b in zip(x, y)) / len(x) for x, y in zip(rises, reference)]
+
+
+def error_texts(rises, reference):
+    return [millimetres(error) for error in mean_errors(rises, reference)]
+
+
+def passed(rises):
+    """When the bank above the shore first has a millimetre of water (s)."""
+    return SAMPLE * next((i for i, rise in enumerate(rises[2]) if rise > 0.001), float("inf"))
 
 
 def tops(rises):
-    """When the bank above the shore first has a millimetre of water, and the highest rise below it."""
-    _, below, above = rises
-    return [str(SAMPLE * next(i for i, rise in enumerate(above) if rise > 0.001)), millimetres(max(below))]
+    """When the water passes the shore, and the highest rise below it."""
+    return [str(passed(rises)), millimetres(max(rises[1]))]
 
 
 def paired(names, before, now):
@@ -105,9 +114,9 @@ def paired(names, before, now):
 
 
 def error_table(runs, reference, others):
-    rows = [paired((count_text(n), str(jump)), mean_errors(before, reference), mean_errors(now, reference))
+    rows = [paired((count_text(n), str(jump)), error_texts(before, reference), error_texts(now, reference))
             for (n, jump), (before, now) in runs.items()]
-    rows += [paired((name, "none limited"), ("", "", ""), mean_errors(rises, reference))
+    rows += [paired((name, "none limited"), ("", "", ""), error_texts(rises, reference))
              for name, rises in others.items()]
     heads = ("cells", "J", "at the shore: before (mm)", "after (mm)", "128 m below it: before (mm)", "after (mm)",
              "128 m above it: before (mm)", "after (mm)")
@@ -127,13 +136,28 @@ def answer_text(steps, refused):
 
 
 def refusal_table(command):
-    rows = []
+    """The table, and how many of the runs with E2 were accepted."""
+    rows, accepted = [], 0
     for manning, n in SMOOTHER:
         bank, halved = Bank(n, 64, manning), Bank(n, 64, manning, every=2 * SAMPLE)
         before = stepped_before_e2(bank.reach(), bank.steps, bank.every)[1]
-        now = [answer_text(b.steps, refusal_of(command, b.reach(), b.steps)) for b in (bank, halved)]
-        rows.append(["%.3f" % manning, count_text(n), answer_text(bank.steps, before)] + now)
-    return table(("Manning value", "cells", "before", "after", "after, time step 0.5 s"), rows)
+        now = [(b.steps, refusal_of(command, b.reach(), b.steps)) for b in (bank, halved)]
+        accepted += sum(refused is None for _, refused in now)
+        rows.append(["%.3f" % manning, count_text(n), answer_text(bank.steps, before)] + [answer_text(*b) for b in now])
+    return table(("Manning value", "cells", "before", "after", "after, time step 0.5 s"), rows), accepted
+
+
+def figures_of(runs, reference, accepted):
+    """The worst of the runs with E2, and those in the most cells."""
+    errors = {key: [1000 * error for error in mean_errors(now, reference)] for key, (_, now) in runs.items()}
+    nearer = sum(mean_errors(now, reference)[0] < mean_errors(before, reference)[0] for before, now in runs.values())
+    late = max(abs(passed(now) - passed(reference)) for _, now in runs.values())
+    worst = [max(column) for column in zip(*errors.values())]
+    finest = errors[RUNS[-1]]
+    return {"bank: at the shore, worst run (mm)": worst[0], "bank: 128 m below it, worst run (mm)": worst[1],
+            "bank: 128 m above it, worst run (mm)": worst[2], "bank, 64 cells: at the shore (mm)": finest[0],
+            "bank, 64 cells: 128 m above it (mm)": finest[2], "bank: runs nearer at the shore than before E2": nearer,
+            "bank: water passes the shore, farthest off (s)": late, "bank: smoother runs accepted": accepted}
 
 
 def lines_of_cells(bank, state):
@@ -180,8 +204,9 @@ def report(command):
         states[n, jump] = states_before(bank), states_now(command, bank)
         rises[n, jump] = [bank.rises(some) for some in states[n, jump]]
     others = {name: check.rises(states_now(command, check)) for name, check in checks.items()}
+    refusals, accepted = refusal_table(command)
     tables = {"bank": error_table(rises, reference, others),
-              "bank-tops": top_table(rises, reference), "bank-refusals": refusal_table(command)}
+              "bank-tops": top_table(rises, reference), "bank-refusals": refusals}
     pictures = {"bank.svg": profile(Bank(16, 0), *states[16, 0], deep, fine),
                 "bank-shore.svg": over_time(*rises[16, 0], reference)}
-    return tables, pictures
+    return tables, pictures, figures_of(rises, reference, accepted)

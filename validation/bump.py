@@ -212,6 +212,18 @@ def by_pool(command):
     return table(("pool at rest, level (m)", "100 cells"), rows)
 
 
+def figures_of(bumps, guessed, larges, large_states):
+    """Of the starts from the guess; of the discharge how far it is off, of Q."""
+    errors = [1000 * bump.errors(state)[0] for bump, state in zip(bumps, guessed)]
+    large_errors = [1000 * large.errors(state)[0] for large, state in zip(larges, large_states)]
+    off = max(abs(q / (bump.own_q / UNIT) - 1) for bump, state in zip(bumps, guessed) for q in bump.discharges(state))
+    return {"bump, 50 cells: mean error (mm)": errors[0], "bump, 100 cells: mean error (mm)": errors[1],
+            "bump, 400 cells: mean error (mm)": errors[3],
+            "bump, 16 times as large, 100 cells: mean error / 16 (mm)": large_errors[1],
+            "bump, 16 times as large: order, 50 to 100 cells": orders(large_errors)[1],
+            "bump: discharge, farthest off (% of Q)": 100 * off}
+
+
 def middles(bump):
     return [(i + 0.5) * bump.width for i in range(bump.n)]
 
@@ -248,4 +260,4 @@ def report(command):
               "bump-steps": by_time_step(command), "bump-jump": by_jump(command), "bump-pool": by_pool(command)}
     pictures = {"bump.svg": profile(bumps[1], guessed[1]),
                 "bump-discharge.svg": discharge_drawing(bumps[1::2], guessed[1::2], larges[1], large_states[1])}
-    return tables, pictures
+    return tables, pictures, figures_of(bumps, guessed, larges, large_states)

@@ -118,30 +118,42 @@ def dry_heads(unit):
     return tuple("dry depth %d%s" % (dry, unit) for dry in DRY_DEPTHS)
 
 
-def wave_table(command):
-    rows = []
-    for depth, dt, deep in WAVES:
-        answers = wave(depth, dt, deep).answers(command, WAVE_SECONDS, come)
-        rows.append([named(depth, deep), "%g" % dt] + answers)
+def wave_table(waves):
+    rows = [[named(depth, deep), "%g" % dt] + answers for (depth, dt, deep), answers in waves.items()]
     return table(("water (m)", "time step (s)") + dry_heads(""), rows)
 
 
-def inflow_table(command):
-    rows = []
-    for q, rise, dt in INFLOWS:
-        answers = inflow(q, rise, dt).answers(command, INFLOW_SECONDS, come_in)
-        rows.append(["%g" % q, "from the first step on" if rise == 0 else "rising for %d s" % rise] + answers)
+def inflow_table(inflows):
+    rows = [["%g" % q, "from the first step on" if rise == 0 else "rising for %d s" % rise] + answers
+            for (q, rise, _), answers in inflows.items()]
     return table(("inflow (m2/s)", "given") + dry_heads(""), rows)
 
 
-def slope_table(command):
-    rows = []
-    for dt, deep in SLOPES:
-        answers = slope(dt, deep).answers(command, SLOPE_SECONDS, left)
-        rows.append([named(dt, deep)] + answers + [left_by_theory()])
+def slope_table(slopes):
+    rows = [[named(dt, deep)] + answers + [left_by_theory()] for (dt, deep), answers in slopes.items()]
     return table(("time step (s)",) + dry_heads(" (mm)") + ("kinematic wave (mm)",), rows)
 
 
+def ran(rows):
+    return sum(answer.startswith("ran") for answers in rows.values() for answer in answers)
+
+
+def told_number(answer):
+    """The metres that water came, or the millimetres that were left; no number where a step was refused."""
+    return float("nan") if answer.startswith("step") else float(answer.replace("ran, ", "").replace(" m", ""))
+
+
+def figures_of(waves, inflows, slopes):
+    four, sixteen = DRY_DEPTHS.index(4), DRY_DEPTHS.index(16)
+    return {"dry depth: waves that ran": ran(waves), "dry depth: inflows that ran": ran(inflows),
+            "dry depth 16: 0.3 m of water came (m)": told_number(waves[0.3, 0.3, 1][sixteen]),
+            "dry depth 4: left on the slope (mm)": told_number(slopes[1, 1][four]),
+            "dry depth 4: left on the slope, 16 times as deep (mm)": told_number(slopes[1, 16][four])}
+
+
 def report(command):
-    return {"dry-wave": wave_table(command), "dry-inflow": inflow_table(command),
-            "dry-slope": slope_table(command)}, {}
+    waves = {row: wave(*row).answers(command, WAVE_SECONDS, come) for row in WAVES}
+    inflows = {row: inflow(*row).answers(command, INFLOW_SECONDS, come_in) for row in INFLOWS}
+    slopes = {row: slope(*row).answers(command, SLOPE_SECONDS, left) for row in SLOPES}
+    tables = {"dry-wave": wave_table(waves), "dry-inflow": inflow_table(inflows), "dry-slope": slope_table(slopes)}
+    return tables, {}, figures_of(waves, inflows, slopes)

@@ -1,9 +1,12 @@
-"""Runs every case and puts its tables into docs/VALIDATION.md and its pictures into docs/pictures.
+"""Runs every case, puts its tables into docs/VALIDATION.md and its pictures into docs/pictures, and holds its key
+figures to their bounds.
 
     report.py [--check] PROGRAM...     PROGRAM is how to run reach, an emulator's words first
 
-With --check nothing is written; the page and each picture is a case, failed where it is not the one
-just made, and the last line is 'N passed, M failed'. The exit status is 1 when one failed.
+With --check nothing is written; the page and each picture is a case, failed where it is not the one just made.
+Each section is a case too, failed where it stops, and so is each bound in bounds.py, with --check and without.
+Where one of these has failed, nothing is written.  The last line is 'N passed, M failed', and the exit status is 1
+when one failed.
 """
 
 import re
@@ -12,6 +15,7 @@ from pathlib import Path
 
 import bank
 import basin
+import bounds
 import bump
 import dam_break
 import dry_depth
@@ -21,15 +25,19 @@ import standing_wave
 
 DOCS = Path(__file__).resolve().parent.parent / "docs"
 PAGE = DOCS / "VALIDATION.md"
+SECTIONS = dam_break, lake, bank, standing_wave, basin, bump, slope, dry_depth
 
 
 def made(command):
-    tables, pictures = {}, {}
-    for case in (dam_break, lake, bank, standing_wave, basin, bump, slope, dry_depth):
-        some_tables, some_pictures = case.report(command)
-        tables.update(some_tables)
-        pictures.update(some_pictures)
-    return tables, pictures
+    """Tables, pictures and figures, and a line for each section that stopped."""
+    tables, pictures, figures, stopped = {}, {}, {}, []
+    for section in SECTIONS:
+        try:
+            for all_of, some in zip((tables, pictures, figures), section.report(command)):
+                all_of.update(some)
+        except SystemExit as stop:
+            stopped.append("%s stopped: %s" % (section.__name__, str(stop).strip()))
+    return tables, pictures, figures, stopped
 
 
 def with_tables(page, tables):
@@ -48,22 +56,31 @@ def differing(contents):
             if not path.exists() or path.read_text(encoding="utf-8") != text]
 
 
+def write(contents):
+    for path, text in contents.items():
+        print("written: %s" % path.relative_to(DOCS.parent))
+        path.parent.mkdir(exist_ok=True)
+        path.write_text(text, encoding="utf-8")
+
+
 def main(words):
     check = words[:1] == ["--check"]
-    tables, pictures = made(words[1:] if check else words)
+    tables, pictures, figures, stopped = made(words[1:] if check else words)
     for name, text in tables.items():
         print("%s\n\n%s\n" % (name, text))
     contents = {PAGE: with_tables(PAGE.read_text(encoding="utf-8"), tables)}
     contents.update((DOCS / "pictures" / name, text) for name, text in pictures.items())
-    stale = differing(contents)
-    for path in stale:
-        print("%s %s" % ("differs:" if check else "written:", path.relative_to(DOCS.parent)))
-        if not check:
-            path.parent.mkdir(exist_ok=True)
-            path.write_text(contents[path], encoding="utf-8")
+    stale, bad = differing(contents), stopped + bounds.broken(figures, bounds.BOUNDS)
+    cases = len(SECTIONS) + len(bounds.BOUNDS.keys() | figures.keys())
     if check:
-        print("%d passed, %d failed" % (len(contents) - len(stale), len(stale)))
-    return 1 if check and stale else 0
+        cases += len(contents)
+        bad += ["differs: %s" % path.relative_to(DOCS.parent) for path in stale]
+    elif not bad:
+        write({path: contents[path] for path in stale})
+    for line in bad:
+        print(line)
+    print("%d passed, %d failed" % (cases - len(bad), len(bad)))
+    return 1 if bad else 0
 
 
 if __name__ == "__main__":

@@ -67,10 +67,14 @@ def percent(ratio):
     return ("%+.2f" % (100 * (ratio - 1))).replace("-", "\u2212")
 
 
-def error_text(slope, state):
-    """By how much the mean depth of the last cells is off."""
+def over_normal(slope, state):
+    """The mean depth of the last cells over Manning's."""
     depths = slope.last_depths(state)
-    return percent(sum(depths) / len(depths) / NORMAL)
+    return sum(depths) / len(depths) / NORMAL
+
+
+def error_text(slope, state):
+    return percent(over_normal(slope, state))
 
 
 def told(slope, state):
@@ -117,4 +121,8 @@ def drawing(runs):
 def report(command):
     shallow, deep = ([(slope, slope.run(command)) for slope in (Slope(n, d) for n in COUNTS)] for d in (1, DEEP))
     tables = {"slope": by_cells(command, shallow, deep), "slope-steep": without_level(command)}
-    return tables, {"slope.svg": drawing((shallow[1], shallow[3], deep[3]))}
+    errors, deep_errors = ([100 * abs(over_normal(*run) - 1) for run in runs] for runs in (shallow, deep))
+    figures = {"slope, 40 cells: depth error (%)": errors[0], "slope, 160 cells: depth error (%)": errors[2],
+               "slope, 320 cells: depth error (%)": errors[3],
+               "slope, 8 times as deep: greatest depth error (%)": max(deep_errors)}
+    return tables, {"slope.svg": drawing((shallow[1], shallow[3], deep[3]))}, figures

@@ -87,9 +87,7 @@ def period_text(x):
     return "none" if x != x else "%.4f" % x
 
 
-def by_cells(command):
-    ditch = [measured(command, Basin(n, 1)) for n in COUNTS]
-    large = [measured(command, Basin(n, 16)) for n in COUNTS]
+def by_cells(ditch, large):
     rows = []
     for n, d, g, order in zip(COUNTS, ditch, large, orders([g[0] for g in large])):
         rows.append((count_text(n), percent(d[0]), percent(d[1]), period_text(d[2]), "%.2f" % (100 * g[0]),
@@ -112,18 +110,22 @@ def by_height(command):
 
 
 def by_time_step(command):
-    """What becomes of three periods in 64 cells, in the ditch with 10 cm and in the large basin."""
-    rows = []
+    """What becomes of three periods in 64 cells, in the ditch with 10 cm and in the large basin.
+
+    The table, and the longest travel up to which all steps are accepted in both."""
+    rows, accepted = [], {}
     for travel in TRAVELS:
         row = ["%.2f" % travel]
         for basin in (Basin(64, 1, 0.10, travel), Basin(64, 16, HEIGHT, travel)):
             steps = basin.steps(3)
             refused = refusal_of(command, basin.reach(), steps)
+            accepted[travel] = accepted.get(travel, True) and refused is None
             row.append("step %d is refused with %d" % refused if refused else
                        "%s steps accepted" % count_text(steps))
         rows.append(row)
     heads = ("dt·√(gH)/dx", "ditch, a = 10 cm", "16 times as large, a = 32 cm")
-    return table(heads, rows)
+    refused = [travel for travel in TRAVELS if not accepted[travel]]
+    return table(heads, rows), max((travel for travel in TRAVELS if travel < min(refused, default=1)), default=0)
 
 
 def shapes(command):
@@ -158,8 +160,23 @@ def at_the_wall(command):
     return picture.svg()
 
 
+def figures_of(ditch, large, travel):
+    """Of the large basin in 8 and 16 cells, where the scheme counts, and of the ditch, where rounding does."""
+    ditch, large = dict(zip(COUNTS, ditch)), dict(zip(COUNTS, large))
+    figures = {"standing wave, 16 times as large: order, 4 to 8 cells": orders([large[4][0], large[8][0]])[1],
+               "time step: longest accepted, of a cell": travel}
+    for name, n, basin in (("standing wave, 16 times as large", 8, large), ("standing wave, 16 times as large", 16, large),
+                           ("standing wave, ditch", 16, ditch), ("standing wave, ditch", 64, ditch)):
+        error, left, period = basin[n]
+        figures["%s, %d cells: mean error (%%)" % (name, n)] = 100 * error
+        figures["%s, %d cells: height left (%%)" % (name, n)] = 100 * left
+        figures["%s, %d cells: period / theory" % (name, n)] = period
+    return figures
+
+
 def report(command):
-    tables = {"standing-wave": by_cells(command), "standing-wave-heights": by_height(command),
-              "time-step": by_time_step(command)}
+    ditch, large = ([measured(command, Basin(n, size)) for n in COUNTS] for size in (1, 16))
+    steps, travel = by_time_step(command)
+    tables = {"standing-wave": by_cells(ditch, large), "standing-wave-heights": by_height(command), "time-step": steps}
     pictures = {"standing-wave.svg": shapes(command), "standing-wave-wall.svg": at_the_wall(command)}
-    return tables, pictures
+    return tables, pictures, figures_of(ditch, large, travel)

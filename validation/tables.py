@@ -14,6 +14,11 @@ def orders(errors):
     return [None] + [log2(a / b) for a, b in zip(errors, errors[1:])]
 
 
+def overall_order(errors):
+    """From the first to the last, the cells being halved each time."""
+    return log2(errors[0] / errors[-1]) / (len(errors) - 1)
+
+
 def order_text(order):
     return "" if order is None else ("%.2f" % order).replace("-", "\u2212")
 
