@@ -62,6 +62,13 @@ BOUNDS = {
     "bump, 16 times as large: order, 50 to 100 cells": least(1.9, "2.01; the flow is smooth"),
     "bump: discharge, farthest off (% of Q)": most(0.3, "0.25: a unit of volume in a step is 0.4"),
 
+    "ditch flow: farthest from the law (% of Manning's)": most(3.5, "2.9: friction's x is cut too, which adds up to q/(32 P)"),
+    "ditch flow, cells of 16 m: from rest (%)": Bound(93, 103, "93.9"),
+    "ditch flow, cells of 16 m: from more (%)": Bound(97.5, 103, "98.5"),
+    "ditch flow: middle cells that are not as without ends": most(0, "none, before a wave from an end can have come"),
+    "ditch flow below an inflow, cells of 1 m: depth error (%)": Bound(-2, 18, "16.2, all of it rounding"),
+    "ditch flow below an inflow, cells of 8 m: depth error (%)": Bound(-1, 1.9, "1.4"),
+
     "slope, 40 cells: depth error (%)": most(0.6, "0.42"),
     "slope, 160 cells: depth error (%)": most(2.2, "1.77"),
     "slope, 320 cells: depth error (%)": most(5.5, "4.67"),

@@ -73,13 +73,14 @@ class Picture:
         return parts
 
     def _legend(self, corner):
-        """At the top, "right" or "middle"."""
-        wide = 50 + max(7.6 * len(name) for name, _ in self.keys)
-        x = WIDTH - RIGHT - wide - 8 if corner == "right" else (LEFT + WIDTH - RIGHT - wide) / 2
+        """At the top, "right" or "middle", or at the right of the "foot"."""
+        wide, high = 50 + max(7.6 * len(name) for name, _ in self.keys), 22 * len(self.keys) + 8
+        x = (LEFT + WIDTH - RIGHT - wide) / 2 if corner == "middle" else WIDTH - RIGHT - wide - 8
+        top = HEIGHT - BOTTOM - high - 6 if corner == "foot" else TOP + 6
         parts = ['<rect x="%.1f" y="%d" width="%.1f" height="%d" fill="white" fill-opacity="0.85"/>'
-                 % (x, TOP + 6, wide, 22 * len(self.keys) + 8)]
+                 % (x, top, wide, high)]
         for k, (name, sign) in enumerate(self.keys):
-            y = TOP + 21 + 22 * k
+            y = top + 15 + 22 * k
             parts.append('<g transform="translate(%.1f %d)">%s</g>' % (x + 6, y, sign))
             parts.append('<text x="%.1f" y="%d">%s</text>' % (x + 44, y + 5, name))
         return parts

@@ -1,11 +1,15 @@
 /* Steps a reach read from the standard input and writes its state as it goes.
  *
  *     reach STEPS EVERY
+ *     reach STEPS alike
  *
  * Read, as whole numbers parted by blanks: n dx dt J dry left right, then n + 1 beds, n Manning values
  * and 4n numbers of the state, all in the library's units and in its order; then for each step left_q and
  * right_q, of which the last given are those of all later steps too. Written, at the start and after every
- * EVERY steps: one line with what crossed face 0 and face n since the start, and the 4n numbers.
+ * EVERY steps: one line with what crossed face 0 and face n since the start, and the 4n numbers. With `alike`
+ * every cell is given the depth, the discharge and their slopes of the middle one before each step, so that this
+ * one is in the middle of a reach without ends; the line is written when a step changes no number of it. If none
+ * does within STEPS steps, the run has failed.
  *
  * The exit status is 0 when every step was accepted. */
 #include <bassoonsun.h>
@@ -14,7 +18,7 @@
 #include <stdlib.h>
 #include <string.h>
 
-enum { MOST_CELLS = 1024 };
+enum { MOST_CELLS = 1024, LEAST_ALIKE = 9 };
 
 typedef struct {
     size_t cells;
@@ -86,22 +90,66 @@ static uint32_t step(Reach *reach, uint32_t place[1])
     return 0;
 }
 
+/* Gives 1 and says why where step k is refused. */
+static int refused(Reach *reach, long k)
+{
+    read_inflows(&reach->call);
+    uint32_t place[1], refusal = step(reach, place);
+    if (refusal == 0)
+        return 0;
+    fprintf(stderr, "reach: step %ld is refused with %" PRIu32 " at %" PRIu32 "\n", k, refusal, place[0]);
+    return 1;
+}
+
+static int write_every(Reach *reach, long steps, long every)
+{
+    write_state(reach);
+    for (long k = 1; k <= steps; k++) {
+        if (refused(reach, k))
+            return 1;
+        if (k % every == 0)
+            write_state(reach);
+    }
+    return 0;
+}
+
+/* Gives every cell what the middle one has, over its own bed. A step reads four cells on either side of a cell,
+ * so with nine cells or more the ends do not reach the middle one before the next copy. */
+static void copy_middle(Reach *reach)
+{
+    size_t n = reach->cells, middle = n / 2;
+    int32_t *e0 = reach->now, *e1 = e0 + n, *q0 = e1 + n, *q1 = q0 + n, *bed = reach->bed;
+    for (size_t i = 0; i < n; i++) {
+        e0[i] = e0[middle] + (bed[i] + bed[i + 1] - bed[middle] - bed[middle + 1]) / 2;
+        e1[i] = e1[middle] + (bed[i + 1] - bed[i] - bed[middle + 1] + bed[middle]) / 2;
+        q0[i] = q0[middle];
+        q1[i] = q1[middle];
+    }
+}
+
+static int write_alike(Reach *reach, long steps)
+{
+    static int32_t before[4 * MOST_CELLS];
+    size_t size = 4 * reach->cells * sizeof before[0];
+    for (long k = 1; k <= steps; k++) {
+        memcpy(before, reach->now, size);
+        if (refused(reach, k))
+            return 1;
+        copy_middle(reach);
+        if (memcmp(before, reach->now, size) == 0)
+            return write_state(reach), 0;
+    }
+    return fprintf(stderr, "reach: it still moves after %ld steps\n", steps), 1;
+}
+
 int main(int argc, char **argv)
 {
     static Reach reach;
     long steps = argc == 3 ? atol(argv[1]) : 0, every = argc == 3 ? atol(argv[2]) : 0;
-    if (steps < 1 || every < 1)
-        return fputs("use: reach STEPS EVERY <CASE\n", stderr), 2;
-    if (!read_reach(&reach))
+    int alike = argc == 3 && strcmp(argv[2], "alike") == 0;
+    if (steps < 1 || (every < 1 && !alike))
+        return fputs("use: reach STEPS EVERY|alike <CASE\n", stderr), 2;
+    if (!read_reach(&reach) || (alike && reach.cells < LEAST_ALIKE))
         return fputs("reach: the case is not as it should be\n", stderr), 2;
-    write_state(&reach);
-    for (long k = 1; k <= steps; k++) {
-        read_inflows(&reach.call);
-        uint32_t place[1], refusal = step(&reach, place);
-        if (refusal != 0)
-            return fprintf(stderr, "reach: step %ld is refused with %" PRIu32 " at %" PRIu32 "\n", k, refusal, place[0]), 1;
-        if (k % every == 0)
-            write_state(&reach);
-    }
-    return 0;
+    return alike ? write_alike(&reach, steps) : write_every(&reach, steps, every);
 }

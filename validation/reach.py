@@ -67,6 +67,12 @@ def ended(command, reach, steps):
     return None, (int(found.group(1)), int(found.group(2)))
 
 
+def stood(command, reach, most):
+    """The middle cell of a reach without ends, of cells that are all alike, when a step changes it no more."""
+    cells = state_of(lines_of(command, reach, most, "alike")[0]).cells
+    return cells[len(cells) // 2]
+
+
 def refusal_of(command, reach, steps):
     """The first step that is refused and its number, or None where all are accepted."""
     return ended(command, reach, steps)[1]

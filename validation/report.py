@@ -18,6 +18,7 @@ import basin
 import bounds
 import bump
 import dam_break
+import ditch
 import dry_depth
 import lake
 import slope
@@ -25,7 +26,7 @@ import standing_wave
 
 DOCS = Path(__file__).resolve().parent.parent / "docs"
 PAGE = DOCS / "VALIDATION.md"
-SECTIONS = dam_break, lake, bank, standing_wave, basin, bump, slope, dry_depth
+SECTIONS = dam_break, lake, bank, standing_wave, basin, bump, ditch, slope, dry_depth
 
 
 def made(command):
