@@ -1,14 +1,15 @@
 -- What each request changed, said of the calls: how the answer in force is had from the one before, and where the two are one.
 -- What a rule said before stands in crate before. A call is answered as before when it has the same number, or the same table and volumes.
 -- Assumes nothing.
-use mathlib.Core.Path.{_≡_, _∙_, ap}
+use mathlib.Core.Path.{_≡_, sym, _∙_, ap, subst}
 use mathlib.Core.Bool.{true, false}
 use mathlib.Core.List.{List}
 use Prim.Native.Nat.{ℕ, _*_, _<_}
 use lib.ListN.{length}
 use lib.IntN.{ℤ}
 use lib.Signed.{_<ℤ_}
-use Rattle.rules.specs.Reach.{Reach, Call, State, under, h0}
+use Rattle.tables.specs.Cells.{tableOf, cellIn, cellIn-table}
+use Rattle.rules.specs.Reach.{Reach, Call, State, under, z0, z1, h0, h1, hl, hr}
 use Rattle.rules.specs.Finishing.{spared, cut, dried, finish}
 use Rattle.rules.specs.Laws.Limiter.{spared-finish}
 use Rattle.before.specs.E2 as before-E2
@@ -19,6 +20,7 @@ use Rattle.before.specs.E4 as before-E4
 use Rattle.before.specs.E4.{with-no-inflow}
 use Rattle.before.specs.Laws.E4.{no-inflow}
 use Rattle.before.specs.E6 as before-E6
+use Rattle.before.specs.Laws.E6 as laws-E6
 use Rattle.before.specs.Laws.E6.{none-short-one, none-short-two, uncorrected}
 use Rattle.before.specs.E13 as before-E13
 use Rattle.before.specs.E13.{unplaced}
@@ -29,8 +31,9 @@ use Rattle.before.specs.Laws.E7.{of-one, in-columns, from-cells}
 use Rattle.rules.specs.Step.{rubbed}
 use Rattle.rules.specs.Refusals.{Clear}
 use Rattle.rules.specs.Lent.{Lent, cellsOf, reachOf, callOf, stepOf}
-use Rattle.promises.specs.Seen.{frictionTable, correctedStageTable, NoShortfall}
-use Rattle.promises.specs.Outcomes.{none-short-table}
+use Rattle.promises.specs.Seen.{meanBed, bedSlope, meanDepth, leftDepth, rightDepth}
+use Rattle.promises.specs.SeenBefore.{frictionTable, correctedStageTable, NoShortfall}
+use Rattle.promises.specs.Outcomes.{reachAt}
 
 -- ---- what E13 changed: a refusal has a place
 -- without it every call is answered as before: the same number, or the same table and volumes. What follows of other requests is said of
@@ -83,6 +86,18 @@ pub no-inflow-as-before : (l : before-E4.Lent) → (l .left ≡ 2 → ⊥) → (
 no-inflow-as-before l f g = let m = with-no-inflow l in columns-as-before m ∙ ap (givenInColumns (cellsOf m)) (no-inflow l f g)
 
 -- ---- what E6 took out: where a level at a face fell short of the bed, the shortfall was taken from both
+-- a table that is a state shows what it does
+module _ (bed : List ℤ) (n dx : ℕ) (s : State) where
+  abbrev table : List ℤ
+  table = tableOf n s
+
+  none-short-table : ((i : ℕ) → i < n → laws-E6.NoShortfall (under (reachAt bed n dx) i) (s i)) → NoShortfall bed table n
+  unfolding leftDepth rightDepth meanDepth meanBed bedSlope h0 h1 hl hr z0 z1
+  none-short-table f =
+      let at : (i : ℕ) (l : i < n) → laws-E6.NoShortfall (under (reachAt bed n dx) i) (cellIn n table i) = λ i l.
+      subst (laws-E6.NoShortfall (under (reachAt bed n dx) i)) (sym (cellIn-table n s i l)) (f i l) in
+      record { left = λ i l. at i l .left; right = λ i l. at i l .right }
+
 -- no level does: not in the state after friction, where a call passes checks 1 to 5, nor in the finished stage one, where it passes its 8;
 pub no-shortfall-one : (l : Lent) → Clear (before-E6.checksToFive l) → NoShortfall (l .bed) (frictionTable l) (cellsOf l)
 unfolding frictionTable

@@ -39,12 +39,11 @@ use Rattle.rules.specs.Laws.Face.{lawful}
 use Rattle.rules.specs.Laws.EndChecks.{kind-in, inflow-in, inflow-only}
 use Rattle.rules.specs.Laws.EndVolumes.{left-shut, left-brought, left-most}
 use Rattle.rules.specs.Laws.Runs.{Run, stop, step, accepted as accepted-call, accepted-ends, Depths, depths, TooLarge, Large}
-use Rattle.before.specs.Laws.E6 as before-E6
 use Rattle.step.specs.Gives.{code, placed, volumes, absent, both, Gives, answer, leaves}
 use Rattle.step.specs.declared.Answer.{Answer}
 use Rattle.step.specs.declared.Answer.the-variants.{Refused, Accepted}
 use Rattle.promises.specs.Seen.{at, level, levelSlope, discharge, dischargeSlope, meanBed, bedSlope, meanDepth, leftDepth}
-use Rattle.promises.specs.Seen.{rightDepth, NoneBelow, Excess, NoShortfall, total, water, Listed, mostPassed, brought, Lake}
+use Rattle.promises.specs.Seen.{rightDepth, NoneBelow, Excess, total, water, Listed, mostPassed, brought, Lake}
 use Rattle.promises.specs.Seen.{allChecks, checkFive, Called, lent, Calls, none, more}
 
 -- ---- an outcome by its number
@@ -194,13 +193,6 @@ module _ (bed : List ℤ) (n dx : ℕ) (s : State) where
 
   pub none-below-table : Wet (reachAt bed n dx) s → NoneBelow bed table n
   none-below-table w = none-below bed table dx n (depths (reachAt bed n dx) (cellIn n table) (wet-table w))
-
-  pub none-short-table : ((i : ℕ) → i < n → before-E6.NoShortfall (under (reachAt bed n dx) i) (s i)) → NoShortfall bed table n
-  unfolding leftDepth rightDepth meanDepth meanBed bedSlope h0 h1 hl hr z0 z1
-  none-short-table f =
-      let at : (i : ℕ) (l : i < n) → before-E6.NoShortfall (under (reachAt bed n dx) i) (cellIn n table i) = λ i l.
-      subst (before-E6.NoShortfall (under (reachAt bed n dx) i)) (sym (cellIn-table n s i l)) (f i l) in
-      record { left = λ i l. at i l .left; right = λ i l. at i l .right }
 
   pub excess-table : (k : Large (reachAt bed n dx) s) → Excess bed table n
   unfolding leftDepth rightDepth meanDepth meanBed bedSlope h0 h1 hl hr z0 z1

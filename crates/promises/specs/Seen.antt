@@ -13,11 +13,9 @@ use Rattle.tables.specs.Columns.{inColumn}
 use Rattle.tables.specs.Cells.{tableOf}
 use Rattle.rules.specs.Limits.{deepest, fullest, largestInflow}
 use Rattle.rules.specs.Ends.{End, inflowKind}
-use Rattle.rules.specs.Step.{rubbed, stageOne}
+use Rattle.rules.specs.Step.{stageOne}
 use Rattle.rules.specs.Refusals.{Check, each, ofCall, applies, off, stageChecks, early, checks}
 use Rattle.rules.specs.Lent.{Lent, cellsOf, reachOf, callOf, stateOf, misfits, stepOf}
-use Rattle.before.specs.E6 as before-E6
-use Rattle.before.specs.E7 as before-E7
 use Rattle.survey.specs.Turned.{turnedTable, turnedCall}
 use Rattle.step.specs.Gives.{lend, volumes, both, Gives}
 use Rattle.step.specs.declared.Answer.{Answer}
@@ -102,19 +100,6 @@ pub record Excess (bed t : List ℤ) (n : ℕ) : Type 0 where
 -- the finished stage one of a call, written as a table
 unfoldable pub stageTable : Lent → List ℤ
 stageTable l = tableOf (cellsOf l) (stageOne (reachOf l) (callOf l) (stateOf l))
-
--- the states that its two stages started from before E6, when it was lent cells: that after friction, which E6 left alone, and the
--- finished stage one
-unfoldable pub frictionTable : Lent → List ℤ
-frictionTable l = tableOf (cellsOf l) (rubbed (reachOf l) (callOf l) (before-E7.stateOf l))
-
-unfoldable pub correctedStageTable : Lent → List ℤ
-correctedStageTable l = tableOf (cellsOf l) (before-E6.stageOne l)
-
--- at no face does a level fall short of the bed
-pub record NoShortfall (bed t : List ℤ) (n : ℕ) : Type 0 where
-  pub left : (i : ℕ) → i < n → before-E6.short (leftDepth bed t n i) ≡ pos 0
-  pub right : (i : ℕ) → i < n → before-E6.short (rightDepth bed t n i) ≡ pos 0
 
 -- the water: the sum of the mean depths
 unfoldable pub total : (ℕ → ℤ) → ℕ → ℤ
