@@ -9,8 +9,11 @@ Where one of these has failed, nothing is written.  The last line is 'N passed, 
 when one failed.
 """
 
+import os
 import re
 import sys
+from concurrent.futures import ProcessPoolExecutor
+from functools import partial
 from pathlib import Path
 
 import bank
@@ -29,15 +32,23 @@ PAGE = DOCS / "VALIDATION.md"
 SECTIONS = dam_break, lake, bank, standing_wave, basin, bump, ditch, slope, dry_depth
 
 
-def made(command):
-    """Tables, pictures and figures, and a line for each section that stopped."""
+def worked(command, k):
+    """The tables, pictures and figures of section k, and a line where it stopped."""
+    try:
+        return (*SECTIONS[k].report(command), [])
+    except SystemExit as stop:
+        return {}, {}, {}, ["%s stopped: %s" % (SECTIONS[k].__name__, str(stop).strip())]
+
+
+def made(command, workers=ProcessPoolExecutor):
+    """Tables, pictures and figures of all sections, and a line for each that stopped; they are worked beside each other."""
     tables, pictures, figures, stopped = {}, {}, {}, []
-    for section in SECTIONS:
-        try:
-            for all_of, some in zip((tables, pictures, figures), section.report(command)):
-                all_of.update(some)
-        except SystemExit as stop:
-            stopped.append("%s stopped: %s" % (section.__name__, str(stop).strip()))
+    with workers(os.cpu_count()) as pool:
+        for some_tables, some_pictures, some_figures, stop in pool.map(partial(worked, command), range(len(SECTIONS))):
+            tables.update(some_tables)
+            pictures.update(some_pictures)
+            figures.update(some_figures)
+            stopped += stop
     return tables, pictures, figures, stopped
 
 

@@ -9,6 +9,7 @@ break no bound, each of the others at least one.  The last line is 'N passed, M 
 
 import subprocess
 import sys
+from concurrent.futures import ThreadPoolExecutor
 from pathlib import Path
 
 import bank
@@ -62,7 +63,8 @@ def program_of(compiler, k, edits):
 
 
 def remembered(step):
-    """The rule before E2 is not the library's and the same for all schemes; it is slow, so it is stepped once."""
+    """The rule before E2 is not the library's and the same for all schemes; it is slow, so it is stepped once, and the
+    sections are worked by threads, which share what it gave."""
     found = {}
 
     def answer(case, steps, every):
@@ -78,7 +80,7 @@ def main(words):
     bank.stepped_before_e2 = remembered(bank.stepped_before_e2)
     failed = 0
     for k, (name, edits) in enumerate(SCHEMES):
-        _, _, figures, stopped = report.made(program_of(words[0], k, edits))
+        _, _, figures, stopped = report.made(program_of(words[0], k, edits), ThreadPoolExecutor)
         broken = [line for line in bounds.broken(figures, bounds.BOUNDS) if not line.endswith("no figure")]
         print("%s: %d sections stopped, %d bounds broken in the others" % (name, len(stopped), len(broken)),
               *stopped, *broken, sep="\n    ", flush=True)
