@@ -6,6 +6,7 @@
   "`a` Reach.antt", is defined there.  On docs/RULES.md every name has to stand so, and a file without a folder
   is one of the rules'; elsewhere a short name may be that of several files, and one has to define it.
 - Each label (S7, R14) of docs/RULES.md and docs/DECISIONS.md is an entry of the latter.
+- Each name of C that README.md has, as BASSOONSUN_WALL or bassoonsun_step, is in the header.
 - An edit that stands with its crate, as in "`a`, `b` crates/rules", is in that crate's must-fail. Every edit says in
   its first line what it tries, and docs/PROMISES.md names it.
 - docs/RULES.md names every public definition of the files of WHOLE, the rules and what else it takes whole.
@@ -40,6 +41,7 @@ TOOLCHAINS = {"natAbs"}                             # stands in a row of names, 
 PATH = re.compile(r"(?<![\w./-])(?:crates|docs|tests|examples|include|bench|validation)/[\w./-]*\w")
 SHORT = re.compile(r"(?<![\w./-])(?:[\w-]+/)*\w+\.(?:antt|rt|py)\b")
 LABEL = re.compile(r"\b[FSRBL]\d+\b")
+NAME_OF_C = re.compile(r"\b(?:BASSOONSUN|bassoonsun)_\w+")
 NAMES = r"(`[^`\s]+`(?:(?:, | and )`[^`\s]+`)*)"
 CITED = re.compile(NAMES + r"(?:,| in)? ((?:[\w-]+/)*\w+\.antt)")
 EDITS = re.compile(NAMES + r" (crates/\w+)(?![\w/])")
@@ -120,6 +122,12 @@ def shorts(page):
 def labels(page):
     entries = re.findall(r"^\*\*(%s)\. " % LABEL.pattern, read(DECISIONS), re.M)
     return [(label in entries, "%s: %s is no entry of %s" % (page, label, DECISIONS)) for label in unique(LABEL.findall(read(page)))]
+
+
+def names_of_c():
+    """The names that the header has to have."""
+    header = set(NAME_OF_C.findall(read("include/bassoonsun.h")))
+    return [(name in header, "README.md: the header has no %s" % name) for name in unique(NAME_OF_C.findall(read("README.md")))]
 
 
 def parted(row):
@@ -221,6 +229,7 @@ def main():
         cases("%s: definitions with their file" % page, definitions(page))
     for page in (RULES, DECISIONS):
         cases("%s: labels" % page, labels(page))
+    cases("README.md: names of C", names_of_c())
     cases("%s: edits with their crate" % PROMISES, edits(PROMISES))
     cases("edits", told())
     case(not lonely(), "%s: without a file stand %s" % (RULES, ", ".join(lonely())))

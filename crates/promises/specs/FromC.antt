@@ -152,6 +152,13 @@ module _ (l : Lent) {r : ℕ} {old new vs vs′ : List ℤ} {ps ps′ : List ℕ
   pub lent-again : r ≡ 0 → (m : Lent) → m .now ≡ new → m .bed ≡ l .bed → cellsOf m ≡ cellsOf l → applies (checkFive m) ≡ false
   lent-again e m now bed cells = page.lent-again l said old new gave (over (λ k. k ≡ 0) e) m now bed cells
 
+  -- so no call that is lent it gives a 5
+  pub never-five : r ≡ 0 → (m : Lent) → m .now ≡ new → m .bed ≡ l .bed → cellsOf m ≡ cellsOf l → {r′ : ℕ} {old′ new′ us us′ : List ℤ}
+      {qs qs′ : List ℕ} → StepTold (stepOf m) r′ old′ new′ us us′ qs qs′ → r′ ≡ 5 → ⊥
+  never-five e m now bed cells {old′ = old′} {new′ = new′} h five =
+      page.never-five l said old new gave (over (λ k. k ≡ 0) e) m now bed cells (answer (stepOf m)) old′ new′
+      (record { says = refl; table = h .table }) (sym (h .number) ∙ five)
+
   -- a lake at rest into which no water is brought can, where what is lent passes 1 to 5, be refused by 7 alone
   pub lake-seven : Lake (l .bed) (l .now) (cellsOf l) → l .left .q ≡ 0 → l .right .q ≡ 0 → 5 < r → r ≡ 7
   lake-seven lake left right high =
