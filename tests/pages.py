@@ -8,7 +8,7 @@
 - Each label (S7, R14) of docs/RULES.md and docs/DECISIONS.md is an entry of the latter.
 - Each name of C that README.md has, as BASSOONSUN_WALL or bassoonsun_step, is in the header.
 - An edit that stands with its crate, as in "`a`, `b` crates/rules", is in that crate's must-fail. Every edit says in
-  its first line what it tries, and docs/PROMISES.md names it.
+  its first line what it tries, docs/PROMISES.md names it, and each text that it replaces stands in its file once.
 - docs/RULES.md names every public definition of the files of WHOLE, the rules and what else it takes whole.
   Its limits are those of Limits.antt, and its twelve rows of numbers those that Numbers.antt proves.
 - The files that docs/PROMISES.md lists as to be believed are those whose first line says so, and those that the
@@ -158,12 +158,29 @@ def edits(page):
     return [(there("%s/must-fail/%s.edit" % (crate, name)), "%s: %s has no edit %s" % (page, crate, name)) for name, crate in found]
 
 
+def amiss(path):
+    """The first text of an edit that does not stand in its file once, or none; its pairs are applied one after another."""
+    texts, file, old = {}, None, None
+    for line in read(path).splitlines():
+        if line.startswith("file: "):
+            file = path.split("must-fail/")[0] + line[6:]
+            texts.setdefault(file, read(file))
+        elif line.startswith("old: "):
+            old = line[5:]
+        elif line.startswith("new:"):
+            if texts[file].count(old) != 1:
+                return old
+            texts[file] = texts[file].replace(old, line[4:].removeprefix(" "))
+    return None
+
+
 def told():
     """Every edit that must fail, with a first line of its own and named on the page of promises."""
     named = set(parted(read(PROMISES)))
     files = [path for path in sorted(tree()) if re.match(r"crates/\w+/must-fail/.*\.edit$", path)]
     return ([(not re.match(r"(file|old|new):|$", read(path)), "%s does not say in its first line what it tries" % path) for path in files]
-            + [(os.path.basename(path)[:-5] in named, "%s: %s is not named" % (PROMISES, path)) for path in files])
+            + [(os.path.basename(path)[:-5] in named, "%s: %s is not named" % (PROMISES, path)) for path in files]
+            + [(not amiss(path), "%s: not once in its file: %s" % (path, amiss(path))) for path in files])
 
 
 # ---- The page of rules is whole
