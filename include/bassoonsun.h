@@ -113,10 +113,11 @@ static inline const char *bassoonsun_refusal_text(uint32_t refusal)
  *             hydrograph is a Q for each step
  *   right_q   the same at the right end
  *   volumes   what crossed face 0 and what crossed face n, rightward positive, as depth over one
- *             cell: volumes[0] came in at the left, volumes[1] went out at the right. At an end of
- *             kind 2 it is known before the step: volumes[0] is left_q*dt/dx, volumes[1] is
- *             -(right_q*dt/dx), both without their fractions. What is cut off does not come in: to
- *             lose little, choose dt so that Q*dt is a multiple of dx or just above one
+ *             cell: volumes[0] came in at the left, volumes[1] went out at the right. At a wall it
+ *             is 0, and at an open end within 131072 of nought. At an end of kind 2 it is known
+ *             before the step: volumes[0] is left_q*dt/dx, volumes[1] is -(right_q*dt/dx), both
+ *             without their fractions. What is cut off does not come in: to lose little, choose dt
+ *             so that Q*dt is a multiple of dx or just above one
  *   place     where a refused step was refused: see below. It is written by every call, with 0 when
  *             the step is accepted
  *

@@ -28,8 +28,8 @@ import re
 import sys
 
 import spoken
+from spoken import ROOT, there
 
-ROOT = os.path.join(os.path.dirname(os.path.abspath(__file__)), "..")
 RULES, PROMISES, DECISIONS = "docs/RULES.md", "docs/PROMISES.md", "docs/DECISIONS.md"
 PAGES = ("README.md", RULES, PROMISES, DECISIONS, "docs/VALIDATION.md")
 RULES_FILES = "crates/rules/specs/"
@@ -83,10 +83,6 @@ def tree():
         inner[:] = [name for name in inner if name not in (".git", "target", "__pycache__")]
         found += [os.path.relpath(os.path.join(folder, name), ROOT) for name in files]
     return found
-
-
-def there(path):
-    return os.path.exists(os.path.join(ROOT, path))
 
 
 @functools.lru_cache(None)

@@ -2,8 +2,8 @@
 
 The statements are the public laws of the pages PAGES, with the heads of the modules that they stand in, and what the
 public functions ensure. Of a law only what it states is followed, and of a definition all of it. A name is followed
-where the file's `use` lines say; names of the toolchain are not. A word that only sounds like an imported name is
-followed too, so the answer may have a file too many and has none too few.
+where the file's `use` lines say; names of the toolchain are not, nor what the source itself declares, its enums and
+records. A word that only sounds like an imported name is followed too, so the answer may have a file too many.
 """
 
 import functools

@@ -63,7 +63,7 @@ module _ (r : Reach) (law : Lawful (r .face)) (c : Call) (other : c .left .kind 
   unfolding carry half sideL rubbed rubbedCell hl h0 h1
   left-most s o a =
       let ok = a .early .fine in
-      let one = left-stage (rubbed r c s) ok (a .early .wet 0 o .left) (in-depth r s (a .now) 0 o .0) (a .early .brief 0 (omega arith)) in
+      let one = left-stage (rubbed r c s) ok (a .early .wet 0 o .left) (in-depth r s (a .now) 0 o) (a .early .brief 0 (omega arith)) in
       let two = left-stage (stageOne r c s) ok (wet-stageOne r law c s (a .early) 0 o .left)
-      (in-depth r (stageOne r c s) (a .one) 0 o .0) (a .brief 0 (omega arith)) in
+      (in-depth r (stageOne r c s) (a .one) 0 o) (a .brief 0 (omega arith)) in
       b-up 131072 (b-quot-by (pos 2) (b-add one two)) tt

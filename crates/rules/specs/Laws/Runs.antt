@@ -55,20 +55,18 @@ even-bed r e i l =
     let f : badBed z ≡ false = some-none (λ i. badBed (r .bed i)) (suc (r .n)) e i l in
     even-of z (eqb→eq (natAbs z % 2) 0 (held odd (not-f odd (or-r (outside (pos 0) highestBed z) (not odd) f))))
 
-pub in-range : (r : Reach) (s : State) → some (off r s) (r .n) ≡ false → Wet r s
+-- the depths that a state in range shows at the faces of a cell
+depths-in : (r : Reach) (s : State) → some (off r s) (r .n) ≡ false → (i : ℕ) → i < r .n → let b = under r i in let x = s i in
+    (outside (pos 0) deepest (hl b x) ≡ false) × (outside (pos 0) deepest (hr b x) ≡ false)
 unfolding off offCell
-in-range r s e i l =
-    let b = under r i in let x = s i in
-    let fails = none-at (cellTests b x) (some-none (off r s) (r .n) e i l) in
-    record { left = above-least (pos 0) deepest (hl b x) (fails 0); right = above-least (pos 0) deepest (hr b x) (fails 1) }
+depths-in r s e i l = let fails = none-at (cellTests (under r i) (s i)) (some-none (off r s) (r .n) e i l) in (fails 0, fails 1)
 
-pub in-depth : (r : Reach) (s : State) → some (off r s) (r .n) ≡ false → (i : ℕ) → i < r .n
-    → (hl (under r i) (s i) ≤ℤ deepest) × (hr (under r i) (s i) ≤ℤ deepest)
-unfolding off offCell
-in-depth r s e i l =
-    let b = under r i in let x = s i in
-    let fails = none-at (cellTests b x) (some-none (off r s) (r .n) e i l) in
-    (below-most (pos 0) deepest (hl b x) (fails 0), below-most (pos 0) deepest (hr b x) (fails 1))
+pub in-range : (r : Reach) (s : State) → some (off r s) (r .n) ≡ false → Wet r s
+in-range r s e i l = let b = under r i in let x = s i in let k = depths-in r s e i l in
+    record { left = above-least (pos 0) deepest (hl b x) (k .0); right = above-least (pos 0) deepest (hr b x) (k .1) }
+
+pub in-depth : (r : Reach) (s : State) → some (off r s) (r .n) ≡ false → (i : ℕ) → i < r .n → hl (under r i) (s i) ≤ℤ deepest
+in-depth r s e i l = below-most (pos 0) deepest (hl (under r i) (s i)) (depths-in r s e i l .0)
 
 brief : (r : Reach) (c : Call) (s : State) → some (tooLong r c s) (suc (r .n)) ≡ false → Brief r c s
 unfolding tooLong

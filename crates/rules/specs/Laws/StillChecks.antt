@@ -103,7 +103,7 @@ module _ (r : Reach) (law : Lawful (r .face)) (o : 0 < r .n) (c : Call) (shut : 
   one-same : Same r (stageOne r c s) s
   one-same = stageOne-rest r law ev o c shut jump≥0 s a
 
-  -- stage two starts from what stage one did, so its time step is long enough to be refused only where stage one's was
+  -- stage two starts from what stage one did, so its 7 applies where stage one's does, and nowhere else
   again : some (tooLong r c (stageOne r c s)) (suc (r .n)) ≡ some (tooLong r c (rubbed r c s)) (suc (r .n))
   again = some-same (tooLong r c (stageOne r c s)) (tooLong r c (rubbed r c s)) (suc (r .n))
       (tooLong-same r c (stageOne r c s) (rubbed r c s) (λ i l. one-same i l ∙ sym (rubbed-rest r ev s a law c shut i l)) o)
