@@ -4,7 +4,7 @@
  * of the C library but memcpy and memset. examples/leat.c shows its use, and
  * `bash examples/run` builds and runs that example; examples/fill.h fills a state from levels.
  *
- * UNITS. Whole numbers count 1/4096 of a metre, a second, m/s or m2/s: a level of 6144 is 1.5 m,
+ * UNITS. One unit is 1/4096 of a metre, of a second, of a m/s or of a m2/s: a level of 6144 is 1.5 m,
  * a time step of 204 is about 1/20 s. Discharge is for one metre of width, rightward positive.
  * The two functions on doubles take and give plain metres and seconds.
  *

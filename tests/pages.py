@@ -1,6 +1,7 @@
 """The pages held to the tree: what they cite is there, and docs/RULES.md leaves out none of the rules.
 
-- On README.md and the pages of docs/ each path from the root of the repository is there.
+- On README.md and the pages of docs/ each path from the root of the repository is there, and each single word that
+  is set as code stands somewhere in the tree beside the pages.
 - On docs/RULES.md, docs/PROMISES.md and docs/DECISIONS.md each short file name (Laws/Ends.antt, worked.rt)
   ends the path of some file, and a definition that stands with its file, as in "`a`, `b` in Reach.antt" or
   "`a` Reach.antt", is defined there.  On docs/RULES.md every name has to stand so, and a file without a folder
@@ -14,9 +15,9 @@
 - The files that docs/PROMISES.md lists as to be believed are those whose first line says so, and those that the
   promises and the contracts speak of (spoken.py).
 
-Not looked at: whether what a page says of a name is so; a name or an edit with no file or crate beside it, or
-with other words between; functions of code; links from one page to another.  docs/LANDINGS.md is left out, as
-it speaks of files that have gone.
+Not looked at: whether what a page says of a name is so; where a name stands that has no file or crate beside it, or
+other words between; links from one page to another.  docs/LANDINGS.md is left out, as it speaks of files that have
+gone.
 
 Prints a line for each fact that does not hold; the last line is 'N passed, M failed', and the exit status is 1
 when something failed.
@@ -37,6 +38,7 @@ WHOLE = re.compile(r"crates/(rules/specs/\w+|survey/specs/Turned|double/specs/(F
 BELIEVED = "## What has to be believed"
 PATTERNS = {"src/m.rt", "proofs/m/f/Proof.antt"}    # of PROMISES.md, for any module m and function f
 TOOLCHAINS = {"natAbs"}                             # stands in a row of names, but is the toolchain's
+LOGGED = {"logic-built", "libraries-built"}         # stand in the toolchain's log
 
 PATH = re.compile(r"(?<![\w./-])(?:crates|docs|tests|examples|include|bench|validation)/[\w./-]*\w")
 SHORT = re.compile(r"(?<![\w./-])(?:[\w-]+/)*\w+\.(?:antt|rt|py)\b")
@@ -44,6 +46,7 @@ LABEL = re.compile(r"\b[FSRBL]\d+\b")
 NAME_OF_C = re.compile(r"\b(?:BASSOONSUN|bassoonsun)_\w+")
 NAMES = r"(`[^`\s]+`(?:(?:, | and )`[^`\s]+`)*)"
 CITED = re.compile(NAMES + r"(?:,| in)? ((?:[\w-]+/)*\w+\.antt)")
+WORD = re.compile(r"`(\w[\w′-]*)`")
 EDITS = re.compile(NAMES + r" (crates/\w+)(?![\w/])")
 DEFINED = re.compile(r"^[ ]*(?:(?:abbrev|unfoldable|pub) )*(?:(?:record|data) (\S+)|(\S+) :)(?= |$)", re.M)
 PUBLIC = re.compile(r"^(?:(?:abbrev|unfoldable) )?pub (?:record |data )?(?!mod )(\S+)", re.M)
@@ -149,6 +152,20 @@ def definitions(page):
             for name, file in cited(page)]
 
 
+@functools.lru_cache(None)
+def words():
+    """Every word of the tree but for its pages, and every name of a file."""
+    texts = [read(path) for path in tree() if not path.endswith((".md", ".svg"))]
+    return {word for text in texts for word in re.findall(r"\w[\w′-]*", text)} | {
+        os.path.splitext(os.path.basename(path))[0] for path in tree()}
+
+
+def stale(page):
+    """Each word that is set as code; a name that has gone from the tree stands nowhere in it."""
+    return [(word in words(), "%s: `%s` is no word of the tree" % (page, word))
+            for word in unique(WORD.findall(read(page))) if word not in LOGGED]
+
+
 def edits(page):
     found = unique((name, crate) for row, crate in EDITS.findall(read(page)) for name in parted(row))
     return [(there("%s/must-fail/%s.edit" % (crate, name)), "%s: %s has no edit %s" % (page, crate, name)) for name, crate in found]
@@ -237,6 +254,7 @@ def believed():
 def main():
     for page in PAGES:
         cases("%s: files by their path" % page, paths(page))
+        cases("%s: words set as code" % page, stale(page))
     for page in (RULES, PROMISES, DECISIONS):
         cases("%s: files by a short name" % page, shorts(page))
         cases("%s: definitions with their file" % page, definitions(page))

@@ -33,7 +33,7 @@ def none_spared(cells, call):
 
 
 def E2():
-    """01 limits a marked cell whatever stands next to it: none is spared."""
+    """No cell is spared: a marked one is limited beside dry land too."""
     return replaced(spared=none_spared)
 
 

@@ -130,7 +130,7 @@ def face(hL, uL, hR, uR):
 
 
 def outer_side(kind, inner):
-    """ "same depth; speed reversed at a wall, the same at an open end" """
+    """As deep as the inner side; at a wall its speed is the opposite one, at an open end the same."""
     return Side(inner.h, -inner.u if kind == WALL else inner.u)
 
 
@@ -183,7 +183,7 @@ def depth_slope(cell, zl, zr):
 
 
 def in_range(cell, zl, zr):
-    """ "every face depth is 0 to 262,144 and every face discharge is within 8,388,608" """
+    """Both face depths from 0 to 262,144, both face discharges within 8,388,608 of nought."""
     h0, h1 = depth_mean(cell, zl, zr), depth_slope(cell, zl, zr)
     return (0 <= h0 - h1 <= DEEPEST and 0 <= h0 + h1 <= DEEPEST
             and within(cell.q0 - cell.q1, GREATEST_Q)
@@ -324,7 +324,7 @@ def spared(cells, call):
 
 
 def minmod(*values):
-    """ "the one nearest nought if all are above or all below nought, else 0" """
+    """Of numbers of one sign the one nearest nought; 0 where the signs differ or one is 0."""
     if all(v > 0 for v in values):
         return min(values)
     if all(v < 0 for v in values):

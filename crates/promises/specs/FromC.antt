@@ -23,8 +23,8 @@ use Rattle.step.specs.Gives.{code, placed, volumes, both, answer, Gives}
 use Rattle.step.specs.declared.Answer.{Answer}
 use Rattle.editor.specs.Told as told
 use Rattle.editor.specs.Told.{volumesOf, StepTold, FaceTold, DoubleTold, RootTold}
-use Rattle.promises.specs.Seen.{allChecks, checkFive, FirstMet, FirstMetAt, at, NoneBelow, Excess, stageTable, water, mostPassed}
-use Rattle.promises.specs.Seen.{brought, Lake}
+use Rattle.promises.specs.Seen.{allChecks, checkFive, FirstMet, FirstMetAt, at, discharge, dischargeSlope, meanDepth, NoneBelow, Excess}
+use Rattle.promises.specs.Seen.{stageTable, water, Listed, mostPassed, brought, Lake}
 use Rattle.promises.specs.Seen.{lending, Called, Calls, none, more, NoInflow, CalledFromC, CallsFromC, none-c, more-c, NoneComesIn}
 use Rattle.promises.specs.Promises as page
 
@@ -99,7 +99,7 @@ module _ (l : Lent) {r : ℕ} {old new vs vs′ : List ℤ} {ps ps′ : List ℕ
   refused-untouched some = let k = over (λ m. 0 < m) some in
       (page.refused-untouched l said old new gave k .0, g .crossed ∙ untouched (stepOf l) vs k)
 
-  -- the place is the lowest at which it is met, and 0 for a 1, for a 2 and when the call is accepted;
+  -- the place is the lowest at which it is met, 0 for a 1, for a 2 and when the call is accepted, and never past the last face;
   pub refused-at : length ps ≡ 1 → 0 < r → FirstMetAt r (getD ps′ 0 0) (allChecks l)
   refused-at one some = subst (λ (p : ℕ). FirstMetAt r p (allChecks l)) (sym (place-is one))
       (onto (λ k. FirstMetAt k (placed said) (allChecks l)) (page.refused-at l said old new gave (over (λ k. 0 < k) some)))
@@ -109,6 +109,9 @@ module _ (l : Lent) {r : ℕ} {old new vs vs′ : List ℤ} {ps ps′ : List ℕ
 
   pub refused-whole : length ps ≡ 1 → r ≤ 2 → getD ps′ 0 0 ≡ 0
   refused-whole one few = place-is one ∙ page.refused-whole l said old new gave (over (λ k. k ≤ 2) few)
+
+  pub refused-within : length ps ≡ 1 → getD ps′ 0 0 ≤ cellsOf l
+  refused-within one = subst (λ (p : ℕ). p ≤ cellsOf l) (sym (place-is one)) (page.refused-within l said old new gave)
 
   -- and accepted exactly when none is met
   pub accepted-clear : r ≡ 0 → Clear (allChecks l)
@@ -123,11 +126,20 @@ module _ (l : Lent) {r : ℕ} {old new vs vs′ : List ℤ} {ps ps′ : List ℕ
       let k = page.accepted-rules l said old new gave (over (λ m. m ≡ 0) e) in
       let v = volumes-are l g two e (crossed l 0) (crossed l (cellsOf l)) (k .1) in (k .0, v .0, v .1)
 
-  -- nothing crosses a wall, at an inflow Q·dt/dx comes in, and at a wall or an open end no more than 131,072 passes either way
+  -- the dry depth is each call's own: what an accepted one writes has no discharge where it is no deeper
+  pub shallow-calm : r ≡ 0 → (i : ℕ) → i < cellsOf l → meanDepth (l .bed) new (cellsOf l) i ≤ℤ pos (l .dry)
+      → (discharge new (cellsOf l) i ≡ pos 0) × (dischargeSlope new (cellsOf l) i ≡ pos 0)
+  shallow-calm e i m d = page.shallow-calm l said old new gave (over (λ k. k ≡ 0) e) i m d
+
+  -- the ends of an accepted call are in their lists; nothing crosses a wall, at an inflow Q·dt/dx comes in, and at a wall or an open end no
+  -- more than 131,072 passes either way
   module _ (two : length vs ≡ 2) (e : r ≡ 0) where
     pub wrote : volumes said ≡ both (at vs′ 0) (at vs′ 1)
     wrote = let k = accepted-rules two e in let w = sym (k .1) in let v = sym (k .2) in
         page.accepted-rules l said old new gave (over (λ m. m ≡ 0) e) .1 ∙ (λ i. both (w i) (v i))
+
+    pub ends-listed : Listed (l .left) × Listed (l .right)
+    ends-listed = page.ends-listed l said (at vs′ 0) (at vs′ 1) old new wrote gave
 
     pub left-wall : l .left .kind ≡ 0 → at vs′ 0 ≡ pos 0
     left-wall k = page.left-wall l said (at vs′ 0) (at vs′ 1) old new wrote gave k

@@ -1,5 +1,5 @@
 // The limits of the scope document, named once for the code; crates/rules/specs/Limits.antt names the
-// same numbers for the rules. Whole numbers count 1/4096 of a metre, second, m/s or m2/s.
+// same numbers for the rules. One unit is 1/4096 of a metre, of a second, of a m/s or of a m2/s.
 ghost use mathlib.Core.Path.{_≡_};
 ghost use Rattle.rules.specs.Refusals as rules;
 
