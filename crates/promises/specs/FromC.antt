@@ -23,8 +23,8 @@ use Rattle.step.specs.Gives.{code, placed, volumes, both, answer, Gives}
 use Rattle.step.specs.declared.Answer.{Answer}
 use Rattle.editor.specs.Told as told
 use Rattle.editor.specs.Told.{volumesOf, StepTold, FaceTold, DoubleTold, RootTold}
-use Rattle.promises.specs.Seen.{allChecks, checkFive, FirstMet, FirstMetAt, at, discharge, dischargeSlope, meanDepth, NoneBelow, Excess}
-use Rattle.promises.specs.Seen.{stageTable, water, Listed, mostPassed, brought, Lake}
+use Rattle.promises.specs.Seen.{allChecks, checkFive, FirstMet, FirstMetAt, at, discharge, dischargeSlope, meanDepth}
+use Rattle.promises.specs.Seen.{NoneBelow, Excess, stageTable, water, Listed, mostPassed, brought, Lake}
 use Rattle.promises.specs.Seen.{lending, Called, Calls, none, more, NoInflow, CalledFromC, CallsFromC, none-c, more-c, NoneComesIn}
 use Rattle.promises.specs.Promises as page
 
