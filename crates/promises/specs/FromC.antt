@@ -131,15 +131,16 @@ module _ (l : Lent) {r : ℕ} {old new vs vs′ : List ℤ} {ps ps′ : List ℕ
       → (discharge new (cellsOf l) i ≡ pos 0) × (dischargeSlope new (cellsOf l) i ≡ pos 0)
   shallow-calm e i m d = page.shallow-calm l said old new gave (over (λ k. k ≡ 0) e) i m d
 
-  -- the ends of an accepted call are in their lists; nothing crosses a wall, at an inflow Q·dt/dx comes in, and at a wall or an open end no
-  -- more than 131,072 passes either way
+  -- the ends of an accepted call are in their lists;
+  pub ends-listed : r ≡ 0 → Listed (l .left) × Listed (l .right)
+  ends-listed e = page.ends-listed l said (crossed l 0) (crossed l (cellsOf l)) old new
+      (page.accepted-rules l said old new gave (over (λ m. m ≡ 0) e) .1) gave
+
+  -- nothing crosses a wall, at an inflow Q·dt/dx comes in, and at a wall or an open end no more than 131,072 passes either way
   module _ (two : length vs ≡ 2) (e : r ≡ 0) where
     pub wrote : volumes said ≡ both (at vs′ 0) (at vs′ 1)
     wrote = let k = accepted-rules two e in let w = sym (k .1) in let v = sym (k .2) in
         page.accepted-rules l said old new gave (over (λ m. m ≡ 0) e) .1 ∙ (λ i. both (w i) (v i))
-
-    pub ends-listed : Listed (l .left) × Listed (l .right)
-    ends-listed = page.ends-listed l said (at vs′ 0) (at vs′ 1) old new wrote gave
 
     pub left-wall : l .left .kind ≡ 0 → at vs′ 0 ≡ pos 0
     left-wall k = page.left-wall l said (at vs′ 0) (at vs′ 1) old new wrote gave k

@@ -20,7 +20,7 @@ inflowKind = 2
 abbrev pub isInflow : End → Bool
 isInflow e = eqb (e .kind) inflowKind
 
--- the outer side of a wall or an open end: as deep as the inner one, and as fast, against it at a wall and with it at an open end
+-- the outer side of a wall or an open end is as deep as the inner one; its speed is the opposite one at a wall, the same one at an open end
 unfoldable pub outer : ℕ → Side → Side
 outer kind x = record { h = x .h; u = cond (eqb kind 0) (negℤ (x .u)) (x .u) }
 
