@@ -91,8 +91,8 @@ def step_answer(call, told):
 DRY_BEYOND = (m.LEAST_DRY - 1, m.MOST_DRY + 1, (1 << 32) - 1)
 
 # The longest reach; the longest that is worked on short tables, and the next.
-SHORT = 64
-LONG = {m.MOST_CELLS: ", longest reach", SHORT: ", 64 cells", SHORT + 1: ", 65 cells"}
+SHORT = hard.SHORT_CELLS
+LONG = {m.MOST_CELLS: ", longest reach", SHORT: ", longest on short tables", SHORT + 1: ", shortest on long tables"}
 
 
 def worked(call):
@@ -286,7 +286,8 @@ FACES = {
 PAIRS = ["accepted, ends %d %d" % pair for pair in hard.PAIRS]
 
 STEP_WAYS = {
-    "accepted": 4, "accepted, longest reach": 5000, "accepted, 64 cells": 1000, "accepted, 65 cells": 1000,
+    "accepted": 4, "accepted, longest reach": 5000, "accepted, longest on short tables": 1000,
+    "accepted, shortest on long tables": 1000,
     **CHECKS,
     **{"%s, %s" % (check, way): share for check, shares in PLACES.items() for way, share in zip(INDEX_WAYS, shares) if share},
     **FACES, "a place beyond a byte": 1000,

@@ -9,7 +9,7 @@
 #include <pthread.h>
 #include <stdio.h>
 
-enum { KIB = 1024, STACK = 512 * KIB, MOST_CELLS = BASSOONSUN_MOST_CELLS, SHORT_CELLS = 64, SHORT_MOST = 32 * KIB };
+enum { KIB = 1024, STACK = 512 * KIB, MOST_CELLS = BASSOONSUN_MOST_CELLS, SHORT_CELLS = 128, SHORT_MOST = 32 * KIB };
 #define PATTERN UINT64_C(0x9d3c51e7a6f08b42)
 
 static int32_t now[4 * MOST_CELLS], next[4 * MOST_CELLS], bed[MOST_CELLS + 1];

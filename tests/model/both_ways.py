@@ -30,7 +30,7 @@ class Run:
     """One bed and dx, stepped from both ends: each is lent what was written from that end, and adds up its own volumes."""
 
     def __init__(self, rnd):
-        self.bed, now = hard.run_reach(rnd, rnd.choice((1, 2, 3, 5, 16, rnd.choice((16, 64, 65)))))
+        self.bed, now = hard.run_reach(rnd, rnd.choice((1, 2, 3, 5, 16, rnd.choice((16, hard.SHORT_CELLS, hard.SHORT_CELLS + 1)))))
         self.dx = rnd.randint(1, 60000)
         self.states = [now, turned_table(now, len(self.bed) - 1)]
         self.volumes = [(0, 0), (0, 0)]

@@ -18,6 +18,7 @@ from math import gcd
 import model as m
 
 I32 = 2 ** 31
+SHORT_CELLS = 128       # the longest reach that the library works on short tables
 
 
 # ---- Indices
@@ -529,7 +530,7 @@ def number_of_cells(rnd):
     if rnd.randrange(400) == 0:
         return m.MOST_CELLS
     if rnd.randrange(100) == 0:
-        return rnd.choice((64, 65))     # the longest reach on short tables, and the shortest on long ones
+        return SHORT_CELLS + rnd.randrange(2)   # the longest reach on short tables, and the shortest on long ones
     return rnd.choice((1, 1, 1, 2, 2, 2, 3, 3, 3, 16, 16, rnd.randint(4, 12)))
 
 
@@ -550,7 +551,7 @@ def roughnesses(rnd, n):
 
 def far_call(rnd):
     """A long reach that nothing but a fault refuses, and that before stage one is over: so its place may be far along (E13)."""
-    n, dry = rnd.choice((65, 300, m.MOST_CELLS)), dry_depths(rnd)
+    n, dry = rnd.choice((SHORT_CELLS + 1, 300, m.MOST_CELLS)), dry_depths(rnd)
     bed, now = gentle(rnd, n, dry)
     c = dict(now=now, next_len=4 * n, bed=bed, friction=roughnesses(rnd, n), dx=m.UNIT, dt=1, jump=0, dry=dry,
              left=rnd.randrange(2), right=rnd.randrange(2), left_q=0, right_q=0)

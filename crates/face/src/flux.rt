@@ -1,6 +1,7 @@
 // What crosses a face between water of depth hl and speed ul on its left and depth hr and speed ur
-// on its right. A wave speed is the one root of a side: it is worked once and passed on. A depth
-// that has a wave speed is not below nought, so a depth of at most nought is none.
+// on its right. A wave speed is the one root of a side: it is worked once and passed on, and two
+// sides of equal depth share it. A depth that has a wave speed is not below nought, so a depth of at
+// most nought is none.
 use crate::answer::Carried;
 use crate::choice::greatest;
 use crate::choice::least;
@@ -8,12 +9,15 @@ use crate::limits::speed_fits;
 use reach::size::size;
 use speeds::answer::Whole;
 ghost use mathlib.Core.Path.{_≡_};
-ghost use mathlib.Core.Bool.{_&&_};
+ghost use mathlib.Core.Bool.{true, _&&_};
+ghost use lib.IntN.{pos};
+ghost use Rattle.whole.specs.Equal.{eqZ};
 ghost use Rattle.rules.specs.Limits.{deepest};
 ghost use Rattle.rules.specs.Face.{none, wave, mass, mixed, wet, alone, between, face};
 ghost use Rattle.rules.specs.Laws.Sizes.{Sound};
 ghost use Rattle.reach.specs.Ranges.{UpTo};
-ghost use Rattle.speeds.specs.Given.{given};
+ghost use Rattle.speeds.specs.Given.{given, depthFits, waveGiven};
+ghost use Rattle.speeds.specs.Answers.{valueOf};
 ghost use Rattle.face.specs.Given.{side, faceGiven};
 ghost use Rattle.face.specs.Answers.{flux};
 ghost use Rattle.face.specs.Sides.{Speeds, Edges, Apart, Mixable, uStarOf, aStarOf, leftOf, rightOf, topOf, pressureOf, wetOf};
@@ -152,16 +156,39 @@ fn both_dry(hl: i64, hr: i64) -> bool
     hl <= 0 && hr <= 0
 }
 
-// What crosses between two sides that are within the limits.
+// Is the water level and still: equal depths, and no speed on either side?
+fn still(hl: i64, ul: i64, hr: i64, ur: i64) -> bool
+    ensures { λ r. ⌜ r ≡ (eqZ hl hr && eqZ ul (pos 0) && eqZ ur (pos 0)) ⌝ }
+{
+    hl == hr && ul == 0 && ur == 0
+}
+
+// What crosses between two sides that are within the limits. In level and still water that is only
+// the pressure, and nothing is divided.
 fn carried(hl: i64, ul: i64, al: i64, hr: i64, ur: i64, ar: i64) -> Carried
     requires { ⌜ Sound (side hl ul) × Sound (side hr ur) ⌝ }
     requires { ⌜ (al ≡ wave hl) × (ar ≡ wave hr) ⌝ }
     ensures { λ r. ⌜ flux r ≡ given (face (side hl ul) (side hr ur)) ⌝ }
 {
+    if still(hl, ul, hr, ur) {
+        return Carried::Flux(0, hl * hl, 0, al);
+    }
     if both_dry(hl, hr) {
         return Carried::Flux(0, 0, 0, 0);
     }
     wet(hl, ul, al, hr, ur, ar)
+}
+
+// The wave speed of the right side, beside a left side of depth hl and wave speed al: equal depths
+// have one wave speed, and it is not worked again.
+fn wave_beside(hl: i64, al: i64, hr: i64) -> Whole
+    requires { ⌜ (depthFits hl ≡ true) × (al ≡ wave hl) ⌝ }
+    ensures { λ r. ⌜ valueOf r ≡ waveGiven hr ⌝ }
+{
+    if hl == hr {
+        return Whole::Is(al);
+    }
+    speeds::wave::wave(hr)
 }
 
 // What crosses the face. A dry side's speed must be within the limits too, and enters S; a depth
@@ -176,7 +203,7 @@ pub fn face(hl: i64, ul: i64, hr: i64, ur: i64) -> Carried
         return Carried::Refused;
     }
     match speeds::wave::wave(hl) {
-        Whole::Is(al) => match speeds::wave::wave(hr) {
+        Whole::Is(al) => match wave_beside(hl, al, hr) {
             Whole::Is(ar) => carried(hl, ul, al, hr, ur, ar),
             Whole::Refused => Carried::Refused,
         },

@@ -40,14 +40,17 @@ use Rattle.speeds.specs.Given.{speedGiven, waveGiven, cubeGiven}
 use Rattle.face.specs.Given.{faceGiven}
 use Rattle.face.specs.Answers.{flux}
 use Rattle.speeds.specs.Answers.{valueOf}
+use Rattle.digits.specs.Root.{DigitsSay}
 use Rattle.root.specs.Root.{RootIs}
 use Rattle.double.specs.Face.{FaceIs}
 use Rattle.speeds.specs.declared.answer.Whole.{Whole}
 use Rattle.face.specs.declared.answer.Carried.{Carried}
+use Rattle.digits.specs.declared.Rooted.{Rooted}
 use Rattle.root.specs.declared.RootAnswer.{RootAnswer}
 use Rattle.double.specs.declared.face.DoubleAnswer.{DoubleAnswer}
 use Rattle.speeds.proofs.Unique.{speed-unique, wave-unique, cube-unique}
 use Rattle.face.proofs.Unique.{face-unique}
+use Rattle.digits.proofs.Unique.{digits-unique}
 use Rattle.root.proofs.Unique.{root-unique}
 use Rattle.double.proofs.face.Unique as doubles
 use Rattle.reach.specs.declared.Reach.{Reach as ToldReach}
@@ -99,6 +102,9 @@ cube-one h a b x y = cube-unique h a b x y
 
 pub face-one : (l r : Side) (a b : Carried) → flux a ≡ faceGiven l r → flux b ≡ faceGiven l r → a ≡ b
 face-one l r a b x y = face-unique l r a b x y
+
+pub digits-one : (number noughts : ℕ) {a b : Rooted} → DigitsSay number noughts a → DigitsSay number noughts b → a ≡ b
+digits-one number noughts p q = digits-unique p q
 
 pub root-one : {x : Float} {a b : RootAnswer} → RootIs x a → RootIs x b → a ≡ b
 root-one p q = root-unique p q

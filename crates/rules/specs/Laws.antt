@@ -20,6 +20,7 @@ pub mod Within
 pub mod Positive
 pub mod Balance
 pub mod EvenBed
+pub mod Friction
 pub mod Rest
 pub mod Minmod
 pub mod Limiter

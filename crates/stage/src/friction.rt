@@ -10,11 +10,12 @@ use reach::bed::under;
 use reach::size::size;
 use speeds::answer::Whole;
 ghost use mathlib.Core.Path.{_≡_};
-ghost use mathlib.Core.Bool.{false};
+ghost use mathlib.Core.Bool.{false, _&&_};
 ghost use mathlib.Core.List.{[], _∷_};
 ghost use lib.ListN.{getD};
 ghost use lib.IntN.{pos};
 ghost use lib.Signed.{_≤ℤ_, _<ℤ_};
+ghost use Rattle.whole.specs.Equal.{eqZ};
 ghost use Rattle.tables.specs.Rows.{Filled};
 ghost use Rattle.tables.specs.Cells.{asCell, asList, seen};
 ghost use Rattle.rules.specs.Limits.{leastDry, deepest, fullest, fastest, roughest, longestStep};
@@ -82,7 +83,15 @@ fn slowed_cell(d: i64, x: Cell) -> Cell
     [x[0], x[1], slowed_by(d, x[2]), slowed_by(d, x[3])]
 }
 
-// A cell after friction of the Manning value f. Shallow cells keep what they have.
+// No discharge, in the mean or in the slope: friction has nothing to slow.
+fn calm(x: Cell) -> bool
+    ensures { λ r. ⌜ r ≡ (eqZ (asCell x .q0) (pos 0) && eqZ (asCell x .q1) (pos 0)) ⌝ }
+{
+    x[2] == 0 && x[3] == 0
+}
+
+// A cell after friction of the Manning value f. Shallow and calm cells keep what they have, with no root and
+// no division worked for them.
 fn rubbed_cell(call: Call, f: i64, b: Bed, x: Cell) -> Cell
     requires { ⌜ (pos 0 ≤ℤ call .dt) × UpTo longestStep (call .dt) ⌝ }
     requires { ⌜ (pos 0 ≤ℤ f) × UpTo roughest f ⌝ }
@@ -91,7 +100,7 @@ fn rubbed_cell(call: Call, f: i64, b: Bed, x: Cell) -> Cell
     ensures { λ r. ⌜ r ≡ asList (rubbedCell (call .dt) (call .dry) f (bedIn b) (asCell x)) ⌝ }
 {
     let h = depths(b, x);
-    if h[0] <= call.dry {
+    if h[0] <= call.dry || calm(x) {
         return x;
     }
     slowed_cell(strength(call, f, x[2], h[0]), x)

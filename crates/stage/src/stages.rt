@@ -4,7 +4,6 @@ use crate::faces::faces;
 use crate::found::Found;
 use crate::points::points;
 use crate::rows::FaceRow;
-use crate::rows::Sides;
 use crate::update::update;
 use reach::Call;
 use reach::Cell;
@@ -19,18 +18,18 @@ ghost use Rattle.stage.specs.Ranges.{Room, FaceRoom, Ranged};
 ghost use Rattle.stage.specs.Says.{foundIn, StageSays};
 
 // A stage from the state t: a 6 or a 7 with its place where it may not go on, else 0, with the rows of its
-// faces in f and the unfinished state in u. The sides and the momenta of its cells go into d and g.
+// faces in f and the unfinished state in u. The momenta of its cells go into g. Their sides stand in u
+// until the faces are worked, so that each call clears a table less.
 pub fn stage(
     t: &[Cell],
     bed: &[i32],
     reach: Reach,
     call: Call,
-    d: &mut [Sides],
     g: &mut [i64],
     f: &mut [FaceRow],
     u: &mut [Cell],
 ) -> Found
-    requires { ⌜ (0 < reach .n) × (reach .n ≤ mostCells) × Room reach (now t) × Room reach (now d) × Room reach (now g) ⌝ }
+    requires { ⌜ (0 < reach .n) × (reach .n ≤ mostCells) × Room reach (now t) × Room reach (now g) ⌝ }
     requires { ⌜ FaceRoom reach (now f) × Room reach (now u) ⌝ }
     requires { ⌜ Numbers reach call ⌝ }
     requires { ⌜ Ranged (now bed) (reach .n) (seen (now t)) ⌝ }
@@ -39,7 +38,7 @@ pub fn stage(
         (now (f .exit)) (now (u .exit))) ⌝ }
 {
     let n = reach.n;
-    let fast = face_speeds(t, bed, reach, call, d);
+    let fast = face_speeds(t, bed, reach, call, u);
     if fast <= n {
         return Found { no: 6, place: fast };
     }
@@ -47,7 +46,7 @@ pub fn stage(
     if cell < n {
         return Found { no: 6, place: cell };
     }
-    let long = faces(d, reach, call, f);
+    let long = faces(u, reach, call, f);
     if long <= n {
         return Found { no: 7, place: long };
     }

@@ -13,7 +13,6 @@ use crate::joining::join;
 use crate::lent::load;
 use crate::lent::widened;
 use crate::rows::FaceRow;
-use crate::rows::Sides;
 use crate::stages::stage;
 use crate::store::store;
 use reach::Call;
@@ -32,9 +31,9 @@ ghost use Rattle.stage.specs.Ranges.{InOrder, Room, FaceRoom, Ranged, Fa
 ghost use Rattle.stage.specs.Says.{foundIn, readyChecks, OneSays, TwoSays, BothSay};
 ghost use Rattle.stage.specs.Worked.{TablesSay, lentBy, WorkedSays};
 
-// A reach of at most so many cells is worked on short tables: they take a sixteenth of the room, and
-// clearing them a sixteenth of the time.
-const SHORT_CELLS: usize = 64;
+// A reach of at most so many cells is worked on short tables: they take an eighth of the room of the long
+// ones, and clearing them an eighth of the time.
+const SHORT_CELLS: usize = 128;
 
 const SHORT_FACES: usize = SHORT_CELLS + 1;
 
@@ -73,25 +72,23 @@ fn ready(t: &[Cell], bed: &[i32], friction: &[u16], reach: Reach, call: Call) ->
 }
 
 // Stage one from the state a after friction, finished, into b, with its faces in f. Of the tables that
-// a stage works on, d has the sides, g the momenta and u the unfinished state.
+// a stage works on, g has the momenta, and u the sides and then the unfinished state.
 fn stage_one(
     a: &[Cell],
     bed: &[i32],
     reach: Reach,
     call: Call,
-    d: &mut [Sides],
     g: &mut [i64],
     f: &mut [FaceRow],
     u: &mut [Cell],
     b: &mut [Cell],
 ) -> Found
     requires { ⌜ InOrder reach call (now bed) ⌝ }
-    requires { ⌜ Room reach (now a) × Room reach (now d) × Room reach (now g) × FaceRoom reach (now f)
-        × Room reach (now u) × Room reach (now b) ⌝ }
+    requires { ⌜ Room reach (now a) × Room reach (now g) × FaceRoom reach (now f) × Room reach (now u) × Room reach (now b) ⌝ }
     requires { ⌜ Ranged (now bed) (reach .n) (seen (now a)) ⌝ }
     ensures { λ k. ⌜ OneSays reach call (now (bed .entry)) (now (a .entry)) (foundIn k) (now (f .exit)) (now (b .exit)) ⌝ }
 {
-    let k = stage(a, bed, reach, call, d, g, f, u);
+    let k = stage(a, bed, reach, call, g, f, u);
     if k.no != 0 {
         return k;
     }
@@ -105,21 +102,20 @@ fn stage_two(
     bed: &[i32],
     reach: Reach,
     call: Call,
-    d: &mut [Sides],
     g: &mut [i64],
     h: &mut [FaceRow],
     u: &mut [Cell],
     b: &mut [Cell],
 ) -> Found
     requires { ⌜ InOrder reach call (now bed) ⌝ }
-    requires { ⌜ Room reach (now a) × Room reach (now d) × Room reach (now g) × Room reach (now u) × Room reach (now b) ⌝ }
+    requires { ⌜ Room reach (now a) × Room reach (now g) × Room reach (now u) × Room reach (now b) ⌝ }
     requires { ⌜ FaceRoom reach (now f) × FaceRoom reach (now h) ⌝ }
     requires { ⌜ Ranged (now bed) (reach .n) (seen (now a)) × Ranged (now bed) (reach .n) (seen (now b)) ⌝ }
     requires { ⌜ FaceRows (now f) (reach .n) ⌝ }
     ensures { λ k. ⌜ TwoSays reach call (now (bed .entry)) (now (a .entry)) (now (f .entry)) (now (b .entry))
         (foundIn k) (now (h .exit)) (now (b .exit)) ⌝ }
 {
-    let k = stage(b, bed, reach, call, d, g, h, u);
+    let k = stage(b, bed, reach, call, g, h, u);
     if k.no != 0 {
         return k;
     }
@@ -133,7 +129,6 @@ fn both_stages(
     bed: &[i32],
     reach: Reach,
     call: Call,
-    d: &mut [Sides],
     g: &mut [i64],
     f: &mut [FaceRow],
     h: &mut [FaceRow],
@@ -141,17 +136,17 @@ fn both_stages(
     b: &mut [Cell],
 ) -> Found
     requires { ⌜ InOrder reach call (now bed) ⌝ }
-    requires { ⌜ Room reach (now a) × Room reach (now d) × Room reach (now g) × Room reach (now u) × Room reach (now b) ⌝ }
+    requires { ⌜ Room reach (now a) × Room reach (now g) × Room reach (now u) × Room reach (now b) ⌝ }
     requires { ⌜ FaceRoom reach (now f) × FaceRoom reach (now h) ⌝ }
     requires { ⌜ Ranged (now bed) (reach .n) (seen (now a)) ⌝ }
     ensures { λ k. ⌜ BothSay reach call (now (bed .entry)) (now (a .entry)) (foundIn k)
         (now (f .exit)) (now (h .exit)) (now (b .exit)) ⌝ }
 {
-    let k = stage_one(a, bed, reach, call, d, g, f, u, b);
+    let k = stage_one(a, bed, reach, call, g, f, u, b);
     if k.no != 0 {
         return k;
     }
-    stage_two(a, f, bed, reach, call, d, g, h, u, b)
+    stage_two(a, f, bed, reach, call, g, h, u, b)
 }
 
 // The step of a reach and a call that are in order, on the tables lent for it: a has the lent state and
@@ -164,7 +159,6 @@ fn on_tables(
     reach: Reach,
     call: Call,
     a: &mut [Cell],
-    d: &mut [Sides],
     g: &mut [i64],
     f: &mut [FaceRow],
     h: &mut [FaceRow],
@@ -173,7 +167,7 @@ fn on_tables(
 ) -> Worked
     requires { ⌜ InOrder reach call (now bed) × (length (now state) ≡ 4 * reach .n)
         × (length (now next) ≡ 4 * reach .n) × (length (now friction) ≡ reach .n) ⌝ }
-    requires { ⌜ Room reach (now a) × Room reach (now d) × Room reach (now g) × Room reach (now u) × Room reach (now b) ⌝ }
+    requires { ⌜ Room reach (now a) × Room reach (now g) × Room reach (now u) × Room reach (now b) ⌝ }
     requires { ⌜ FaceRoom reach (now f) × FaceRoom reach (now h) ⌝ }
     ensures { λ r. ⌜ TablesSay reach call (now (bed .entry)) (now (friction .entry)) (now (state .entry))
         r (now (next .entry)) (now (next .exit)) ⌝ }
@@ -184,7 +178,7 @@ fn on_tables(
         return Worked::Refused(k.no, k.place);
     }
     rub(a, bed, friction, reach, call);
-    let m = both_stages(a, bed, reach, call, d, g, f, h, u, b);
+    let m = both_stages(a, bed, reach, call, g, f, h, u, b);
     if m.no != 0 {
         return Worked::Refused(m.no, m.place);
     }
@@ -212,7 +206,6 @@ fn short_step(
         return long_step(state, next, bed, friction, reach, call);
     }
     let mut a = [[0i64; 4]; SHORT_CELLS];
-    let mut d = [[0i64; 4]; SHORT_CELLS];
     let mut g = [0i64; SHORT_CELLS];
     let mut f = [[0i64; 4]; SHORT_FACES];
     let mut h = [[0i64; 4]; SHORT_FACES];
@@ -226,7 +219,6 @@ fn short_step(
         reach,
         call,
         &mut a,
-        &mut d,
         &mut g,
         &mut f,
         &mut h,
@@ -250,7 +242,6 @@ fn long_step(
         r (now (next .entry)) (now (next .exit)) ⌝ }
 {
     let mut a = [[0i64; 4]; CELLS];
-    let mut d = [[0i64; 4]; CELLS];
     let mut g = [0i64; CELLS];
     let mut f = [[0i64; 4]; FACES];
     let mut h = [[0i64; 4]; FACES];
@@ -264,7 +255,6 @@ fn long_step(
         reach,
         call,
         &mut a,
-        &mut d,
         &mut g,
         &mut f,
         &mut h,

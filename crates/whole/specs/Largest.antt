@@ -1,4 +1,4 @@
--- To be believed: `bits` and `largest`.
+-- To be believed: `bits`, `largest` and `IsLargest`.
 -- The largest number that passes a test, found a bit at a time.
 -- Assumes nothing.
 use mathlib.Core.Path.{_≡_, refl, sym, subst}

@@ -9,4 +9,5 @@ pub mod Choice
 pub mod Largest
 pub mod Root
 pub mod Machine
+pub mod Equal
 pub mod Signs

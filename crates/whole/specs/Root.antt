@@ -1,5 +1,4 @@
--- Newton's turns toward a root: a turn from x goes to the mean of x and y / x, rounded down, or, toward a cube root, to
--- the mean of x, x and y / x².
+-- Newton's turns toward a cube root: a turn from x goes to the mean of x, x and y / x², rounded down.
 -- Assumes nothing.
 use Prim.Native.Nat.{ℕ, _+_, _*_, _/_, _≤_, _<_}
 use native.Mathlib.Nat as NatL
@@ -14,15 +13,6 @@ four-products a b = go (decLe a b)
     go : Dec (a ≤ b) → 4 * (a * b) ≤ (a + b) * (a + b)
     go (yes h) = omega (arith, cross h h)
     go (no h) = let g : b ≤ a = omega arith in omega (arith, cross g g)
-
--- wherever a turn starts, it ends at the whole root or above: the next number has a square above y
-pub turn-above : (y x : ℕ) → 0 < x → y < ((x + y / x) / 2 + 1) * ((x + y / x) / 2 + 1)
-turn-above y x p =
-    let q = y / x in
-    let m = (x + q) / 2 in
-    let below : y < x * (q + 1) = NatL.lt-mul-div-succ y p in
-    let next : x + (q + 1) ≤ 2 * (m + 1) = omega arith in
-    omega (arith, below, four-products x (q + 1), NatL.mul-le-mul next next)
 
 -- 27 times a product of three numbers, two of them the same, is at most the cube of their sum: it is less by the square
 -- of t - x, times t + 8·x

@@ -2,7 +2,7 @@
 -- Who is spared by it stands in Limiter.
 -- Assumes nothing.
 use mathlib.Core.Path.{_≡_, _∙_, ap}
-use mathlib.Core.Bool.{true, false}
+use mathlib.Core.Bool.{false}
 use Prim.Native.Nat.{ℕ}
 use native.Mathlib.Omega.{arith}
 use lib.IntN.{ℤ, pos, _+ℤ_, _-ℤ_, _*ℤ_}
@@ -13,23 +13,13 @@ use Rattle.whole.specs.Choice.{sizeZ}
 use Rattle.whole.specs.Tests.{yes-le}
 use Rattle.tables.specs.Cells.{Cell}
 use Rattle.rules.specs.Face.{speed}
-use Rattle.rules.specs.Friction.{drag, slowed}
-use Rattle.rules.specs.Reach.{Reach, Call, State, Bed, under, h0, hl, hr, shallow, sideL, sideR}
+use Rattle.rules.specs.Reach.{Reach, Call, State, Bed, under, h0, hl, hr, sideL, sideR}
 use Rattle.rules.specs.Stage.{atLeft, atRight, faceRight, faceAt, depthBefore, depthBehind, carried, gauss, tilt, update, stage}
 use Rattle.rules.specs.Finishing.{limit, cut, dried, finish}
-use Rattle.rules.specs.Step.{rub, rubbedCell, rubbed}
+use Rattle.rules.specs.Step.{rubbed}
 use Rattle.rules.specs.Refusals.{fastCell, fastFriction, fastPoints, fastGauss}
 use Rattle.rules.specs.Laws.Speeds.{speed-dry}
-
--- ---- friction on a cell, by the outcome of the test
-pub rub-dry : (dt d f : ℤ) (b : Bed) (x : Cell) (q : ℤ) → shallow d b x ≡ true → rub dt d f b x q ≡ q
-unfolding rub
-rub-dry dt d f b x q e = rw e
-
-pub rub-wet : (dt d f : ℤ) (b : Bed) (x : Cell) (q : ℤ) → shallow d b x ≡ false
-    → rub dt d f b x q ≡ slowed (drag dt f (h0 b x) (speed d (x .q0) (h0 b x))) q
-unfolding rub
-rub-wet dt d f b x q e = rw e
+use Rattle.rules.specs.Laws.Friction.{rubbed-dry}
 
 -- ---- no speed, and so no momentum
 still : (d q h : ℤ) → h ≤ℤ d → speed d q h ≡ pos 0
@@ -78,10 +68,8 @@ module _ (r : Reach) (c : Call) (s : State) (i : ℕ) where
     friction-checks-none = rw (still (c .dry) (x .q0) (h0 b x) shallows)
 
     pub friction-leaves : rubbed r c s i ≡ x
-    unfolding rubbed rubbedCell
-    friction-leaves = let e = yes-le (h0 b x) (c .dry) shallows in
-        let kept : (q : ℤ) → rub (c .dt) (c .dry) (c .rough i) b x q ≡ q = λ q. rub-dry (c .dt) (c .dry) (c .rough i) b x q e in
-        λ k. record { e0 = x .e0; e1 = x .e1; q0 = kept (x .q0) k; q1 = kept (x .q1) k }
+    unfolding rubbed
+    friction-leaves = rubbed-dry (c .dt) (c .dry) (c .rough i) b x (yes-le (h0 b x) (c .dry) shallows)
 
   -- and a finished cell no deeper has no discharge
   pub finished-calm : h0 b (finish r c s i) ≤ℤ c .dry → (finish r c s i .q0 ≡ pos 0) × (finish r c s i .q1 ≡ pos 0)

@@ -24,14 +24,14 @@ use Rattle.rules.specs.Shown.{volume}
 use Rattle.rules.specs.Stage.{atLeft, atRight, shown, faceRight, faceAt, share}
 use Rattle.rules.specs.Stage.{depthBefore, depthBehind, carried, gauss, push, tilt, update, stage}
 use Rattle.rules.specs.Finishing.{parted, marked, isLimited, limit, beyond, clipped, cut, dried, finish}
-use Rattle.rules.specs.Friction.{drag, slowed}
-use Rattle.rules.specs.Step.{rub, rubbedCell, rubbed, stageOne, half, carry, joinedCell, joined, next}
+use Rattle.rules.specs.Step.{rubbed, stageOne, half, carry, joinedCell, joined, next}
 use Rattle.rules.specs.AtRest.{Dry, Flat, Calm, AtRest}
 use Rattle.rules.specs.Laws.Speeds.{speed-none}
 use Rattle.rules.specs.Laws.Agree.{Same}
 use Rattle.rules.specs.Laws.Shown.{inside, none-volume, QuietRow, quiet-left, quiet-right, none-crosses}
 use Rattle.rules.specs.Laws.Ends.{left-end-still, right-end-still}
 use Rattle.rules.specs.Laws.EvenBed.{EvenBed, hl-is, hr-is}
+use Rattle.rules.specs.Laws.Friction.{rubbed-calm}
 use Rattle.rules.specs.Laws.Balance.{half-same}
 use Rattle.rules.specs.Laws.Positive.{Nonneg}
 
@@ -227,19 +227,9 @@ module _ (r : Reach) (ev : EvenBed r) (s : State) (a : AtRest r s) where
         (cond-same (beyond m d) (pos 0) (x .q1) (x .q1) (sym (w .q1)) refl)))
 
     -- ---- friction
-    slowed-none : (x : ℤ) → slowed x (pos 0) ≡ pos 0
-    unfolding slowed
-    slowed-none x = quot-none (pos 0 *ℤ (pos 65536 +ℤ x)) (pos 65536 +ℤ pos 2 *ℤ x) (none-times (pos 65536 +ℤ x))
-
-    rub-none : (i : ℕ) (x : Cell) (q : ℤ) → q ≡ pos 0 → rub (c .dt) (c .dry) (c .rough i) (under r i) x q ≡ q
-    unfolding rub
-    rub-none i x q e = let b = under r i in let d = drag (c .dt) (c .rough i) (h0 b x) (speed (c .dry) (x .q0) (h0 b x)) in
-        cond-same (leZ (h0 b x) (c .dry)) q (slowed d q) q refl (ap (slowed d) e ∙ slowed-none d ∙ sym e)
-
     pub rubbed-rest : Same r (rubbed r c s) s
-    unfolding rubbed rubbedCell
-    rubbed-rest i l = cell-is (rubbed r c s i) (s i) refl refl (rub-none i (s i) (s i .q0) (a .calm i l .q0))
-        (rub-none i (s i) (s i .q1) (a .calm i l .q1))
+    unfolding rubbed
+    rubbed-rest i l = rubbed-calm _ _ _ _ (s i) (a .calm i l)
 
     pub face-none : 0 < r .n → (i : ℕ) → i < suc (r .n) → volume (r .dx) (c .dt) (faceAt r c s i) ≡ pos 0
     face-none = none-crosses (shown r c s) lefts rights quiet (r .dx) (c .dt)

@@ -55,46 +55,50 @@ module _ (c : tie.After-wave) where
   hl-asked : valueOf (c .wave .result) ≡ waveGiven (from .args .hl)
   hl-asked = simp (toZ-ofZ, from .fits .hl) at (c .wave .ensures)
 
-wave-requires-2 : tie.Need-wave-requires-2
-wave-requires-2 c κs = search needs
+module _ (c : tie.After-known-told) where
+  abbrev first : tie.After-wave
+  first = c .before .before .before
+
+  al-told : (depthFits (from first .args .hl) ≡ true) × (c .before .al .given .0 .0 ≡ wave (from first .args .hl))
+  al-told = wave-told (first .wave .result) (from first .args .hl) _ (c .before .al .given .1) (hl-asked first)
+
+wave-beside-requires : tie.Need-wave-beside-requires
+wave-beside-requires c κs = rw (toZ-ofZ (from (first c) .fits .hl)) (al-told c .0, back64 (c .known-told .given .0 .1) (al-told c .1))
 
 enum-known-ar : tie.Need-enum-known-ar
 enum-known-ar c = search needs
 
 -- ---- and a right one
-module _ (c : tie.After-wave2) where
-  abbrev first : tie.After-wave
-  first = c .before .before .before .before
-
-  hr-asked : valueOf (c .wave2 .result) ≡ waveGiven (from first .args .hr)
-  hr-asked = simp (toZ-ofZ, from first .fits .hr) at (c .wave2 .ensures)
+module _ (c : tie.After-wave-beside) where
+  hr-asked : valueOf (c .wave-beside .result) ≡ waveGiven (from (first (c .before)) .args .hr)
+  hr-asked = simp (toZ-ofZ, from (first (c .before)) .fits .hr) at (c .wave-beside .ensures)
 
 -- ---- so both sides are within the limits
 module _ (c : tie.After-known-told2) where
-  abbrev second : tie.After-wave2
+  abbrev second : tie.After-wave-beside
   second = c .before .before .before
 
-  abbrev start : tie.Start
-  start = from (first second)
+  abbrev left : tie.After-known-told
+  left = second .before
 
-  al-told : (depthFits (start .args .hl) ≡ true) × (c .before .before .before .before .before .al .given .0 .0 ≡ wave (start .args .hl))
-  al-told = wave-told (first second .wave .result) (start .args .hl) _ (second .before .before .al .given .1) (hl-asked (first second))
+  abbrev start : tie.Start
+  start = from (first left)
 
   ar-told : (depthFits (start .args .hr) ≡ true) × (c .before .ar .given .0 .0 ≡ wave (start .args .hr))
-  ar-told = wave-told (second .wave2 .result) (start .args .hr) _ (c .before .ar .given .1) (hr-asked second)
+  ar-told = wave-told (second .wave-beside .result) (start .args .hr) _ (c .before .ar .given .1) (hr-asked second)
 
   l-sound : Sound (side (start .args .hl) (start .args .ul))
-  l-sound = side-in (side _ _) (fitting (side _ _) (al-told .0) (ul-fits (first second .before .before .before)))
+  l-sound = side-in (side _ _) (fitting (side _ _) (al-told left .0) (ul-fits (first left .before .before .before)))
 
   r-sound : Sound (side (start .args .hr) (start .args .ur))
-  r-sound = side-in (side _ _) (fitting (side _ _) (ar-told .0) (ur-fits (first second .before)))
+  r-sound = side-in (side _ _) (fitting (side _ _) (ar-told .0) (ur-fits (first left .before)))
 
 carried-requires : tie.Need-carried-requires
 carried-requires c κs =
     let s = start c in
     rw (toZ-ofZ (s .fits .hl), toZ-ofZ (s .fits .ul), toZ-ofZ (s .fits .hr), toZ-ofZ (s .fits .ur)) (
       (l-sound c, r-sound c),
-      (back64 (second c .before .known-told .given .0 .1) (al-told c .1), back64 (c .known-told2 .given .0 .1) (ar-told c .1)),
+      (back64 (left c .known-told .given .0 .1) (al-told (left c) .1), back64 (c .known-told2 .given .0 .1) (ar-told c .1)),
     )
 
 enum-told : tie.Need-enum-told
@@ -113,7 +117,7 @@ returns-4 : tie.Need-returns-4
 unfolding flux
 returns-4 c =
     let a = c .before .before in
-    right-refused _ _ (too-deep (side _ _) (wave-untold (a .wave2 .result) _ (c .enum-told .given .1) (hr-asked a)))
+    right-refused _ _ (too-deep (side _ _) (wave-untold (a .wave-beside .result) _ (c .enum-told .given .1) (hr-asked a)))
 
 returns-5 : tie.Need-returns-5
 unfolding flux
@@ -131,7 +135,7 @@ face-spec =
     returns-2
     wave-requires
     enum-known-al
-    wave-requires-2
+    wave-beside-requires
     enum-known-ar
     carried-requires
     enum-told

@@ -27,7 +27,7 @@ module _ (w : tie.After-face-speeds) where
   abbrev start : tie.Start
   start = w .before .before
 
-  -- the table of the sides
+  -- the table of the sides, which is to hold the unfinished state
   abbrev d : List (List ℤ)
   d = let tables = w .face-speeds .last .1 .1 .1 in tables .1 .0
 
@@ -121,7 +121,7 @@ update-requires : tie.Need-update-requires
 update-requires c κs =
     let t = c .before .before .before in let h = passed t in let p = slowed h in
     let s = begun h in let a = s .args in let given = s .pre .1 .1 in (
-      (omega arith, omega arith, omega arith, omega arith),
+      (omega arith, omega arith, omega arith, room (worked (first h))),
       (
         given .1,
         (
@@ -150,5 +150,5 @@ stage-spec =
     (λ c. search needs) (λ c. search needs) (λ c. search needs)
     returns-3
     update-requires
-    (λ c. search needs) (λ c. search needs) (λ c. search needs) (λ c. search needs)
+    (λ c. search needs) (λ c. search needs) (λ c. search needs)
     returns-4)

@@ -6,10 +6,10 @@ use Rattle.stage.proofs.worked.long_step.Tie as tie
 
 on-tables-requires : tie.Need-on-tables-requires
 on-tables-requires c κs =
-    let s = c .before .before .before .before .before .before .before .before .before in let w = s .pre .0 .most in (
+    let s = c .before .before .before .before .before .before .before .before in let w = s .pre .0 .most in (
       s .pre,
       (
-        (omega (arith, w), omega (arith, w), omega (arith, w), omega (arith, w), omega (arith, w)),
+        (omega (arith, w), omega (arith, w), omega (arith, w), omega (arith, w)),
         (omega (arith, w), omega (arith, w)),
       ),
     )
@@ -19,7 +19,6 @@ long-step-spec =
     tie.close
     (tie.spec
     (λ c. search needs) (λ c. search needs) (λ c. search needs) (λ c. search needs) (λ c. search needs) (λ c. search needs)
-    (λ c. search needs)
     on-tables-requires
     (λ c. search needs)
     (λ c. search needs))

@@ -52,11 +52,11 @@ module _ (t : tie.After-rub) where
 
 both-stages-requires : tie.Need-both-stages-requires
 both-stages-requires c κs =
-    let t = c .before .before .before .before .before .before .before .before in let w = checked t in
+    let t = c .before .before .before .before .before .before .before in let w = checked t in
     let b = s w in let given = b .pre .0 .0 .numbers in (
       b .pre .0 .0,
       (
-        (omega arith, omega arith, omega arith, omega arith, omega arith),
+        (omega arith, omega arith, omega arith, omega arith),
         (
           (omega arith, omega arith),
           rubbed-ranged (lent w) (passed t .if1 .left) (t .rub .ensures) (given .dt-pos) (given .dry .least),
@@ -67,7 +67,7 @@ both-stages-requires c κs =
 -- ---- both stages
 module _ (m : tie.After-both-stages) where
   abbrev rubbed : tie.After-rub
-  rubbed = m .before .before .before .before .before .before .before .before .before
+  rubbed = m .before .before .before .before .before .before .before .before
 
   abbrev start : tie.Start
   start = s (checked rubbed)
@@ -86,19 +86,19 @@ module _ (m : tie.After-both-stages) where
   state = cellIn (start .args .reach .n) (now (start .args .state))
 
   -- of the tables that both stages are lent, those of the faces and of the end state
-  both : let tables = m .both-stages .last .1 .1 .1 in let faces = tables .1 .1 .1 in let end = faces .1 .1 .1 in
+  both : let tables = m .both-stages .last .1 .1 .1 in let faces = tables .1 .1 in let end = faces .1 .1 .1 in
       StepSays reach call state (foundIn (m .both-stages .result)) (faces .0) (faces .1 .0) (end .0)
   both = m .both-stages .ensures rough state (rubbed-shown (lent (checked rubbed)) (passed rubbed .if1 .left) (rubbed .rub .ensures))
 
 returns-2 : tie.Need-returns-2
 returns-2 c =
-    let m = c .before .before .before .before .before .before .before .before in let t = rubbed m in
+    let m = c .before .before .before .before .before .before .before in let t = rubbed m in
     both-stops (lent (checked t)) (passed t .if1 .left) (start m .pre .0 .0 .some) (both m) (c .if2 .taken) _
 
 -- ---- what is stored
 module _ (e : tie.Else2) where
   abbrev made : tie.After-both-stages
-  made = e .before .before .before .before .before .before .before .before
+  made = e .before .before .before .before .before .before .before
 
 store-requires : tie.Need-store-requires
 store-requires c κs = let e = c .before .before in let m = made e in let t = rubbed m in let o = start m .pre .0 in (
@@ -149,14 +149,12 @@ on-tables-spec =
     rub-requires
     both-stages-requires
     (λ c. search needs) (λ c. search needs) (λ c. search needs) (λ c. search needs) (λ c. search needs) (λ c. search needs)
-    (λ c. search needs)
     returns-2
     store-requires
     end-volume-requires
     end-volume-requires-2
     (λ c. search (needs, stored c .store .kept))
     (λ c. search (needs, loaded (checked (rubbed (made (last c)))) .load .kept, rubbed (made (last c)) .rub .kept))
-    (λ c. search (needs, made (last c) .both-stages .kept))
     (λ c. search (needs, made (last c) .both-stages .kept))
     (λ c. search (needs, made (last c) .both-stages .kept))
     (λ c. search (needs, made (last c) .both-stages .kept))

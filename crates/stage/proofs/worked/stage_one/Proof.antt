@@ -11,20 +11,20 @@ use Rattle.stage.proofs.worked.stage_one.Tie as tie
 
 stage-requires : tie.Need-stage-requires
 stage-requires c κs =
-    let s = c .before .before .before .before in let order = s .pre .0 in
-    ((order .some, order .most, omega arith, omega arith, omega arith), ((omega arith, omega arith), (order .numbers, s .pre .1 .1)))
+    let s = c .before .before .before in let order = s .pre .0 in
+    ((order .some, order .most, omega arith, omega arith), ((omega arith, omega arith), (order .numbers, s .pre .1 .1)))
 
 module _ (w : tie.After-stage) where
   abbrev start : tie.Start
-  start = w .before .before .before .before .before
+  start = w .before .before .before .before
 
 module _ (e : tie.Else1) where
   abbrev went : tie.After-stage
-  went = e .before .before .before .before .before .before
+  went = e .before .before .before .before .before
 
 returns : tie.Need-returns
 returns c =
-    let w = c .before .before .before .before .before .before in let s = start w in let a = s .args in record {
+    let w = c .before .before .before .before .before in let s = start w in let a = s .args in record {
       half = λ ρ v shows. half-stops (s .pre .0 .some) (now (a .a)) shows (w .stage .ensures ρ) (c .if1 .taken);
       sized = λ z. absurd (c .if1 .taken z);
       ranged = λ z. absurd (c .if1 .taken z);
@@ -59,8 +59,8 @@ stage-one-spec =
     tie.close
     (tie.spec
     stage-requires
-    (λ c. search needs) (λ c. search needs) (λ c. search needs) (λ c. search needs)
+    (λ c. search needs) (λ c. search needs) (λ c. search needs)
     returns
     end-requires
-    (λ c. search needs) (λ c. search needs) (λ c. search needs) (λ c. search needs) (λ c. search needs)
+    (λ c. search needs) (λ c. search needs) (λ c. search needs) (λ c. search needs)
     returns-2)

@@ -10,23 +10,23 @@ use Rattle.stage.proofs.worked.stage_two.Tie as tie
 
 stage-requires : tie.Need-stage-requires
 stage-requires c κs =
-    let s = c .before .before .before .before .before in let order = s .pre .0 in let ranged = s .pre .1 .1 .1 in
-    ((order .some, order .most, omega arith, omega arith, omega arith), ((omega arith, omega arith), (order .numbers, ranged .0 .1)))
+    let s = c .before .before .before .before in let order = s .pre .0 in let ranged = s .pre .1 .1 .1 in
+    ((order .some, order .most, omega arith, omega arith), ((omega arith, omega arith), (order .numbers, ranged .0 .1)))
 
 module _ (w : tie.After-stage) where
   abbrev start : tie.Start
-  start = w .before .before .before .before .before .before
+  start = w .before .before .before .before .before
 
 module _ (e : tie.Else1) where
   abbrev went : tie.After-stage
-  went = e .before .before .before .before .before .before
+  went = e .before .before .before .before .before
 
   abbrev begun : tie.Start
   begun = start went
 
 returns : tie.Need-returns
 returns c ρ v shows faces one =
-    let w = c .before .before .before .before .before .before in let s = start w in let a = s .args in
+    let w = c .before .before .before .before .before in let s = start w in let a = s .args in
     half-stops (s .pre .0 .some) (now (a .b)) one (w .stage .ensures ρ) (c .if1 .taken)
 
 join-requires : tie.Need-join-requires
@@ -73,9 +73,9 @@ stage-two-spec =
     tie.close
     (tie.spec
     stage-requires
-    (λ c. search needs) (λ c. search needs) (λ c. search needs) (λ c. search needs) (λ c. search needs)
+    (λ c. search needs) (λ c. search needs) (λ c. search needs) (λ c. search needs)
     returns
     join-requires
     end-requires
-    (λ c. search needs) (λ c. search needs) (λ c. search needs) (λ c. search needs) (λ c. search needs)
+    (λ c. search needs) (λ c. search needs) (λ c. search needs) (λ c. search needs)
     returns-2)

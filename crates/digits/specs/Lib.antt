@@ -1,0 +1,3 @@
+-- What the public function gives; then what the private functions hand to one another.
+pub mod Root
+pub mod Turns
