@@ -5,42 +5,42 @@ ghost use Prim.Native.Nat.{_+_, _*_, _/_, _^_, _≤_, _<_};
 ghost use Rattle.digits.specs.Root.{RootOf, DigitsSay};
 ghost use Rattle.digits.specs.Turns.{Small, Turned};
 
-// The pairs of bits that a number may have. What is worked with has two bits more, and so fits 64.
+// The pairs of bits that a number may have: what is left under its root takes two bits more, and so 64.
 const PAIRS: u64 = 31;
 
-// Below this are the numbers of so many pairs.
+// The numbers of so many pairs lie below this.
 const BEYOND: u64 = 1 << 62;
 
-// The pairs of nought that may follow them: with these there are at most 61 digits, one for each place
-// from the first down.
-const MOST_NOUGHTS: u64 = 30;
-
-// Where the digit of a number's first pair is tried.
+// The place of the first pair's digit.
 const FIRST: u64 = 1 << 61;
 
+// The pairs of nought that may stand behind a number. With them it has at most 61 digits, as many as
+// there are places from the first down.
+const MOST_NOUGHTS: u64 = 30;
+
 pub enum Rooted {
-    // the largest whole number whose square is at most the one asked for, and what the square leaves of it
+    // the largest number whose square is at most the one with its noughts, and what is left beside that square
     Is(u64, u64),
     // the number or its noughts are beyond the limits
     Refused,
 }
 
-// Between two turns: the place of the next digit, twice the root so far, and what it leaves of the
-// number. The number stays in its place, so what is left doubles where the place halves.
+// Between two turns: the place of the next digit, twice the root so far, and what is left of the number
+// beside its square. No pairs are brought down: where the place halves, what is left doubles.
 struct SoFar {
     bit: u64,
     twice: u64,
     rest: u64,
 }
 
-// The digits that were found, as a whole number, and what its square leaves.
+// The digits that were found, as a whole number, and what is left beside its square.
 struct Found {
     whole: u64,
     rest: u64,
 }
 
-// One digit: it is a one where what is left holds the square's growth. The test is the one that compiles
-// to a single conditional move.
+// One digit: a one where what is left is as much as the square grows by, which is the trial in the place of
+// this digit. Asked this way round, the test compiles to moves on the carry alone, and to no branch.
 fn turn(t: SoFar) -> SoFar
     requires { ⌜ Small (t .bit) (t .twice) (t .rest) ⌝ }
     ensures { λ r. ⌜ Turned (t .bit) (t .twice) (t .rest) (r .bit) (r .twice) (r .rest) ⌝ }
@@ -60,7 +60,8 @@ fn turn(t: SoFar) -> SoFar
     }
 }
 
-// The root of the first pairs of a number, as many as there are turns; past its last pair, of noughts.
+// The root of the first pairs of a number, as many as there are turns. Where these are more than it has,
+// pairs of nought follow.
 fn first_digits(number: u64, turns: u64) -> Found
     requires { ⌜ (number < 4 ^ 31) × (turns ≤ 61) ⌝ }
     ensures { λ r. ⌜ RootOf (number * 4 ^ turns / 4 ^ 31) (r .whole) (r .rest) ⌝ }
@@ -81,8 +82,8 @@ fn first_digits(number: u64, turns: u64) -> Found
     }
 }
 
-// The root of a number with pairs of nought behind it. The pairs above the first that is not nought are
-// passed over: their digits are noughts.
+// The root of a number with pairs of nought behind it. The pairs of nought above its first one are passed
+// over, as their digits are noughts: shallow water needs fewer turns.
 pub fn digits(number: u64, noughts: u64) -> Rooted
     ensures { λ r. ⌜ DigitsSay number noughts r ⌝ }
 {
