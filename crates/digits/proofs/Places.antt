@@ -1,7 +1,7 @@
 -- Where a number and its digits stand: the places of the turns, and the pairs of nought that are passed over. Assumes nothing.
-use mathlib.Core.Path.{_≡_, refl, sym, ap, _∙_, subst}
+use mathlib.Core.Path.{_≡_, refl, sym, ap, _∙_}
 use Prim.Native.Nat.{ℕ, zero, suc, _+_, _-_, _*_, _/_, _%_, _^_, _≤_, _<_}
-use native.Mathlib.Nat.{mul-assoc, mul-pos, mod-eq-of-lt, div-eq-of-eq-mul-left, div-lt-iff-lt-mul, mul-add-div-right, mul-div-cancel}
+use native.Mathlib.Nat.{mul-assoc, mod-eq-of-lt, div-eq-of-eq-mul-left, div-lt-iff-lt-mul, mul-add-div-right, mul-div-cancel}
 use native.Mathlib.Decide.{decLe}
 use native.Mathlib.Omega.{arith}
 use lib.Count.{leadingZeros, leading-length}

@@ -1,10 +1,10 @@
 -- The statement of the digits leaves one answer. Assumes nothing.
 use mathlib.Core.Path.{_≡_, refl, ap, _∙_}
-use Prim.Native.Nat.{ℕ, _+_, _*_, _^_}
+use Prim.Native.Nat.{ℕ, _+_, _*_}
 use native.Mathlib.Omega.{arith}
 use Rattle.whole.specs.Largest.{one-largest}
 use Rattle.digits.specs.declared.Rooted.{Rooted}
-use Rattle.digits.specs.declared.Rooted.the-variants.{Is, Refused}
+use Rattle.digits.specs.declared.Rooted.the-variants.{Is}
 use Rattle.digits.specs.Root.{RootOf, DigitsSay, within, beyond}
 
 -- one root, and so one rest

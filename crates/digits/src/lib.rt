@@ -1,7 +1,6 @@
 // A square root in whole numbers, worked digit by digit: the one search behind the wave speed of a
 // depth and the root of a double. The public function answers every call: beyond its limits it refuses.
-ghost use mathlib.Core.Path.{_≡_};
-ghost use Prim.Native.Nat.{_+_, _*_, _/_, _^_, _≤_, _<_};
+ghost use Prim.Native.Nat.{_*_, _/_, _^_, _≤_, _<_};
 ghost use Rattle.digits.specs.Root.{RootOf, DigitsSay};
 ghost use Rattle.digits.specs.Turns.{Small, Turned};
 

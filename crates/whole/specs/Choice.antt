@@ -50,6 +50,9 @@ min-most a b c h j = cond-ind (leZ a b) a b (λ x. c ≤ℤ x) (λ e. h) (λ e. 
 pub antisym : (a b : ℤ) → a ≤ℤ b → b ≤ℤ a → a ≡ b
 antisym a b h j = eq-of a b (omega (arith, of-le h, of-le j))
 
+pub max-of : (a b : ℤ) → b ≤ℤ a → maxZ a b ≡ a
+max-of a b h = antisym (maxZ a b) a (max-least a b a (le-refl a) h) (max-l a b)
+
 pub max-none : (a : ℤ) → pos 0 ≤ℤ a → maxZ (pos 0) (negℤ a) ≡ pos 0
 unfolding maxZ
 max-none a h = cond-ind (leZ (pos 0) (negℤ a)) (negℤ a) (pos 0) (λ x. x ≡ pos 0)

@@ -1,9 +1,8 @@
--- `digits` refuses what is beyond its limits; within them it raises the number and asks for as many digits as it and its noughts have pairs.
-use mathlib.Core.Path.{_≡_, subst}
-use Prim.Native.Nat.{ℕ, _+_, _-_, _*_, _/_, _%_, _^_, _≤_, _<_}
+-- `digits` refuses what is beyond its limits. Within them it raises the number, and asks for as many digits as it has pairs with its noughts.
+use Prim.Native.Nat.{_≤_}
 use native.Mathlib.Omega.{arith}
 use lib.Count.{leadingZeros}
-use Rattle.digits.specs.Root.{RootOf, Fits, within, beyond}
+use Rattle.digits.specs.Root.{Fits, within, beyond}
 use Rattle.digits.proofs.Places.{zeros-in, raised, shifted, all-pairs}
 use Rattle.digits.proofs.digits.Statement.{statement}
 use Rattle.digits.proofs.digits.Tie as tie
@@ -45,8 +44,8 @@ first-digits-requires c κs = let n = c .before .before .args .number in
 
 returns-3 : tie.Need-returns-3
 returns-3 c =
-    let e = c .before in let n = e .before .before .args .number in let d = c .first-digits .result in
-    within (fits e) (rw (shifted n (fits e .pairs), all-pairs n (fits e .pairs) (e .before .before .args .noughts)) at (c .first-digits .ensures))
+    let e = c .before in let p = e .before .before .args in let l = fits e .pairs in
+    within (fits e) (rw (shifted (p .number) l, all-pairs (p .number) l (p .noughts)) at (c .first-digits .ensures))
 
 pub digits-spec : {M : Type 1} → statement M
 digits-spec =

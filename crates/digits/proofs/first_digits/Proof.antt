@@ -1,6 +1,6 @@
 -- `first_digits` keeps `Turning` on each of its turns, and the last leaves the root of the first pairs.
-use mathlib.Core.Path.{_≡_, sym, subst}
-use Prim.Native.Nat.{ℕ, _+_, _-_, _*_, _/_, _^_, _≤_, _<_}
+use mathlib.Core.Path.{subst}
+use Prim.Native.Nat.{ℕ, _-_, _*_, _^_, _≤_, _<_}
 use native.Mathlib.Omega.{arith}
 use lib.Pow.{pow-pos}
 use Rattle.digits.proofs.Turns.{Turning, start, again, lower, end}
@@ -21,7 +21,9 @@ mul-t6 : tie.Need-mul-t6 Inv-loop μ-loop
 mul-t6 c = omega (arith, c .pre .0)
 
 loop-holds : tie.Need-loop-holds Inv-loop μ-loop
-loop-holds c = let p = c .args in start (p .number) (p .turns) (2 ^ (61 - p .turns)) (2 ^ 61) (first-is (p .turns) (c .pre .1)) (omega (arith, c .pre .0)) (omega arith)
+loop-holds c =
+    let n = c .args .number in let turns = c .args .turns in
+    start n turns (2 ^ (61 - turns)) (2 ^ 61) (first-is turns (c .pre .1)) (omega (arith, c .pre .0)) (omega arith)
 
 turn-requires : tie.Need-turn-requires Inv-loop μ-loop
 turn-requires c κs = c .before .before .loop .inv .2 .small

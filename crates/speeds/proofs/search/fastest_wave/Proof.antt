@@ -31,8 +31,8 @@ returns c =
 
 returns-2 : tie.Need-returns-2
 returns-2 c =
-    let d = c .before .before in let s = d .before in
-    untold (4018176 * s .args .h / 100) 0 (d .digits .result) (c .enum-told .given .1) (record { pairs = omega arith; behind = omega arith })
+    let d = c .before .before in let h = d .before .args .h in
+    untold (4018176 * h / 100) 0 (d .digits .result) (c .enum-told .given .1) (record { pairs = omega arith; behind = omega arith })
     (d .digits .ensures)
 
 pub fastest-wave-spec : {M : Type 1} → statement M
