@@ -238,6 +238,15 @@ def place_ways(call, way, check, place):
         yield from ("6 %s, %s" % (met.name, way) for way in face_ways(met, call))
 
 
+def calm_ways(call):
+    """Of rough cells deeper than the dry depth, whether one has no discharge, and one a slope of it alone: friction leaves the first."""
+    now, bed, friction, dry = call[0], call[2], call[3], call[7]
+    n = len(friction)
+    for i, rough in enumerate(friction):
+        if rough and now[i] - (bed[i] + bed[i + 1]) // 2 > dry and now[2 * n + i] == 0:
+            yield "accepted, rough and " + ("a slope of discharge alone" if now[3 * n + i] else "no discharge")
+
+
 def step_due(call):
     next_len, friction, dry = call[1], call[3], call[7]
     (number, given), by_e2 = worked_and_decided(call)
@@ -252,6 +261,7 @@ def step_due(call):
     if number:
         return Due(number, way, table("I", [place]) + MARK * (4 * next_len + 16), also)
     state, left, right = given
+    also += set(calm_ways(call))
     return Due(0, way + LONG.get(len(friction), ""), table("I", [place]) + table("i", state) + table("q", (left, right)), also)
 
 
@@ -288,6 +298,7 @@ PAIRS = ["accepted, ends %d %d" % pair for pair in hard.PAIRS]
 STEP_WAYS = {
     "accepted": 4, "accepted, longest reach": 5000, "accepted, longest on short tables": 1000,
     "accepted, shortest on long tables": 1000,
+    "accepted, rough and no discharge": 100, "accepted, rough and a slope of discharge alone": 1000,
     **CHECKS,
     **{"%s, %s" % (check, way): share for check, shares in PLACES.items() for way, share in zip(INDEX_WAYS, shares) if share},
     **FACES, "a place beyond a byte": 1000,
@@ -309,23 +320,33 @@ STEP_WAYS = {
 # ---- Faces in whole numbers
 
 def faces(seed, count):
-    """hard.py's faces, some with a number that only 64 bits hold."""
+    """hard.py's faces, some of one depth on both sides or at rest too, and some with a number that only 64 bits hold."""
     rnd = random.Random(seed)
     for sides in map(list, hard.faces(seed, count)):
+        if rnd.randrange(10) == 0:
+            sides[2] = sides[0]
+            sides[1], sides[3] = rnd.choice(((0, 0), (0, sides[3]), (sides[1], 0), (sides[1], sides[3])))
         if rnd.randrange(25) == 0:
             k = rnd.randrange(4)
             sides[k] = rnd.choice((sides[k] + (1 << 32), sides[k] - (1 << 32), (1 << 63) - 1, -(1 << 63)))
         yield sides
 
 
+def level_way(hl, ul, hr, ur):
+    """Of two sides of one depth, whether they move: such sides share a root, and those at rest need no division."""
+    return "one depth, " + ("a speed on both sides" if ul and ur else "a speed on one side" if ul or ur else "at rest")
+
+
 def face_due(sides):
     flux, way = m.face(*sides), hard.branch(*sides).split(", with a speed")[0]
-    return Due(1, way, MARK * 32) if flux is None else Due(0, way, table("q", flux))
+    also = [level_way(*sides)] if sides[0] == sides[2] > 0 else []
+    return Due(1, way, MARK * 32) if flux is None else Due(0, way, table("q", flux), also)
 
 
 FACE_WAYS = dict.fromkeys(
     ["refused", "both dry"]
-    + [dry + way for dry in ("", "left dry, ", "right dry, ") for way in ("left side alone", "right side alone", "middle")],
+    + [dry + way for dry in ("", "left dry, ", "right dry, ") for way in ("left side alone", "right side alone", "middle")]
+    + ["one depth, " + way for way in ("at rest", "a speed on one side", "a speed on both sides")],
     100)
 
 
