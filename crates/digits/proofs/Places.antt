@@ -8,7 +8,7 @@ use lib.Count.{leadingZeros, leading-length}
 use lib.Ieee.Nearest.{div-same}
 use lib.Pow.{pow-add, pow-pos, pow-mono, shl-lt}
 use Rattle.digits.specs.Root.{RootOf}
-use Rattle.digits.proofs.Given.{root-by}
+use Rattle.digits.proofs.WholeRoot.{root-by}
 use Rattle.digits.proofs.Turns.{End}
 
 -- a pair is two bits

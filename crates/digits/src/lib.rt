@@ -32,8 +32,8 @@ struct SoFar {
     rest: u64,
 }
 
-// The digits that were found, as a whole number, and what is left beside its square.
-struct Found {
+// A whole root, and what is left beside its square.
+struct Root {
     whole: u64,
     rest: u64,
 }
@@ -61,7 +61,7 @@ fn turn(t: SoFar) -> SoFar
 
 // The root of the first pairs of a number, as many as there are turns. Where these are more than it has,
 // pairs of nought follow.
-fn first_digits(number: u64, turns: u64) -> Found
+fn first_digits(number: u64, turns: u64) -> Root
     requires { ⌜ (number < 4 ^ 31) × (turns ≤ 61) ⌝ }
     ensures { λ r. ⌜ RootOf (number * 4 ^ turns / 4 ^ 31) (r .whole) (r .rest) ⌝ }
 {
@@ -75,7 +75,7 @@ fn first_digits(number: u64, turns: u64) -> Found
         t = turn(t);
     }
     let unit = 63 - turns;
-    Found {
+    Root {
         whole: t.twice >> unit,
         rest: t.rest >> unit,
     }

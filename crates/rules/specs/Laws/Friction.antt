@@ -23,7 +23,7 @@ module _ (dt d f : ℤ) (b : Bed) (x : Cell) where
   strong = drag dt f (h0 b x) (speed d (x .q0) (h0 b x))
 
   -- ---- a discharge, by the outcome of the test, and where there is none
-  pub rub-dry : (q : ℤ) → shallow d b x ≡ true → rub dt d f b x q ≡ q
+  rub-dry : (q : ℤ) → shallow d b x ≡ true → rub dt d f b x q ≡ q
   unfolding rub
   rub-dry q e = rw e
 

@@ -6,7 +6,7 @@ use native.Mathlib.Omega.{arith}
 use borrow.Author.Needs.{needs}
 use Rattle.whole.specs.Largest.{IsLargest}
 use Rattle.rules.specs.Laws.Speeds.{wave-root}
-use Rattle.digits.proofs.Given.{told, untold}
+use Rattle.digits.proofs.WholeRoot.{told, untold}
 use Rattle.speeds.proofs.search.fastest_wave.Statement.{statement}
 use Rattle.speeds.proofs.search.fastest_wave.Tie as tie
 

@@ -1,5 +1,5 @@
--- A number with its rest is the whole root where the rest is at most twice that number, and the other way round; and what
--- an answer tells its caller. Assumes nothing.
+-- A number is the whole root where what is left beside its square is at most twice that number, and the other way round; and
+-- what an answer tells its caller. Assumes nothing.
 use mathlib.Core.Path.{_≡_, subst}
 use Prim.Native.Nat.{ℕ, suc, _+_, _*_, _^_, _≤_}
 use native.Mathlib.Nat.{mul-le-mul}
