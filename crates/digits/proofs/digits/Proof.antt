@@ -1,4 +1,4 @@
--- `digits` refuses what is beyond its limits. Within them it raises the number, and asks for as many digits as it has pairs with its noughts.
+-- `digits` refuses what is beyond its limits. Within them it raises the number, and asks for a digit for each pair of it and its noughts.
 use Prim.Native.Nat.{_≤_}
 use native.Mathlib.Omega.{arith}
 use lib.Count.{leadingZeros}
