@@ -1,17 +1,20 @@
 -- To be believed: all above "from an answer to what is told".
 -- What a caller in C is told: a number, and what is written into each table that it lent.
 use mathlib.Core.Path.{_≡_, refl, sym, ap, _∙_}
-use mathlib.Core.Bool.{Bool, true, false, cond}
 use mathlib.Core.List.{List}
 use Prim.Native.Nat.{ℕ, _≤_}
 use native.Mathlib.Omega.{arith}
 use lib.Dec.{eqb}
-use lib.ListN.{set}
-use lib.IntN.{ℤ}
+use lib.ListN.{length, set}
+use lib.IntN.{ℤ, pos}
 use lib.Ieee.{Float}
+use Rattle.whole.specs.Flags.{cond-ind}
+use Rattle.rules.specs.Limits.{mostCells}
 use Rattle.rules.specs.Face.{Flux}
 use Rattle.rules.specs.Lent.{Lent, cellsOf, number, place, filled, crossed, Outcome, refused, accepted, stepOf}
+use Rattle.rules.specs.Sums.{misfitSums, Making, Reading, Question, unanswered, answered, keepingOf, sumsAfter}
 use Rattle.rules.specs.Laws.Within.{place-most}
+use Rattle.reach.specs.declared.Given.{Given}
 use Rattle.speeds.specs.Given.{Perhaps}
 use Rattle.speeds.specs.Given as given
 use Rattle.face.specs.Answers.{flux}
@@ -24,9 +27,10 @@ use Rattle.double.specs.declared.face.DoubleAnswer.{DoubleAnswer}
 use Rattle.double.specs.declared.face.DoubleAnswer.the-variants as double
 use Rattle.root.proofs.Unique.{root-unique}
 use Rattle.double.proofs.face.Unique as doubles
-use Rattle.step.specs.Gives.{answer, leaves, code, placed}
+use Rattle.step.specs.Gives.{answer, leaves, code, placed, Gives}
 use Rattle.step.specs.declared.Answer.{Answer}
 use Rattle.step.specs.declared.Answer.the-variants.{Refused, Accepted}
+use Rattle.sums.specs.Gives.{madeCode, madeAnswer, madeLeaves, asked}
 
 -- ---- the step
 -- what an outcome leaves in the two volumes
@@ -40,6 +44,30 @@ pub record StepTold (o : Outcome) (r : ℕ) (old new volumes volumes′ : List �
   pub table : new ≡ leaves o old
   pub crossed : volumes′ ≡ volumesOf o volumes
   pub place : places′ ≡ set places 0 (placed (answer o))
+
+-- ---- the sums
+-- of the step that keeps them: as of the step, and the sums
+pub record KeepingTold (l : Lent) (r : ℕ) (old new sums sums′ volumes volumes′ : List ℤ) (places places′ : List ℕ) : Type 0 where
+  pub step : StepTold (keepingOf l (length sums)) r old new volumes volumes′ places places′
+  pub kept : sums′ ≡ sumsAfter (l .bed) (keepingOf l (length sums)) sums
+
+-- of making them: the number, and the sums
+pub record MakingTold (m : Making) (r : ℕ) (old new : List ℤ) : Type 0 where
+  pub number : r ≡ madeCode (madeAnswer m)
+  pub table : new ≡ madeLeaves m old
+
+-- of a question: the number, and the water, the cells and the blocks
+unfoldable pub questionCode : Question → ℕ
+questionCode (unanswered k) = k
+questionCode (answered x) = 0
+
+unfoldable pub readingInto : Question → List ℤ → List ℤ
+readingInto (unanswered k) old = old
+readingInto (answered x) old = set (set (set old 0 (x .water)) 1 (pos (x .cells))) 2 (pos (x .blocks))
+
+pub record QuestionTold (q : Question) (r : ℕ) (old new : List ℤ) : Type 0 where
+  pub number : r ≡ questionCode q
+  pub reading : new ≡ readingInto q old
 
 -- ---- the face
 unfoldable pub faceCode : Perhaps Flux → ℕ
@@ -86,29 +114,70 @@ pub record RootTold (x : Float) (r : ℕ) (old new : List Float) : Type 0 where
   pub root : new ≡ rootInto answer old
 
 -- ---- from an answer to what is told
-never : {w v : ℤ} {k p : ℕ} {P : Type 0} → _≡_ {A = Answer} (Refused k p) (Accepted w v) → P
-never e = let z : _≡_ {A = ℕ} 0 1 = cc in let f : ⊥ = omega arith in absurd f
+-- the numbers of a call, as the step takes them
+abbrev pub givenBy : ℕ → ℕ → ℕ → ℕ → ℕ → ℕ → ℕ → ℕ → Given
+givenBy dx dt jump dry left right leftQ rightQ = record {
+  dx = dx;
+  dt = dt;
+  jump = jump;
+  dry = dry;
+  left = record { kind = left; q = leftQ };
+  right = record { kind = right; q = rightQ };
+}
 
-pub none-crossed : (o : Outcome) (k p : ℕ) → Refused k p ≡ answer o → (old : List ℤ) → old ≡ volumesOf o old
-unfolding answer volumesOf
-none-crossed (refused m q) k p e old = refl
-none-crossed (accepted t w v) k p e old = never e
+-- what an answer leaves in the two volumes; and all that is told of it
+unfoldable pub volumesIn : Answer → List ℤ → List ℤ
+volumesIn (Refused k p) old = old
+volumesIn (Accepted w v) old = set (set old 0 w) 1 v
 
--- the place of a call that was refused is small enough for 32 bits
-pub place-small : (l : Lent) (k p : ℕ) → Refused k p ≡ answer (stepOf l) → p ≤ 1024
+pub record AnswerTold (a : Answer) (r : ℕ) (volumes volumes′ : List ℤ) (places places′ : List ℕ) : Type 0 where
+  pub number : r ≡ code a
+  pub crossed : volumes′ ≡ volumesIn a volumes
+  pub place : places′ ≡ set places 0 (placed a)
+
+pub refused-told : (k p : ℕ) (old : List ℤ) (places : List ℕ) → AnswerTold (Refused k p) k old old places (set places 0 p)
+unfolding code volumesIn placed
+refused-told k p old places = record { number = refl; crossed = refl; place = refl }
+
+pub accepted-told : (w v : ℤ) (old : List ℤ) (places : List ℕ)
+    → AnswerTold (Accepted w v) 0 old (set (set old 0 w) 1 v) places (set places 0 0)
+unfolding code volumesIn placed
+accepted-told w v old places = record { number = refl; crossed = refl; place = refl }
+
+same-volumes : (o : Outcome) (old : List ℤ) → volumesIn (answer o) old ≡ volumesOf o old
+unfolding answer volumesIn volumesOf
+same-volumes (refused k p) old = refl
+same-volumes (accepted t w v) old = refl
+
+pub step-told : {o : Outcome} {a : Answer} {r : ℕ} {old new volumes volumes′ : List ℤ} {places places′ : List ℕ}
+    → Gives o a old new → AnswerTold a r volumes volumes′ places places′ → StepTold o r old new volumes volumes′ places places′
+step-told {o} {volumes = vs} {places = ps} g t = record {
+  number = t .number ∙ ap code (g .says);
+  table = g .table;
+  crossed = t .crossed ∙ ap (λ (a : Answer). volumesIn a vs) (g .says) ∙ same-volumes o vs;
+  place = t .place ∙ ap (λ (a : Answer). set ps 0 (placed a)) (g .says);
+}
+
+-- the place of a call is small enough for 32 bits
+pub step-place : (l : Lent) {a : Answer} → a ≡ answer (stepOf l) → placed a ≤ mostCells
 unfolding answer stepOf placed
-place-small l k p e = go (eqb (number l) 0) (ap placed e) (place-most l)
-  where
-    go : (b : Bool)
-        → p ≡ placed (answer (cond b (accepted (filled l) (crossed l 0) (crossed l (cellsOf l))) (refused (number l) (place l))))
-        → place l ≤ 1024 → p ≤ 1024
-    go true e m = omega arith
-    go false e m = omega arith
+step-place l {a} e = rw e (cond-ind (eqb (number l) 0) (accepted (filled l) (crossed l 0) (crossed l (cellsOf l))) (refused (number l) (place l))
+    (λ (o : Outcome). placed (answer o) ≤ mostCells) (λ b. omega arith) (λ b. place-most l))
 
-pub both-crossed : (o : Outcome) (w v : ℤ) → Accepted w v ≡ answer o → (old : List ℤ) → set (set old 0 w) 1 v ≡ volumesOf o old
-unfolding answer volumesOf
-both-crossed (refused m q) w v e old = never (sym e)
-both-crossed (accepted t x y) w v e old = let p : w ≡ x = cc in let q : v ≡ y = cc in λ i. set (set old 0 (p i)) 1 (q i)
+pub keeping-place : (l : Lent) (sums : ℕ) {a : Answer} → a ≡ answer (keepingOf l sums) → placed a ≤ mostCells
+unfolding answer keepingOf placed
+keeping-place l sums e = rw e (cond-ind (misfitSums sums (cellsOf l)) (refused 1 0) (stepOf l)
+    (λ (o : Outcome). placed (answer o) ≤ mostCells) (λ b. omega arith) (λ b. step-place l refl))
+
+-- the two counts of a question
+pub read-told : (q : Question) (w : ℤ) (c b : ℕ) (old : List ℤ) → answered (record { water = w; cells = c; blocks = b }) ≡ q
+    → QuestionTold q 0 old (set (set (set old 0 w) 1 (pos c)) 2 (pos b))
+unfolding questionCode readingInto
+read-told q w c b old e = record { number = ap questionCode e; reading = ap (λ (x : Question). readingInto x old) e }
+
+pub unread-told : (q : Question) (k : ℕ) (old : List ℤ) → unanswered k ≡ q → QuestionTold q k old old
+unfolding questionCode readingInto
+unread-told q k old e = record { number = ap questionCode e; reading = ap (λ (x : Question). readingInto x old) e }
 
 pub face-flux : (f k a s : ℤ) (old : List ℤ) → FaceTold (flux (carried.Flux f k a s)) 0 old (set (set (set (set old 0 f) 1 k) 2 a) 3 s)
 unfolding flux faceCode fluxInto
@@ -123,6 +192,19 @@ pub step-one : {o : Outcome} {r r′ : ℕ} {old new new′ w v v′ : List ℤ}
     → StepTold o r old new w v x y → StepTold o r′ old new′ w v′ x y′ → (r ≡ r′) × (new ≡ new′) × (v ≡ v′) × (y ≡ y′)
 step-one p q =
     (p .number ∙ sym (q .number), p .table ∙ sym (q .table), p .crossed ∙ sym (q .crossed), p .place ∙ sym (q .place))
+
+pub keeping-one : {l : Lent} {r r′ : ℕ} {old new new′ sums s s′ w v v′ : List ℤ} {x y y′ : List ℕ}
+    → KeepingTold l r old new sums s w v x y → KeepingTold l r′ old new′ sums s′ w v′ x y′
+    → (r ≡ r′) × (new ≡ new′) × (v ≡ v′) × (y ≡ y′) × (s ≡ s′)
+keeping-one p q = let z = step-one (p .step) (q .step) in (z .0, z .1, z .2, z .3, p .kept ∙ sym (q .kept))
+
+pub making-one : {m : Making} {r r′ : ℕ} {old new new′ : List ℤ} → MakingTold m r old new → MakingTold m r′ old new′
+    → (r ≡ r′) × (new ≡ new′)
+making-one p q = (p .number ∙ sym (q .number), p .table ∙ sym (q .table))
+
+pub question-one : {x : Question} {r r′ : ℕ} {old new new′ : List ℤ} → QuestionTold x r old new → QuestionTold x r′ old new′
+    → (r ≡ r′) × (new ≡ new′)
+question-one p q = (p .number ∙ sym (q .number), p .reading ∙ sym (q .reading))
 
 pub face-one : {p : Perhaps Flux} {r r′ : ℕ} {old new new′ : List ℤ} → FaceTold p r old new → FaceTold p r′ old new′
     → (r ≡ r′) × (new ≡ new′)

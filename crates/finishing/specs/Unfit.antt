@@ -8,11 +8,10 @@ use lib.IntN.{ℤ, pos}
 use Rattle.tables.specs.Some.{some}
 use Rattle.tables.specs.Cells.{Cell, seen}
 use Rattle.rules.specs.Limits.{mostCells, highestBed, largestJump}
-use Rattle.rules.specs.Reach.{Bed}
+use Rattle.rules.specs.Reach.{Bed, bedAt}
 use Rattle.rules.specs.Refusals.{any, outside, past, badDry}
 use Rattle.reach.specs.declared.Reach.{Reach}
 use Rattle.reach.specs.declared.Call.{Call}
-use Rattle.reach.specs.Told.{bedAt}
 use Rattle.reach.specs.Ranges.{widest}
 
 -- one of two numbers is past a limit, either way

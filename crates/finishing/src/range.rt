@@ -15,7 +15,8 @@ ghost use Prim.Native.Nat.{_≤_};
 ghost use lib.ListN.{length};
 ghost use Rattle.tables.specs.Some.{some};
 ghost use Rattle.tables.specs.Cells.{asCell, seen};
-ghost use Rattle.reach.specs.Told.{bedIn, bedAt};
+ghost use Rattle.rules.specs.Reach.{bedAt};
+ghost use Rattle.reach.specs.Told.{bedIn};
 ghost use Rattle.finishing.specs.Unfit.{eitherPast, tooLarge, unfit};
 
 // 2^46, `widest` in contracts: sums of a few such numbers fit in 64 bits with much to spare.

@@ -18,7 +18,7 @@ use Rattle.rules.specs.Refusals.{early, off}
 use Rattle.rules.specs.Lent.{Lent, Outcome, cellsOf, reachOf, callOf, stateOf, number, stepOf}
 use Rattle.rules.specs.Laws.Verdicts.{clear-at}
 use Rattle.rules.specs.Laws.Order as order
-use Rattle.rules.specs.Laws.Lengths.{fits, unrefused}
+use Rattle.rules.specs.Laws.Lengths.{fits, unrefused, accepts}
 use Rattle.rules.specs.Laws.Runs.{accepted-early}
 use Rattle.survey.specs.Turned.{turnedCell, turnedTable, turnedCall}
 use Rattle.survey.specs.Laws.Lent.{number-turned, filled-turned, left-volume, right-volume}
@@ -29,7 +29,7 @@ use Rattle.step.specs.Gives.{volumes, both, Gives, answer, leaves}
 use Rattle.step.specs.declared.Answer.{Answer}
 use Rattle.step.specs.declared.Answer.the-variants.{Accepted}
 use Rattle.promises.specs.Seen.{Besides, lending, Called, lent, Calls, none, more, leastI32, FitsI32, NoneLeast, FromOtherEnd}
-use Rattle.promises.specs.Outcomes.{accepts, taken}
+use Rattle.promises.specs.Outcomes.{taken}
 
 -- an accepted call
 pub other-gives : (l : Lent) (a : Answer) (w v : ℤ) (old new : List ℤ) → volumes a ≡ both w v → Gives (stepOf l) a old new

@@ -6,7 +6,7 @@ use mathlib.Core.List.{List, [], _∷_}
 use mathlib.Core.Logic.{_⊎_, inl, inr, ⊎-elim}
 use Prim.Native.Nat.{ℕ, zero, suc, _*_, _≤_, _<_}
 use native.Mathlib.Omega.{arith}
-use borrow.Author.Tests.{eq-eqb, ne-eqb, eqb-false}
+use borrow.Author.Tests.{eqb-false}
 use lib.Dec.{eqb, eqb→eq}
 use lib.ListN.{length, getD}
 use lib.IntN.{ℤ, pos, _+ℤ_}
@@ -16,14 +16,14 @@ use Rattle.whole.specs.Parts.{le-of}
 use Rattle.whole.specs.Choice.{sizeZ}
 use Rattle.tables.specs.Cells.{Cell, cellIn, tableOf, length-table, cellIn-table}
 use Rattle.rules.specs.Face.{face}
-use Rattle.rules.specs.Reach.{Reach, Call, State, under, z0, z1, h0, h1, hl, hr}
+use Rattle.rules.specs.Reach.{Reach, Call, State, under, bedAt, z0, z1, h0, h1, hl, hr}
 use Rattle.rules.specs.Step.{carry, joined, next}
 use Rattle.rules.specs.Ends.{End, inflowKind}
-use Rattle.tables.specs.Some.{some, lowest, some-same}
+use Rattle.tables.specs.Some.{some, lowest}
 use Rattle.rules.specs.Refusals.{badEnd, badCall, badBed, badRough, offCell, off, ofCall, each, applies, verdict, spot}
 use Rattle.rules.specs.Refusals.{stageChecks, early, checks, refusal, refusedAt}
 use Rattle.rules.specs.Lent.{Lent, reachOf, callOf, stateOf, cellsOf, misfits, number, place, filled, crossed}
-use Rattle.rules.specs.Lent.{Outcome, refused, accepted, stepOf}
+use Rattle.rules.specs.Lent.{Outcome, stepOf}
 use Rattle.rules.specs.AtRest.{Dry, Flat, AtRest}
 use Rattle.rules.specs.Laws.Agree.{Same}
 use Rattle.rules.specs.Laws.DryDepth.{finished-calm}
@@ -31,7 +31,8 @@ use Rattle.rules.specs.Laws.Accept.{passed}
 use Rattle.rules.specs.Found.{Found, found, foundOf}
 use Rattle.rules.specs.Laws.Verdicts.{went-past}
 use Rattle.rules.specs.Laws.StillChecks.{input, worked, two-parts, seven-alone}
-use Rattle.rules.specs.Laws.Lengths.{fitted, first-number, later-number, fits, unrefused}
+use Rattle.rules.specs.Laws.Lengths.{fitted, first-number, later-number, fits, unrefused, accepts, refuses}
+use Rattle.rules.specs.Laws.Written.{written-in-range}
 use Rattle.rules.specs.Laws.Within.{spot-whole}
 use Rattle.rules.specs.Laws.Positive.{Nonneg, Wet}
 use Rattle.rules.specs.Laws.Balance as balance
@@ -66,14 +67,6 @@ module _ (l : Lent) where
       go (suc (suc zero)) m s e = spot-whole 2 (allChecks l) tt e
       go (suc (suc (suc k))) m s e = let z : ⊥ = omega arith in absurd z
 
-  pub accepts : number l ≡ 0 → stepOf l ≡ accepted (filled l) (crossed l 0) (crossed l (cellsOf l))
-  unfolding stepOf
-  accepts e = rw (eq-eqb (number l) 0 e)
-
-  pub refuses : (number l ≡ 0 → ⊥) → stepOf l ≡ refused (number l) (place l)
-  unfolding stepOf
-  refuses f = rw (ne-eqb (number l) 0 f)
-
   -- ---- and by the number of its answer
   module _ {a : Answer} {old new : List ℤ} (g : Gives (stepOf l) a old new) where
     abbrev stopped : Answer
@@ -85,11 +78,11 @@ module _ (l : Lent) where
     -- the answer,
     refused-is : (number l ≡ 0 → ⊥) → a ≡ stopped
     unfolding answer
-    refused-is f = g .says ∙ ap answer (refuses f)
+    refused-is f = g .says ∙ ap answer (refuses l f)
 
     accepted-is : number l ≡ 0 → a ≡ took
     unfolding answer
-    accepted-is e = g .says ∙ ap answer (accepts e)
+    accepted-is e = g .says ∙ ap answer (accepts l e)
 
     -- its number,
     pub coded : code a ≡ number l
@@ -112,7 +105,7 @@ module _ (l : Lent) where
 
     pub refused-table : 0 < code a → new ≡ old
     unfolding leaves
-    refused-table p = g .table ∙ ap (λ (o : Outcome). leaves o old) (refuses (some-number p))
+    refused-table p = g .table ∙ ap (λ (o : Outcome). leaves o old) (refuses l (some-number p))
 
     pub refused-later : code a ≡ 8 → refusal (reachOf l) (callOf l) (stateOf l) ≡ 8
     refused-later e = by (misfits l)
@@ -130,7 +123,7 @@ module _ (l : Lent) where
 
     pub accepted-table : code a ≡ 0 → new ≡ filled l
     unfolding leaves
-    accepted-table e = g .table ∙ ap (λ (o : Outcome). leaves o old) (accepts (sym coded ∙ e))
+    accepted-table e = g .table ∙ ap (λ (o : Outcome). leaves o old) (accepts l (sym coded ∙ e))
 
 -- an answer with volumes has the number 0
 pub volumes-code : (a : Answer) (w v : ℤ) → volumes a ≡ both w v → code a ≡ 0
@@ -294,16 +287,11 @@ lake-number l lake left right over = by (misfits l)
 -- ---- check 5 of a call that is lent what an accepted one wrote
 module _ (l m : Lent) (ok : number l ≡ 0) (now : m .now ≡ filled l) (bed : m .bed ≡ l .bed) (cells : cellsOf m ≡ cellsOf l) where
   abbrev offIn : ℕ → List ℤ → List ℤ → Bool
-  offIn k b t = some (λ i. offCell (record { zl = getD b i (pos 0); zr = getD b (suc i) (pos 0) }) (cellIn k t i)) k
+  offIn k b t = some (λ i. offCell (bedAt b i) (cellIn k t i)) k
 
   pub again-in-range : applies (checkFive m) ≡ false
-  unfolding off filled
-  again-in-range =
-      let n = cellsOf l in let r = reachOf l in let end = next r (callOf l) (stateOf l) in
-      (λ j. offIn (cells j) (bed j) (now j))
-      ∙ some-same (λ i. offCell (under r i) (cellIn n (tableOf n end) i)) (off r end) n
-      (λ i b. ap (offCell (under r i)) (cellIn-table n end i b))
-      ∙ accepted-call r (callOf l) (stateOf l) (unrefused l ok) .end
+  unfolding off
+  again-in-range = (λ j. offIn (cells j) (bed j) (now j)) ∙ written-in-range l ok
 
 -- a 5 is given by check 5 alone
 pub five-applies : (m : Lent) → number m ≡ 5 → applies (checkFive m) ≡ true

@@ -7,10 +7,9 @@ use lib.Signed.{_≤ℤ_, _<ℤ_}
 use Rattle.whole.specs.Parts.{Within}
 use Rattle.tables.specs.Cells.{Cell}
 use Rattle.rules.specs.Limits.{highestBed, longestCell, longestStep, largestJump, leastDry, mostDry, largestInflow}
-use Rattle.rules.specs.Reach.{State, Bed}
+use Rattle.rules.specs.Reach.{State, Bed, bedAt}
 use Rattle.reach.specs.declared.Reach.{Reach}
 use Rattle.reach.specs.declared.Call.{Call}
-use Rattle.reach.specs.Told.{bedAt}
 
 -- no further from nought than a limit, which is one of the rules'
 abbrev pub UpTo : ℤ → ℤ → Type 0

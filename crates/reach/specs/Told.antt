@@ -1,6 +1,6 @@
 -- To be believed. What the code is told, as the rules' records.
 use mathlib.Core.List.{List}
-use Prim.Native.Nat.{ℕ, suc}
+use Prim.Native.Nat.{ℕ}
 use lib.ListN.{getD}
 use lib.IntN.{ℤ, pos}
 use Rattle.rules.specs.Face.{face}
@@ -22,9 +22,6 @@ endIn e = record { kind = e .kind; q = e .q }
 abbrev pub callOn : Call → (ℕ → ℤ) → rules.Call
 callOn c ρ = record { dt = c .dt; jump = c .jump; dry = c .dry; rough = ρ; left = endIn (c .left); right = endIn (c .right) }
 
--- the bed of a cell; and the bed under cell i, of the lent table
+-- the bed of a cell
 abbrev pub bedIn : Bed → rules.Bed
 bedIn b = record { zl = b .zl; zr = b .zr }
-
-abbrev pub bedAt : List ℤ → ℕ → rules.Bed
-bedAt bed i = record { zl = getD bed i (pos 0); zr = getD bed (suc i) (pos 0) }

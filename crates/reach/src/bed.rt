@@ -4,7 +4,8 @@ ghost use mathlib.Core.Path.{_≡_};
 ghost use lib.ListN.{getD};
 ghost use lib.IntN.{pos};
 ghost use Rattle.rules.specs.Reach as rules;
-ghost use Rattle.reach.specs.Told.{bedIn, bedAt};
+ghost use Rattle.rules.specs.Reach.{bedAt};
+ghost use Rattle.reach.specs.Told.{bedIn};
 
 // The bed of a cell at its left and right face.
 pub struct Bed {

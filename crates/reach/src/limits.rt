@@ -8,6 +8,9 @@ pub const CELLS: usize = 1024;
 
 pub const FACES: usize = CELLS + 1;
 
+// Cells in a block, of which the water is kept as one sum.
+pub const BLOCK_CELLS: usize = 16;
+
 // A bed value, 256 m, and a Manning value in 1/1000.
 pub const HIGHEST_BED: i64 = 1048576;
 

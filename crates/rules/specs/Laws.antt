@@ -16,9 +16,13 @@ pub mod Alike
 pub mod Order
 pub mod Agree
 pub mod Lengths
+pub mod StateAndBed
 pub mod Within
 pub mod Positive
 pub mod Balance
+pub mod Summing
+pub mod Blocks
+pub mod Sums
 pub mod EvenBed
 pub mod Friction
 pub mod Rest
@@ -26,5 +30,7 @@ pub mod Minmod
 pub mod Limiter
 pub mod DryDepth
 pub mod Runs
+pub mod Written
+pub mod Questions
 pub mod EndVolumes
 pub mod StillChecks

@@ -11,6 +11,8 @@ pub mod Friction
 pub mod Step
 pub mod Refusals
 pub mod Lent
+pub mod StateAndBed
+pub mod Sums
 pub mod Found
 pub mod AtRest
 pub mod Numbers

@@ -11,9 +11,9 @@ use Rattle.tables.specs.Cells.{Cell}
 use Rattle.rules.specs.Limits.{mostCells, highestBed, deepest, fullest}
 use Rattle.rules.specs.Reach as rules
 use Rattle.rules.specs.Refusals.{offCell, fastCell}
+use Rattle.rules.specs.Reach.{bedAt}
 use Rattle.reach.specs.declared.Reach.{Reach}
 use Rattle.reach.specs.declared.Call.{Call}
-use Rattle.reach.specs.Told.{bedAt}
 use Rattle.reach.specs.Ranges.{UpTo, widest, Numbers, Ground}
 use Rattle.stage.specs.Rows.{massOf, pressureOf, advectionOf, volumeOf}
 

@@ -11,14 +11,14 @@ use Rattle.rules.specs.Face.{speed, face}
 use Rattle.rules.specs.Face as rules
 use Rattle.rules.specs.Shown.{Shown, crossAt, volume}
 use Rattle.rules.specs.Ends.{leftEnd, rightEnd}
-use Rattle.rules.specs.Reach.{State, Bed, h0, h1, sideL, sideR}
+use Rattle.rules.specs.Reach.{State, Bed, h0, h1, sideL, sideR, bedAt}
 use Rattle.rules.specs.Stage.{carried, flowBefore, flowBehind, depthBefore, depthBehind, gauss}
 use Rattle.rules.specs.Step.{half, rubbedCell, joinedCell}
 use Rattle.rules.specs.Refusals.{fastSide, fastInflow, fastPoints}
 use Rattle.rules.specs.Laws.Sizes.{Sound}
 use Rattle.reach.specs.declared.Reach.{Reach}
 use Rattle.reach.specs.declared.Call.{Call}
-use Rattle.reach.specs.Told.{endIn, bedAt}
+use Rattle.reach.specs.Told.{endIn}
 use Rattle.stage.specs.declared.rows.Side.{Side}
 use Rattle.stage.specs.declared.rows.Flux.{Flux}
 

@@ -8,7 +8,7 @@ use lib.IntN.{ℤ, pos}
 use Rattle.tables.specs.Some.{some, lowest}
 use Rattle.tables.specs.Rows.{Written, Filled}
 use Rattle.tables.specs.Cells.{asList, cellIn, seen, Holds}
-use Rattle.rules.specs.Reach.{Reach, Call, State}
+use Rattle.rules.specs.Reach.{Reach, Call, State, bedAt}
 use Rattle.rules.specs.Stage.{faceAt, stage}
 use Rattle.rules.specs.Finishing.{finish}
 use Rattle.rules.specs.Step.{rubbed, stageOne, next}
@@ -17,7 +17,7 @@ use Rattle.rules.specs.Found.{Found, at, found}
 use Rattle.rules.specs.Laws.Agree.{Same}
 use Rattle.reach.specs.declared.Reach.{Reach as ToldReach}
 use Rattle.reach.specs.declared.Call.{Call as ToldCall}
-use Rattle.reach.specs.Told.{reachIn, callOn, bedAt}
+use Rattle.reach.specs.Told.{reachIn, callOn}
 use Rattle.reach.specs.Ranges.{Wides}
 use Rattle.stage.specs.Ranges.{Smalls, Ranged, FaceRows}
 use Rattle.stage.specs.Rows.{sidesAt, fastSides, SlowEnds, faceRow, joinAt}

@@ -31,7 +31,8 @@ ghost use Rattle.tables.specs.Some.{lowest};
 ghost use Rattle.tables.specs.Cells.{asCell, seen};
 ghost use Rattle.rules.specs.Refusals.{badEnd, badCall, badBed, badRough, offCell, fastCell};
 ghost use Rattle.rules.specs.Lent.{misfit};
-ghost use Rattle.reach.specs.Told.{endIn, reachIn, callOn, bedIn, bedAt};
+ghost use Rattle.rules.specs.Reach.{bedAt};
+ghost use Rattle.reach.specs.Told.{endIn, reachIn, callOn, bedIn};
 ghost use Rattle.reach.specs.Ranges.{DryDepth, AllUnfinished};
 ghost use Rattle.stage.specs.Ranges.{Room, Inside, Ranged};
 

@@ -30,7 +30,7 @@ fn lent_number(s: &[i32], n: usize, m: usize, i: usize) -> i64
 }
 
 // Cell i of a lent state of n cells.
-fn cell_of(s: &[i32], n: usize, i: usize) -> Cell
+pub fn cell_of(s: &[i32], n: usize, i: usize) -> Cell
     requires { ⌜ (n ≤ mostCells) × (i < n) × (length (now s) ≡ 4 * n) ⌝ }
     ensures { λ r. ⌜ (r ≡ asList (cellIn n (now (s .entry)) i)) × Wide (cellIn n (now (s .entry)) i) ⌝ }
 {

@@ -1,6 +1,7 @@
 // The two stages of a step, worked on tables of their own: friction, the speeds at faces and Gauss
-// points, the fluxes, the updates and finishing. The one public function, `worked::work`, checks
-// all that it is lent and answers every call; what it calls stands in modules that are not public.
+// points, the fluxes, the updates and finishing. The two public functions, `worked::work` and
+// `state_and_bed::refusal`, check all that they are lent and answer every call; what they call stands in
+// modules that are not public.
 mod cell;
 mod checks;
 mod ending;
@@ -15,6 +16,7 @@ mod points;
 mod rows;
 mod sides;
 mod stages;
+pub mod state_and_bed;
 mod store;
 mod update;
 pub mod worked;

@@ -15,13 +15,12 @@ use Rattle.whole.specs.Choice.{not-beyond, within-past}
 use Rattle.tables.specs.Some.{some-none, none-some}
 use Rattle.tables.specs.Cells.{Cell, seen}
 use Rattle.rules.specs.Limits.{mostCells, highestBed, largestJump}
-use Rattle.rules.specs.Reach.{Bed}
+use Rattle.rules.specs.Reach.{Bed, bedAt}
 use Rattle.rules.specs.Refusals.{any, past}
 use Rattle.rules.specs.Laws.Accept.{none-at}
 use Rattle.rules.specs.Laws.Inside.{above-least, below-most, not-outside}
 use Rattle.reach.specs.declared.Reach.{Reach}
 use Rattle.reach.specs.declared.Call.{Call}
-use Rattle.reach.specs.Told.{bedAt}
 use Rattle.reach.specs.Ranges.{UpTo, widest, DryDepth, Unfinished, AllUnfinished}
 use Rattle.reach.specs.Laws.DryList.{in-list, not-bad}
 use Rattle.finishing.specs.Unfit.{eitherPast, tooLarge, hindrances, unfit}

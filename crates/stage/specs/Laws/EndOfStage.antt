@@ -7,14 +7,14 @@ use Prim.Native.Nat.{ℕ, _≤_, _<_}
 use lib.IntN.{ℤ}
 use Rattle.tables.specs.Some.{lowest, some-none, lowest-same}
 use Rattle.tables.specs.Cells.{asCell, seen, Holds}
-use Rattle.rules.specs.Reach.{Reach, Call, State}
+use Rattle.rules.specs.Reach.{Reach, Call, State, bedAt}
 use Rattle.rules.specs.Finishing.{finish}
 use Rattle.rules.specs.Refusals.{offCell, off}
 use Rattle.rules.specs.Found.{Found, at, none}
 use Rattle.rules.specs.Laws.Verdicts.{clear-found, checkAt, clear-at, stops-at, passes, none-stops}
 use Rattle.reach.specs.declared.Reach.{Reach as ToldReach}
 use Rattle.reach.specs.declared.Call.{Call as ToldCall}
-use Rattle.reach.specs.Told.{reachIn, callOn, bedAt}
+use Rattle.reach.specs.Told.{reachIn, callOn}
 use Rattle.reach.specs.Ranges.{Grounds, Wide, AllUnfinished}
 use Rattle.finishing.specs.FinishSays.{FinishSays}
 use Rattle.stage.specs.Ranges.{Smalls, Ranged}

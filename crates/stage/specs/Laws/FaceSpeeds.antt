@@ -14,12 +14,12 @@ use Rattle.tables.specs.Rows.{Written}
 use Rattle.tables.specs.Filling.{FillSays, all-filled}
 use Rattle.rules.specs.Face.{Side}
 use Rattle.rules.specs.Reach as rules
-use Rattle.rules.specs.Reach.{State, hl, hr, sideL, sideR}
+use Rattle.rules.specs.Reach.{State, hl, hr, sideL, sideR, bedAt}
 use Rattle.rules.specs.Refusals.{fastSide, fastInflow, fastFace}
 use Rattle.rules.specs.Laws.FastFaces.{inflowLeft, inflowRight, SlowBelow, left-inflow, left-side, right-side, right-inflow, no-face}
 use Rattle.reach.specs.declared.Reach.{Reach}
 use Rattle.reach.specs.declared.Call.{Call}
-use Rattle.reach.specs.Told.{reachIn, callOn, bedAt}
+use Rattle.reach.specs.Told.{reachIn, callOn}
 use Rattle.stage.specs.Rows.{leftIn, rightIn, sidesAt, fastSides, fastLeft, fastRight, fastEnds}
 use Rattle.stage.specs.Ranges.{DepthIn, Ranged}
 use Rattle.stage.specs.Says.{FaceSpeedsSay}

@@ -13,7 +13,7 @@ use Rattle.tables.specs.Some.{some, some-none}
 use Rattle.tables.specs.Rows.{Filled}
 use Rattle.tables.specs.Cells.{asCell, asList, cellIn, tableOf, table-same, seen, Holds}
 use Rattle.rules.specs.Limits.{leastDry}
-use Rattle.rules.specs.Reach.{Reach, Call, State}
+use Rattle.rules.specs.Reach.{Reach, Call, State, bedAt}
 use Rattle.rules.specs.Step.{rubbedCell, rubbed, next}
 use Rattle.rules.specs.Refusals.{Check, off, stageChecks, Clear}
 use Rattle.rules.specs.Found.{Found, found}
@@ -21,7 +21,7 @@ use Rattle.rules.specs.Laws.Verdicts.{stopped, clear-found, clear-at, went-on}
 use Rattle.rules.specs.Laws.Alike.{same-found}
 use Rattle.reach.specs.declared.Reach.{Reach as ToldReach}
 use Rattle.reach.specs.declared.Call.{Call as ToldCall}
-use Rattle.reach.specs.Told.{reachIn, callOn, bedAt}
+use Rattle.reach.specs.Told.{reachIn, callOn}
 use Rattle.stage.specs.Rows.{volumeAt, rubbedAt}
 use Rattle.stage.specs.Ranges.{Inside, Ranged, Slows}
 use Rattle.stage.specs.Says.{readyChecks, bothChecks, Shows, StepSays}

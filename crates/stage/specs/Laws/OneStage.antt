@@ -11,7 +11,7 @@ use Rattle.tables.specs.Some.{some, lowest, some-none, lowest-same}
 use Rattle.tables.specs.Rows.{Written}
 use Rattle.tables.specs.Cells.{asList, Holds}
 use Rattle.rules.specs.Reach as rules
-use Rattle.rules.specs.Reach.{State}
+use Rattle.rules.specs.Reach.{State, bedAt}
 use Rattle.rules.specs.Shown.{crossAt}
 use Rattle.rules.specs.Stage.{faceRight, faceAt, stage}
 use Rattle.rules.specs.Refusals.{fastFace, fastGauss, tooLong, Check, stageChecks}
@@ -19,7 +19,7 @@ use Rattle.rules.specs.Found.{at, found, none}
 use Rattle.rules.specs.Laws.Verdicts.{checkAt, stops-at, passes, none-stops}
 use Rattle.reach.specs.declared.Reach.{Reach}
 use Rattle.reach.specs.declared.Call.{Call}
-use Rattle.reach.specs.Told.{reachIn, callOn, bedAt}
+use Rattle.reach.specs.Told.{reachIn, callOn}
 use Rattle.reach.specs.Ranges.{UpTo, Numbers}
 use Rattle.stage.specs.Rows.{Sounds, fastPointsAt, momentumAt}
 use Rattle.stage.specs.Rows.{faceRow, longFlux, longAt, crossIn, faceRowAt, updateAt}

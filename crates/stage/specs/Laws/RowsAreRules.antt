@@ -10,13 +10,13 @@ use Rattle.whole.specs.Flags.{or-l, or-r}
 use Rattle.tables.specs.Rows.{Written}
 use Rattle.tables.specs.Cells.{Cell}
 use Rattle.rules.specs.Face.{Flux}
-use Rattle.rules.specs.Reach.{State, Bed, z1, hl, hr, sideL, sideR}
+use Rattle.rules.specs.Reach.{State, Bed, z1, hl, hr, sideL, sideR, bedAt}
 use Rattle.rules.specs.Stage.{atLeft, atRight, faceAt, gauss, push, tilt, update}
 use Rattle.rules.specs.Refusals.{fastSide}
 use Rattle.rules.specs.Laws.Shown.{at-same}
 use Rattle.reach.specs.declared.Reach.{Reach}
 use Rattle.reach.specs.declared.Call.{Call}
-use Rattle.reach.specs.Told.{reachIn, callOn, bedAt}
+use Rattle.reach.specs.Told.{reachIn, callOn}
 use Rattle.stage.specs.Rows.{leftIn, rightIn, sidesAt, fastSides, faceRow, shownIn, crossIn}
 use Rattle.stage.specs.Rows.{slopeOf, thrust, pushOf, tiltOf, updateBy}
 

@@ -17,13 +17,12 @@ use Rattle.tables.specs.Rows.{Written}
 use Rattle.tables.specs.Cells.{Cell, asCell, seen, Holds}
 use Rattle.rules.specs.Limits.{deepest, fastest}
 use Rattle.rules.specs.Face.{speed}
-use Rattle.rules.specs.Reach.{Reach, Call, State, Bed, h0, h1, hl, hr, ql, qr, sideL, sideR}
+use Rattle.rules.specs.Reach.{Reach, Call, State, Bed, h0, h1, hl, hr, ql, qr, sideL, sideR, bedAt}
 use Rattle.rules.specs.Stage.{carried, gauss, flowBefore, flowBehind, depthBefore, depthBehind, stage}
 use Rattle.rules.specs.Finishing.{isLimited, limit, beyond, cut, dried}
 use Rattle.rules.specs.Step.{half, joinedCell}
 use Rattle.rules.specs.Refusals.{past, fastPoints}
 use Rattle.rules.specs.Laws.Sizes.{Sound}
-use Rattle.reach.specs.Told.{bedAt}
 use Rattle.reach.specs.Ranges.{UpTo, widest, Ground, Wide}
 use Rattle.finishing.specs.Laws.Sizes.{limited-or-not, z0-size, z1-size, clip-size}
 use Rattle.stage.specs.Rows.{sidesAt, fastSides, Sounds, volumeOf, joinAt}

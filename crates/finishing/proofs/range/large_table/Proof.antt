@@ -7,7 +7,7 @@ use denote.Ref.{now}
 use lib.IntN.{ℤ}
 use Rattle.tables.specs.Cells.{seen}
 use Rattle.tables.specs.Scan.{Scanned, scan-none, scan-more, scan-found, scan-all}
-use Rattle.reach.specs.Told.{bedAt}
+use Rattle.rules.specs.Reach.{bedAt}
 use Rattle.finishing.specs.Unfit.{tooLarge}
 use Rattle.finishing.proofs.range.large_table.Statement.{statement}
 use Rattle.finishing.proofs.range.large_table.Tie as tie

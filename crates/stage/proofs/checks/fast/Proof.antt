@@ -10,7 +10,7 @@ use Rattle.whole.specs.Machine.{back}
 use Rattle.tables.specs.Scan.{Scanned, scan-none, scan-more, scan-lowest, scan-past}
 use Rattle.tables.specs.Cells.{seen}
 use Rattle.rules.specs.Refusals.{fastCell}
-use Rattle.reach.specs.Told.{bedAt}
+use Rattle.rules.specs.Reach.{bedAt}
 use Rattle.stage.proofs.checks.fast.Statement.{statement}
 use Rattle.stage.proofs.checks.fast.Tie as tie
 

@@ -9,7 +9,7 @@ use lib.IntN.{ℤ}
 use Rattle.tables.specs.Scan.{Scanned, scan-none, scan-more, scan-lowest, scan-past}
 use Rattle.tables.specs.Cells.{seen}
 use Rattle.rules.specs.Refusals.{offCell}
-use Rattle.reach.specs.Told.{bedAt}
+use Rattle.rules.specs.Reach.{bedAt}
 use Rattle.stage.proofs.checks.off.Statement.{statement}
 use Rattle.stage.proofs.checks.off.Tie as tie
 

@@ -11,7 +11,7 @@ use Rattle.whole.specs.Machine.{back, back64, rd}
 use Rattle.tables.specs.Filling.{Filling, fill-none, fill-more, fill-stops, fill-ends}
 use Rattle.tables.specs.Cells.{seen}
 use Rattle.rules.specs.Refusals.{fastPoints}
-use Rattle.reach.specs.Told.{bedAt}
+use Rattle.rules.specs.Reach.{bedAt}
 use Rattle.stage.specs.Rows.{pointRow, fastPointsAt, momentumAt}
 use Rattle.stage.proofs.points.points.Statement.{statement}
 use Rattle.stage.proofs.points.points.Tie as tie

@@ -1,0 +1,12 @@
+-- The test is the rule's.
+use mathlib.Core.Path.{ap}
+use Prim.Native.Nat.{ℕ}
+use borrow.Author.Needs.{needs}
+use Rattle.sums.proofs.blocks.bad_sums.Statement.{statement}
+use Rattle.sums.proofs.blocks.bad_sums.Tie as tie
+
+returns : tie.Need-returns
+returns c = rw (c .blocks2 .ensures)
+
+pub bad-sums-spec : {M : Type 1} → statement M
+bad-sums-spec = tie.close (tie.spec (λ c κs. search needs) returns)
