@@ -135,14 +135,22 @@ pub record AnswerTold (a : Answer) (r : ℕ) (volumes volumes′ : List ℤ) (pl
   pub crossed : volumes′ ≡ volumesIn a volumes
   pub place : places′ ≡ set places 0 (placed a)
 
-pub refused-told : (k p : ℕ) (old : List ℤ) (places : List ℕ) → AnswerTold (Refused k p) k old old places (set places 0 p)
+pub refused-told : {a : Answer} (k p : ℕ) (old : List ℤ) (places : List ℕ) → Refused k p ≡ a → AnswerTold a k old old places (set places 0 p)
 unfolding code volumesIn placed
-refused-told k p old places = record { number = refl; crossed = refl; place = refl }
+refused-told k p old places e = record {
+  number = ap code e;
+  crossed = ap (λ (x : Answer). volumesIn x old) e;
+  place = ap (λ (x : Answer). set places 0 (placed x)) e;
+}
 
-pub accepted-told : (w v : ℤ) (old : List ℤ) (places : List ℕ)
-    → AnswerTold (Accepted w v) 0 old (set (set old 0 w) 1 v) places (set places 0 0)
+pub accepted-told : {a : Answer} (w v : ℤ) (old : List ℤ) (places : List ℕ) → Accepted w v ≡ a
+    → AnswerTold a 0 old (set (set old 0 w) 1 v) places (set places 0 0)
 unfolding code volumesIn placed
-accepted-told w v old places = record { number = refl; crossed = refl; place = refl }
+accepted-told w v old places e = record {
+  number = ap code e;
+  crossed = ap (λ (x : Answer). volumesIn x old) e;
+  place = ap (λ (x : Answer). set places 0 (placed x)) e;
+}
 
 same-volumes : (o : Outcome) (old : List ℤ) → volumesIn (answer o) old ≡ volumesOf o old
 unfolding answer volumesIn volumesOf

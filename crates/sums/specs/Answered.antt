@@ -3,7 +3,7 @@
 use mathlib.Core.Path.{_≡_, refl, sym, ap, _∙_, subst}
 use mathlib.Core.Bool.{false}
 use mathlib.Core.List.{List}
-use Prim.Native.Nat.{ℕ}
+use Prim.Native.Nat.{ℕ, _≤_}
 use native.Mathlib.Omega.{arith}
 use borrow.Author.Tests.{eqb-true, eqb-false}
 use lib.Dec.{eqb}
@@ -12,11 +12,12 @@ use lib.IntN.{ℤ}
 use Rattle.whole.specs.Flags.{by}
 use Rattle.rules.specs.Lent.{Lent, cellsOf, number, filled, Outcome, refused, accepted, stepOf}
 use Rattle.rules.specs.StateAndBed.{cellsOver}
-use Rattle.rules.specs.Sums.{sumsOf, misfitSums, Making, unmade, made, Reading, answered, keepingOf, sumsAfter}
+use Rattle.rules.specs.Sums.{sumsOf, misfitSums, Making, unmade, made, Reading, answered, betweenOf, keepingOf, sumsAfter}
 use Rattle.rules.specs.Laws.Lengths.{accepts, refuses}
-use Rattle.rules.specs.Laws.StateAndBed.{state-passed}
+use Rattle.rules.specs.Laws.StateAndBed.{state-fits, state-passed}
 use Rattle.rules.specs.Laws.Written.{cells-over, written-passes}
-use Rattle.rules.specs.Laws.Questions.{as-many}
+use Rattle.rules.specs.Laws.Questions.{as-many, answered-asked}
+use Rattle.rules.specs.Laws.Sums.{few-cells, few-blocks}
 use Rattle.step.specs.Gives.{Gives, answer, leaves}
 use Rattle.step.specs.declared.Answer.{Answer}
 use Rattle.step.specs.declared.Answer.the-variants.{Refused, Accepted}
@@ -38,6 +39,18 @@ made-all e old new is = record { says = sym (ap madeAnswer e); table = is ∙ sy
 pub asked-read : (r : Reading) (w : ℤ) (c b : ℕ) → w ≡ r .water → c ≡ r .cells → b ≡ r .blocks → asked (amount.Water w c b) ≡ answered r
 unfolding asked
 asked-read r w c b p q s i = answered (record { water = p i; cells = q i; blocks = s i })
+
+-- an answer has read few cells, and no more blocks than the longest reach has
+pub asked-few : (bed t sums : List ℤ) (a b : ℕ) (w : ℤ) (c k : ℕ) → asked (amount.Water w c k) ≡ betweenOf bed t sums a b
+    → (c ≤ 30) × (k ≤ 64)
+unfolding asked
+asked-few bed t sums a b w c k e =
+    let r : Reading = record { water = w; cells = c; blocks = k } in
+    let q = answered-asked bed t sums a b r (sym e) in
+    let most = state-fits (length t) (cellsOver bed) (q .state-fits) .most in (
+      subst (λ (x : Reading). x .cells ≤ 30) (sym (q .is)) (few-cells bed t sums a b (q .ordered) (q .inside)),
+      subst (λ (x : Reading). x .blocks ≤ 64) (sym (q .is)) (few-blocks bed t sums a b (q .ordered) (q .inside) most),
+    )
 
 -- ---- the step that keeps the sums
 never : {w v : ℤ} {k p : ℕ} {P : Type 0} → _≡_ {A = Answer} (Refused k p) (Accepted w v) → P

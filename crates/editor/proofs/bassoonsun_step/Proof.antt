@@ -1,60 +1,32 @@
--- The call's answer, as a number, two volumes and a place.
-use mathlib.Core.Path.{sym, ap, _∙_}
+-- The step's answer, told.
 use denote.Ref.{now}
-use lib.ListN.{set}
-use Rattle.whole.specs.Machine.{back}
-use Rattle.step.specs.Gives.{code, placed}
-use Rattle.step.specs.declared.Answer.{Answer}
-use Rattle.editor.specs.Told.{none-crossed, both-crossed, place-small}
+use lib.ListN.{length}
 use borrow.Author.Needs.{needs}
+use Rattle.rules.specs.Lent.{Lent, stepOf}
+use Rattle.step.specs.Gives.{end, lend, Gives}
+use Rattle.editor.specs.Told.{step-place, step-told}
 use Rattle.editor.proofs.bassoonsun_step.Statement.{statement}
 use Rattle.editor.proofs.bassoonsun_step.Tie as tie
 
-cast-place : tie.Need-cast-place
-cast-place c =
-    let z = c .before .a .given in
-    let e = sym (z .1) ∙ c .before .before .before .before .step .ensures .says in
-    search (needs, place-small _ (z .0 .0) (z .0 .1 .0) e)
+-- the call that was made is the one that was asked for
+module _ (w : tie.After-step) where
+  abbrev s : tie.Start
+  s = w .before .before .before .before
+
+  abbrev call : Lent
+  call = let p = s .args in
+      lend (now (p .state)) (length (now (p .next))) (now (p .bed)) (now (p .friction)) (p .dx) (p .dt) (p .jump) (p .dry)
+      (end (p .left) (p .left-q)) (end (p .right) (p .right-q))
+
+  gave : Gives (stepOf call) (w .step .result) (now (s .args .next)) (w .step .last .1 .0)
+  gave = rw (w .before .before .given .ensures) at (w .step .ensures)
+
+tell-requires : tie.Need-tell-requires
+tell-requires c κs = let w = c .before .before .before in step-place (call w) (gave w .says)
 
 returns : tie.Need-returns
-unfolding code placed
-returns c =
-    let st = c .before .before .before .before in
-    let g = st .step .ensures in
-    let z = c .before .a .given in
-    let e = sym (z .1) ∙ g .says in
-    record {
-      number = ap code e;
-      table = g .table;
-      crossed = none-crossed _ (z .0 .0) (z .0 .1 .0) e _;
-      place = ap (λ (x : Answer). set (now (st .before .before .before .args .place)) 0 (placed x)) e;
-    }
-
-returns-2 : tie.Need-returns-2
-unfolding code placed
-returns-2 c =
-    let st = c .before .before .before .before in
-    let g = st .step .ensures in
-    let z = c .before .a2 .given in
-    let t = c .known-told2 .given in
-    let e = sym (z .1) ∙ g .says in
-    rw (back {z = z .0 .0} (t .0 .1), back {z = z .0 .1 .0} (t .1 .0 .1))
-    (record {
-      number = ap code e;
-      table = g .table;
-      crossed = both-crossed _ (z .0 .0) (z .0 .1 .0) e _;
-      place = ap (λ (x : Answer). set (now (st .before .before .before .args .place)) 0 (placed x)) e;
-    })
+returns c = step-told (gave (c .before .before .before .before)) (c .tell .ensures)
 
 pub bassoonsun-step-spec : {M : Type 1} → statement M
 bassoonsun-step-spec =
-    tie.close
-    (tie.spec
-    (λ c κs. search needs)
-    (λ c. search needs)
-    cast-place
-    (λ c. search needs) (λ c. search needs) (λ c. search needs) (λ c. search needs) (λ c. search needs)
-    (λ c. search needs)
-    returns
-    (λ c. search needs)
-    returns-2)
+    tie.close (tie.spec (λ c κs. search needs) (λ c κs. search needs) tell-requires (λ c. search needs) returns)
