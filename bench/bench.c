@@ -1,10 +1,11 @@
-/* Times the library beside two plain writings of the same step in C.
+/* Times the library beside two plain writings of the same step in C, its step that keeps the sums beside the one that
+ * does not, and questions of the water between two faces beside a sum over the cells.
  *
  *     bench                        compares the answers, then times; exit status 1 where any differ
  *     bench count WHO CASE N RUNS  only runs WHO (0 library, 1 plain, 2 plain with the processor's
- *                                  root) RUNS times, for counting instructions from outside
+ *                                  root, 3 library with sums) RUNS times, for counting instructions from outside
  *
- * What is timed is first run by all three and compared step for step. */
+ * What is timed is first run by all four and compared step for step. */
 #define _POSIX_C_SOURCE 200809L /* clock_gettime */
 #include "plain.h"
 
@@ -24,15 +25,36 @@ enum {
     STEPS = 200, /* of one run, always from the same start */
     ROUNDS = 21, /* in each, all are timed one after the other */
     RANDOM_CALLS = 20000,
-    CELL_STEPS = 300000 /* of one timing, so that short reaches are timed as long as long ones */
+    CELL_STEPS = 300000, /* of one timing, so that short reaches are timed as long as long ones */
+    QUESTIONS = 20000 /* of one timing */
 };
 
 typedef uint32_t Step(const int32_t *, size_t, int32_t *, size_t, const int32_t *, size_t,
                       const uint16_t *, size_t, uint32_t, uint32_t, uint32_t, uint32_t, uint32_t,
                       uint32_t, uint32_t, uint32_t, int64_t *, uint32_t *);
 
-enum { LIBRARY, PLAIN, PLAIN_ROOT, WRITINGS };
-static Step *const writings[WRITINGS] = {bassoonsun_step, plain_step, plain_root_step};
+/* Those of the last state that step_with_sums has written. */
+static int32_t sums[BASSOONSUN_SUMS(MOST_CELLS + 1)];
+
+/* The library's step that keeps the sums, as one of these. */
+static uint32_t step_with_sums(const int32_t *now, size_t now_len, int32_t *next, size_t next_len, const int32_t *bed,
+                               size_t bed_len, const uint16_t *friction, size_t friction_len, uint32_t dx, uint32_t dt,
+                               uint32_t jump, uint32_t dry, uint32_t left, uint32_t right, uint32_t left_q,
+                               uint32_t right_q, int64_t *volumes, uint32_t *place)
+{
+    return bassoonsun_step_sums(now, now_len, next, next_len, bed, bed_len, friction, friction_len, sums,
+                                BASSOONSUN_SUMS(friction_len), dx, dt, jump, dry, left, right, left_q, right_q, volumes,
+                                place);
+}
+
+enum { LIBRARY, PLAIN, PLAIN_ROOT, WITH_SUMS, WRITINGS };
+static Step *const writings[WRITINGS] = {bassoonsun_step, plain_step, plain_root_step, step_with_sums};
+
+typedef uint32_t Question(const int32_t *, size_t, const int32_t *, size_t, const int32_t *, size_t, uint32_t, uint32_t,
+                          int64_t *);
+
+enum { BY_SUMS, BY_CELLS, WAYS };
+static Question *const ways[WAYS] = {bassoonsun_between, plain_between};
 
 typedef struct {
     size_t n;
@@ -109,7 +131,31 @@ static int same(const Case *c, const int32_t *now, Given *given)
         memset(&given[k], 0x5a, sizeof given[k]);
         given[k].refusal = call(writings[k], c, now, given[k].next, given[k].volumes, &given[k].place);
     }
-    return memcmp(&given[0], &given[1], sizeof given[0]) == 0 && memcmp(&given[0], &given[2], sizeof given[0]) == 0;
+    for (int k = 1; k < WRITINGS; k++)
+        if (memcmp(&given[0], &given[k], sizeof given[0]) != 0)
+            return 0;
+    return 1;
+}
+
+/* A question; gives the water, or -1 for a refusal, as no water is below nought. */
+static int64_t asked(Question *ask, const Case *c, const int32_t *state, size_t a, size_t b)
+{
+    int64_t answer[3];
+    return ask(state, 4 * c->n, c->bed, c->n + 1, sums, BASSOONSUN_SUMS(c->n), (uint32_t)a, (uint32_t)b, answer) == 0
+               ? answer[0] : -1;
+}
+
+/* The faces of the part that is asked for: they cut blocks, as markers do. */
+static size_t middle_from(size_t n) { return n / 4 + 3; }
+
+static size_t middle_to(size_t n) { return n - n / 4 - 3; }
+
+static int same_water(const Case *c, const int32_t *state)
+{
+    size_t a = middle_from(c->n), b = middle_to(c->n);
+    return asked(ways[BY_SUMS], c, state, 0, c->n) == asked(ways[BY_CELLS], c, state, 0, c->n) &&
+           asked(ways[BY_SUMS], c, state, a, b) == asked(ways[BY_CELLS], c, state, a, b) &&
+           asked(ways[BY_SUMS], c, state, a, b) >= 0;
 }
 
 static uint64_t seed = 88172645463325252u;
@@ -214,6 +260,9 @@ static int compare_case(const Case *c, const char *name)
             return fprintf(stderr, "bench: %s, %zu cells: step %d differs or is refused with %u\n", name, c->n,
                            k + 1, (unsigned)given[0].refusal), 0;
         memcpy(now, given[0].next, 4 * c->n * sizeof now[0]);
+        if (!same_water(c, now))
+            return fprintf(stderr, "bench: %s, %zu cells: after step %d the water is answered in two ways\n", name, c->n,
+                           k + 1), 0;
     }
     return 1;
 }
@@ -263,26 +312,73 @@ static double sorted_median(double *values)
     return values[ROUNDS / 2];
 }
 
+/* Which writings are held against each other. */
+enum { RATIOS = 3 };
+static const int ratio_of[RATIOS][2] = {{LIBRARY, PLAIN}, {LIBRARY, PLAIN_ROOT}, {WITH_SUMS, LIBRARY}};
+
 static void time_case(const Case *c, const char *name)
 {
-    double times[WRITINGS][ROUNDS], ratios[2][ROUNDS];
+    double times[WRITINGS][ROUNDS], ratios[RATIOS][ROUNDS];
     for (int round = 0; round < ROUNDS; round++) {
         for (int k = 0; k < WRITINGS; k++)
             times[k][round] = timed(writings[k], c);
-        for (int k = 0; k < 2; k++)
-            ratios[k][round] = times[LIBRARY][round] / times[1 + k][round];
+        for (int k = 0; k < RATIOS; k++)
+            ratios[k][round] = times[ratio_of[k][0]][round] / times[ratio_of[k][1]][round];
     }
     printf("| %s | %zu |", name, c->n);
     for (int k = 0; k < WRITINGS; k++)
         times[k][0] = sorted_median(times[k]);
-    for (int k = 0; k < WRITINGS; k++)
+    for (int k = LIBRARY; k <= PLAIN_ROOT; k++)
         printf(" %.0f |", 1 / times[k][0]);
     printf(" %.1f |", 1e9 * times[LIBRARY][0] / (double)c->n);
-    for (int k = 0; k < 2; k++) {
+    for (int k = 0; k < RATIOS; k++) {
         double middle = sorted_median(ratios[k]);
         printf(" %.2f (%.2f\u2013%.2f) |", middle, ratios[k][0], ratios[k][ROUNDS - 1]);
     }
     putchar('\n');
+}
+
+/* ---- Questions */
+
+/* Seconds of one question, of the start of a case with its own sums. */
+static double timed_question(Question *ask, const Case *c, size_t a, size_t b)
+{
+    static volatile int64_t sink;
+    double before = seconds();
+    for (int k = 0; k < QUESTIONS; k++)
+        sink = asked(ask, c, c->start, a, b);
+    (void)sink;
+    return (seconds() - before) / QUESTIONS;
+}
+
+static void time_part(const Case *c, size_t a, size_t b)
+{
+    double times[WAYS][ROUNDS];
+    for (int round = 0; round < ROUNDS; round++)
+        for (int k = 0; k < WAYS; k++)
+            times[k][round] = timed_question(ways[k], c, a, b);
+    printf(" %zu to %zu |", a, b);
+    for (int k = 0; k < WAYS; k++)
+        printf(" %.1f |", 1e9 * sorted_median(times[k]));
+}
+
+/* Gives 0 where a reach is refused or answered in two ways. */
+static int time_questions(void)
+{
+    static Case c;
+    puts("\n| cells | all | by sums (ns a question) | cell by cell | part | by sums (ns a question) | cell by cell |\n"
+         "|---|---|---|---|---|---|---|");
+    for (size_t k = 0; k < LENGTHS; k++) {
+        size_t n = lengths[k];
+        fill_wave(&c, n);
+        if (bassoonsun_sums(c.start, 4 * n, c.bed, n + 1, sums, BASSOONSUN_SUMS(n)) != 0 || !same_water(&c, c.start))
+            return fprintf(stderr, "bench: %zu cells: the water is answered in two ways\n", n), 0;
+        printf("| %zu |", n);
+        time_part(&c, 0, n);
+        time_part(&c, middle_from(n), middle_to(n));
+        putchar('\n');
+    }
+    return 1;
 }
 
 static int compare_and_time(void)
@@ -291,7 +387,8 @@ static int compare_and_time(void)
     if (!compare_random())
         return 1;
     puts("| case | cells | library (steps/s) | plain C | plain C, processor's root | library (ns a cell a step) "
-         "| library / plain C | library / plain C, processor's root |\n|---|---|---|---|---|---|---|---|");
+         "| library / plain C | library / plain C, processor's root | with sums / without |\n"
+         "|---|---|---|---|---|---|---|---|---|");
     for (size_t name = 0; name < CASES; name++)
         for (size_t k = 0; k < LENGTHS; k++) {
             fills[name](&c, lengths[k]);
@@ -299,7 +396,7 @@ static int compare_and_time(void)
                 return 1;
             time_case(&c, case_names[name]);
         }
-    return 0;
+    return time_questions() ? 0 : 1;
 }
 
 static int count(char **words)

@@ -455,6 +455,23 @@ static void store(const Cell *cells, size_t n, int32_t *next)
     }
 }
 
+#ifndef PROCESSOR_ROOT
+uint32_t plain_between(const int32_t *state, size_t state_len, const int32_t *bed, size_t bed_len, const int32_t *sums,
+                       size_t sums_len, uint32_t a, uint32_t b, int64_t answer[3])
+{
+    size_t n = bed_len - 1;
+    (void)sums, (void)sums_len; /* it does without them */
+    if (bed_len < 2 || n > MOST_CELLS || state_len != 4 * n)
+        return 1;
+    if (a > b || b > n)
+        return 10;
+    answer[0] = 0, answer[1] = b - a, answer[2] = 0;
+    for (size_t i = a; i < b; i++)
+        answer[0] += state[i] - ((int64_t)bed[i] + bed[i + 1]) / 2;
+    return 0;
+}
+#endif
+
 uint32_t STEP(const int32_t *now, size_t now_len, int32_t *next, size_t next_len, const int32_t *bed,
               size_t bed_len, const uint16_t *friction, size_t n, uint32_t dx, uint32_t dt,
               uint32_t jump, uint32_t dry, uint32_t left, uint32_t right, uint32_t left_q,

@@ -1,4 +1,4 @@
-/* The step of bassoonsun.h written plainly in C: same arguments, same answers. */
+/* The step of bassoonsun.h written plainly in C, and its question: same arguments, same answers. */
 #ifndef PLAIN_H
 #define PLAIN_H
 
@@ -18,5 +18,9 @@ uint32_t plain_root_step(const int32_t *now, size_t now_len, int32_t *next, size
                          size_t friction_len, uint32_t dx, uint32_t dt, uint32_t jump, uint32_t dry,
                          uint32_t left, uint32_t right, uint32_t left_q, uint32_t right_q,
                          int64_t volumes[2], uint32_t place[1]);
+
+/* The water between two faces, cell by cell: the call of bassoonsun.h that reads no sums. */
+uint32_t plain_between(const int32_t *state, size_t state_len, const int32_t *bed, size_t bed_len, const int32_t *sums,
+                       size_t sums_len, uint32_t a, uint32_t b, int64_t answer[3]);
 
 #endif

@@ -1,10 +1,11 @@
 /* A flood comes down a mill leat, through a pool, over a weir and out by a chute. It is stepped through
- * bassoonsun.h, the water is counted as it goes, and the long section is drawn at the end.
+ * bassoonsun.h, the water is counted as it goes, and at the end the water between two markers is told and the long
+ * section drawn.
  *
  *     leat [--from-below] [--dt N] [FILE.svg]
  *
- * From below, the leat is entered from its lower end, as by another office: the balance is the same, number for
- * number, and the section is the same from the other side.
+ * From below, the leat is entered from its lower end, as by another office: the balance and the water between the
+ * markers are the same, number for number, and the section is the same from the other side.
  *
  * Each time step is a third of a cell, as bassoonsun.h advises, unless N is given, in 1/4096 s; with 500
  * a step is refused when the flood comes: the run says why, where and what to change, and the section is drawn
@@ -30,6 +31,8 @@ enum {
     MANNING = 30, /* 0.030, an earth channel with some weed */
     CREST = 48, /* the face on top of the weir */
     GAUGE = 40, /* the cell whose level is told */
+    UPPER_MARKER = 10 * METRE, /* chainages, from the top of the leat */
+    LOWER_MARKER = 40 * METRE,
     BASE_FLOW = METRE / 5, /* 0.2 m2/s, */
     TOP_FLOW = METRE, /* and 1 m2/s at the top of the flood */
     FLOOD_COMES = 30 * SECOND,
@@ -45,11 +48,13 @@ enum {
 /* Where each column begins in the library's table of a state: now + LEVEL is the curve of the levels, and
  * now[LEVEL + i] the level of cell i. */
 enum { LEVEL = 0, LEVEL_SLOPE = CELLS, DISCHARGE = 2 * CELLS, DISCHARGE_SLOPE = 3 * CELLS, STATE = 4 * CELLS };
+enum { SUMS = BASSOONSUN_SUMS(CELLS) };
 
 typedef struct {
     int32_t bed[CELLS + 1];
     uint16_t friction[CELLS];
     int32_t now[STATE], next[STATE];
+    int32_t sums[SUMS]; /* of now: made once, then kept by each step */
     int32_t before[STATE], flood[STATE]; /* for the drawing: when the flood comes, and in the midst of it */
     int64_t at_first, came_in, went_out; /* water, as depth over one cell */
     int32_t time;
@@ -135,12 +140,40 @@ static uint32_t hydrograph(int32_t time)
     return (uint32_t)(BASE_FLOW + more * (FLOOD_ENDS - time) / (FLOOD_ENDS - FLOOD_TOPS));
 }
 
-static int64_t sum_of_depths(const Leat *leat)
+/* Ends the run where a call is refused that never is, with the lengths and faces given here. */
+static void must(uint32_t refusal)
 {
-    int64_t sum = 0;
-    for (int i = 0; i < CELLS; i++)
-        sum += leat->now[LEVEL + i] - (leat->bed[i] + leat->bed[i + 1]) / 2;
-    return sum;
+    if (refusal != BASSOONSUN_ACCEPTED) {
+        fprintf(stderr, "leat: %s\n", bassoonsun_refusal_text(refusal));
+        exit(1);
+    }
+}
+
+/* The water between two faces, counted from the top of the leat: answer[0], as depth over one cell; and how many cells
+ * and blocks were read for it. */
+static void ask(const Leat *leat, uint32_t upper, uint32_t lower, int64_t answer[3])
+{
+    uint32_t a = leat->from_below ? CELLS - lower : upper, b = leat->from_below ? CELLS - upper : lower;
+    must(bassoonsun_between(leat->now, STATE, leat->bed, CELLS + 1, leat->sums, SUMS, a, b, answer));
+}
+
+static int64_t water_in_leat(const Leat *leat)
+{
+    int64_t answer[3];
+    ask(leat, 0, CELLS, answer);
+    return answer[0];
+}
+
+/* The face nearest to a chainage. */
+static uint32_t face_at(int32_t chainage) { return (uint32_t)((chainage + CELL_LENGTH / 2) / CELL_LENGTH); }
+
+static void say_between(const Leat *leat)
+{
+    int64_t answer[3];
+    ask(leat, face_at(UPPER_MARKER), face_at(LOWER_MARKER), answer);
+    printf("At %.2f s %.3f m3 stand between %d m and %d m, for one metre of width (cells read: %lld, blocks: %lld).\n",
+           (double)leat->time / SECOND, (double)answer[0] / METRE * CELL_LENGTH / METRE, UPPER_MARKER / METRE,
+           LOWER_MARKER / METRE, (long long)answer[1], (long long)answer[2]);
 }
 
 /* What one may do about a refusal, beside what bassoonsun.h says of it; and what its place counts. */
@@ -221,9 +254,9 @@ static void step(Leat *leat)
         .right = leat->from_below ? BASSOONSUN_INFLOW : BASSOONSUN_OPEN,
         .right_q = leat->from_below ? comes_in : 0,
     };
-    leat->refusal = bassoonsun_step_call(leat->now, STATE, leat->next, STATE, leat->bed, CELLS + 1, leat->friction,
-                                         CELLS, call, volumes, &leat->place);
-    if (leat->refusal == BASSOONSUN_ACCEPTED) { /* only now do next and volumes hold anything */
+    leat->refusal = bassoonsun_step_sums_call(leat->now, STATE, leat->next, STATE, leat->bed, CELLS + 1, leat->friction,
+                                              CELLS, leat->sums, SUMS, call, volumes, &leat->place);
+    if (leat->refusal == BASSOONSUN_ACCEPTED) { /* only now do next and volumes hold anything, and sums those of next */
         memcpy(leat->now, leat->next, sizeof leat->now);
         leat->came_in += leat->from_below ? -volumes[1] : volumes[0]; /* rightward is positive */
         leat->went_out += leat->from_below ? -volumes[0] : volumes[1];
@@ -234,7 +267,7 @@ static void step(Leat *leat)
 /* Prints the flow and the water; gives what is missing of it, which is always 0. */
 static int64_t balance(const Leat *leat)
 {
-    int64_t water = sum_of_depths(leat);
+    int64_t water = water_in_leat(leat);
     int64_t missing = leat->at_first + leat->came_in - leat->went_out - water;
     printf("%6.2f %8.3f %8.3f %9.3f %10lld %9lld %9lld %8lld\n", (double)leat->time / SECOND,
            (double)hydrograph(leat->time) / METRE, (double)outflow(leat) / METRE, (double)gauge(leat) / METRE,
@@ -394,7 +427,8 @@ static int run_until(Leat *leat, int32_t time)
 /* All the steps; gives 0 when none was refused and no water was missing. */
 static int run(Leat *leat)
 {
-    leat->at_first = sum_of_depths(leat);
+    must(bassoonsun_sums(leat->now, STATE, leat->bed, CELLS + 1, leat->sums, SUMS));
+    leat->at_first = water_in_leat(leat);
     printf("A flood comes down a leat of 64 m%s. Water is counted in 1/4096 m over a cell of 1 m.\n",
            leat->from_below ? ", entered from below" : "");
     puts("  time   inflow  outflow  level at   water in   came in  went out  missing\n"
@@ -451,6 +485,7 @@ int main(int argc, char **argv)
     if (leat.from_below)
         turn(&leat);
     int failed = run(&leat);
+    say_between(&leat);
     draw(&leat);
     if (picture != NULL && write_svg(&leat, picture) != 0)
         return fprintf(stderr, "leat: %s could not be written\n", picture), 1;

@@ -1,4 +1,5 @@
-/* One step of shallow flow along a straight reach of equal cells, and the flux at one face.
+/* One step of shallow flow along a straight reach of equal cells, the water between two of its faces, and the flux
+ * at one face.
  *
  * Built by `make` as target/libbassoonsun.a (x86-64, System V calling convention); it needs nothing
  * of the C library but memcpy and memset. examples/leat.c shows its use, and
@@ -15,8 +16,8 @@
  * WHAT THE CALLER SEES TO. The contracts are proved; these few things C leaves to the caller:
  * - every pointer is non-null and aligned for its type, also where the length is 0;
  * - a length counts elements, not bytes, and at least so many elements are there;
- * - a table that is written (next, volumes, place, flux, root) overlaps no other table of the call.
- *   now, bed and friction are only read;
+ * - a table that is written (next, sums, volumes, place, answer, flux, root) overlaps no other table
+ *   of the call. now, state, bed and friction are only read, and sums by bassoonsun_between;
  * - the processor's floating point is as a program finds it: rounding to nearest, and tiny
  *   numbers not flushed to 0. Only bassoonsun_face_double and bassoonsun_root depend on it.
  * Anything else may be lent: whatever the numbers and lengths are, what does not fit is refused.
@@ -36,12 +37,17 @@ extern "C" {
  * third with all else. */
 #define BASSOONSUN_VERSION_MAJOR 0
 #define BASSOONSUN_VERSION_MINOR 1
-#define BASSOONSUN_VERSION_PATCH 0
-#define BASSOONSUN_VERSION "0.1.0"
+#define BASSOONSUN_VERSION_PATCH 1
+#define BASSOONSUN_VERSION "0.1.1"
 
 /* So many units are one metre, second, m/s or m2/s, and so many cells a reach has at most. */
 #define BASSOONSUN_UNIT 4096
 #define BASSOONSUN_MOST_CELLS 1024
+
+/* So many cells are a block, and what is left over at the right end of a reach is one too; and so many sums are kept of
+ * n cells, one for each block, as in `int32_t sums[BASSOONSUN_SUMS(CELLS)];`. */
+#define BASSOONSUN_BLOCK_CELLS 16
+#define BASSOONSUN_SUMS(n) (((n) + BASSOONSUN_BLOCK_CELLS - 1) / BASSOONSUN_BLOCK_CELLS)
 
 /* What an end of the reach is. */
 enum bassoonsun_end {
@@ -50,8 +56,8 @@ enum bassoonsun_end {
     BASSOONSUN_INFLOW = 2 /* a given discharge comes in */
 };
 
-/* What a step answers: that it is accepted, or why it is refused. bassoonsun_step says more of each, below. The faces
- * and the root answer with numbers of their own. */
+/* What a step answers, or a call of the sums: that it is accepted, or why it is refused. bassoonsun_step says more of
+ * each, below, and bassoonsun_between of the last. The faces and the root answer with numbers of their own. */
 enum bassoonsun_refusal {
     BASSOONSUN_ACCEPTED = 0,
     BASSOONSUN_TABLES_MISFIT = 1,
@@ -61,10 +67,11 @@ enum bassoonsun_refusal {
     BASSOONSUN_STATE_OUT_OF_RANGE = 5,
     BASSOONSUN_WATER_TOO_FAST = 6,
     BASSOONSUN_TIME_STEP_TOO_LONG = 7,
-    BASSOONSUN_RESULT_TOO_LARGE = 8
+    BASSOONSUN_RESULT_TOO_LARGE = 8,
+    BASSOONSUN_FACES_MISPLACED = 10 /* of a question; there is no 9 */
 };
 
-/* What a step answered, in a few words to be shown to a user; also of a number that is none of those above. */
+/* What such a call answered, in a few words to be shown to a user; also of a number that is none of those above. */
 static inline const char *bassoonsun_refusal_text(uint32_t refusal)
 {
     switch (refusal) {
@@ -77,6 +84,7 @@ static inline const char *bassoonsun_refusal_text(uint32_t refusal)
     case BASSOONSUN_WATER_TOO_FAST: return "the water is faster than 32 m/s";
     case BASSOONSUN_TIME_STEP_TOO_LONG: return "the time step is too long for these cells";
     case BASSOONSUN_RESULT_TOO_LARGE: return "a depth or a discharge has grown too large";
+    case BASSOONSUN_FACES_MISPLACED: return "the two faces are in the wrong order or beyond the reach";
     default: return "no answer of a step";
     }
 }
@@ -207,6 +215,72 @@ static inline uint32_t bassoonsun_step_call(const int32_t *now, size_t now_len, 
 {
     return bassoonsun_step(now, now_len, next, next_len, bed, bed_len, friction, friction_len, call.dx, call.dt,
                            call.jump, call.dry, call.left, call.right, call.left_q, call.right_q, volumes, place);
+}
+
+/* THE WATER BETWEEN TWO FACES. Beside a state a table of sums may be kept: for every sixteen cells, and for those left
+ * over at the right end, the sum of their mean depths. bassoonsun_sums makes it of a state, bassoonsun_step_sums keeps
+ * it from step to step, and bassoonsun_between asks it how much water there is between two faces. So the answer takes
+ * few numbers however far apart the faces are, and may be worked anew while a marker is moved.
+ *
+ * Where sums are made or asked, n, 1 to BASSOONSUN_MOST_CELLS, is bed_len - 1; in the step it is friction_len.
+ * A table of sums has BASSOONSUN_SUMS(n) numbers, (n + 15)/16: sums[k] is that of cells 16k to 16k + 15, as far as the
+ * reach goes. Water is counted as depth over one cell, as volumes are: times dx, and twice divided by 4096, it is m3
+ * for one metre of width. */
+
+/* The sums of a state. Gives 0 and writes all of sums; else the number of a refusal, and sums is as it was:
+ *
+ *   1  the tables do not fit each other: bed_len is under 2 or over 1025, or state_len is not 4n, or sums_len
+ *      is not BASSOONSUN_SUMS(n)
+ *   3  a bed value is out of range or odd
+ *   5  the state has a face depth or a face discharge out of range
+ *
+ *   state     4n numbers, laid out like now of bassoonsun_step
+ *   bed       n + 1 numbers, the bed at the faces
+ *   sums      where the sums go; each is 0 to 4194304
+ *
+ * It is called once, for the state that a run begins with, or where a state comes from elsewhere. */
+uint32_t bassoonsun_sums(const int32_t *state, size_t state_len, const int32_t *bed, size_t bed_len,
+                         int32_t *sums, size_t sums_len);
+
+/* How much water there is between faces a and b, in cells a to b - 1. Gives 0 and writes answer; else the number of a
+ * refusal, and answer is as it was:
+ *
+ *   1  the tables do not fit each other, as for bassoonsun_sums
+ *   10 a is over b, or b is over n
+ *
+ *   state, bed, sums   a state, its bed, and the sums made of them or kept with them. They are only read, and added as
+ *                      they stand: nothing in them is checked. Sums of another state are no fault here, and then the
+ *                      answer is not the water
+ *   a, b               faces, 0 to n; face i lies i*dx from the left end. For a = b the water is 0
+ *   answer             [0] the water, the sum of the mean depths of cells a to b - 1; [1] how many cells were read for
+ *                      it, at most 30; [2] how many blocks, at most 64
+ *
+ * What is read is each block that lies whole between the faces, a short last one too, and of the cells between them
+ * those that are in no such block. */
+uint32_t bassoonsun_between(const int32_t *state, size_t state_len, const int32_t *bed, size_t bed_len,
+                            const int32_t *sums, size_t sums_len, uint32_t a, uint32_t b, int64_t answer[3]);
+
+/* bassoonsun_step, which leaves in sums those of the new state; all that is said there holds.
+ *
+ * sums is only written, whatever it held before: when the step is accepted, all of it with what bassoonsun_sums makes
+ * of next. After a refusal it is as it was, as next and volumes are. A sums_len other than BASSOONSUN_SUMS(n), with
+ * friction_len for n, is a 1 with place 0, before every other check. */
+uint32_t bassoonsun_step_sums(const int32_t *now, size_t now_len, int32_t *next, size_t next_len,
+                              const int32_t *bed, size_t bed_len, const uint16_t *friction,
+                              size_t friction_len, int32_t *sums, size_t sums_len,
+                              uint32_t dx, uint32_t dt, uint32_t jump, uint32_t dry,
+                              uint32_t left, uint32_t right, uint32_t left_q, uint32_t right_q,
+                              int64_t volumes[2], uint32_t place[1]);
+
+/* bassoonsun_step_sums with its numbers from a struct. */
+static inline uint32_t bassoonsun_step_sums_call(const int32_t *now, size_t now_len, int32_t *next, size_t next_len,
+                                                 const int32_t *bed, size_t bed_len, const uint16_t *friction,
+                                                 size_t friction_len, int32_t *sums, size_t sums_len,
+                                                 struct bassoonsun_call call, int64_t volumes[2], uint32_t place[1])
+{
+    return bassoonsun_step_sums(now, now_len, next, next_len, bed, bed_len, friction, friction_len, sums, sums_len,
+                                call.dx, call.dt, call.jump, call.dry, call.left, call.right, call.left_q, call.right_q,
+                                volumes, place);
 }
 
 /* What crosses one face between water of depth hl and speed ul on its left and of depth hr and

@@ -1,10 +1,11 @@
 /* Calls the library with every table at the very end of its pages, and again at the very start,
  * with pages behind and before them that may not be touched: a read or a write one element off
  * would end this program. The tables that are only read lie in pages that cannot be written.
- * Checks the answer and its place, that a refused call leaves next and volumes as they were, and that
- * an accepted one keeps the water and takes in what is given at an end of kind 2. Every step is made
- * with its numbers in a row and again with them filled by name, and each with what is particular in
- * it at one spot: the first index, the middle one, the last. The last line is 'N passed, M failed'. */
+ * Checks the answer and its place, that a refused call leaves next, volumes and sums as they were, and that
+ * an accepted one keeps the water, takes in what is given at an end of kind 2 and leaves the sums of the new
+ * state. Every step is made with its numbers in a row and again with them filled by name, both without sums
+ * and with them, and each with what is particular in it at one spot: the first index, the middle one, the
+ * last. On the same tables sums are made and questions asked. The last line is 'N passed, M failed'. */
 #define _DEFAULT_SOURCE
 #include "fence.h"
 #include <bassoonsun.h>
@@ -32,6 +33,7 @@ typedef struct {
     uint32_t due;
     enum place place;
     int now_more, next_more, bed_more;      /* elements over what fits n */
+    int sums_more;                          /* the same of the sums: the call is then made with sums only */
     uint32_t dx, dt, jump, dry, left, right, left_q, right_q;
     int32_t spot_bed;                       /* of one face, */
     uint16_t spot_friction;                 /* of one cell, */
@@ -42,8 +44,8 @@ typedef struct {
 enum { FIRST, MIDDLE, LAST, SPOTS };
 
 typedef struct {
-    Fenced now, next, bed, friction, volumes, place;
-    size_t now_len, next_len, bed_len, n;
+    Fenced now, next, bed, friction, sums, volumes, place;
+    size_t now_len, next_len, bed_len, sums_len, n;
     size_t spot_cell, spot_face;
 } Lent;
 
@@ -60,7 +62,7 @@ static int32_t number(size_t i, const Lent *t, const Call *c)
 /* Water over a bed that goes up and down, 0.8 m deep or more, with a wave at the left. */
 static void fill(const Lent *t, const Call *c)
 {
-    int32_t *now = t->now.first, *next = t->next.first, *bed = t->bed.first;
+    int32_t *now = t->now.first, *next = t->next.first, *bed = t->bed.first, *sums = t->sums.first;
     uint16_t *friction = t->friction.first;
     int64_t *volumes = t->volumes.first;
     uint32_t *place = t->place.first;
@@ -72,6 +74,8 @@ static void fill(const Lent *t, const Call *c)
         friction[i] = i == t->spot_cell ? c->spot_friction : 30;
     for (size_t i = 0; i < t->next_len; i++)
         next[i] = MARK;
+    for (size_t i = 0; i < t->sums_len; i++)
+        sums[i] = MARK;
     volumes[0] = volumes[1] = MARK;
     place[0] = (uint32_t)MARK;
 }
@@ -86,10 +90,12 @@ static Lent lend(const Call *c, size_t n, int spot, int at_end)
 {
     Lent t = {.n = n, .spot_cell = spot_of(n, spot), .spot_face = spot_of(n + 1, spot)};
     t.now_len = 4 * n + c->now_more, t.next_len = 4 * n + c->next_more, t.bed_len = n + 1 + c->bed_more;
+    t.sums_len = BASSOONSUN_SUMS(n) + c->sums_more;
     t.now = fence(t.now_len * sizeof(int32_t), at_end);
     t.next = fence(t.next_len * sizeof(int32_t), at_end);
     t.bed = fence(t.bed_len * sizeof(int32_t), at_end);
     t.friction = fence(n * sizeof(uint16_t), at_end);
+    t.sums = fence(t.sums_len * sizeof(int32_t), at_end);
     t.volumes = fence(2 * sizeof(int64_t), at_end);
     t.place = fence(sizeof(uint32_t), at_end);
     fill(&t, c);
@@ -97,6 +103,35 @@ static Lent lend(const Call *c, size_t n, int spot, int at_end)
     only_read(t.bed);
     only_read(t.friction);
     return t;
+}
+
+static void give_back(const Lent *t)
+{
+    unfence(t->now), unfence(t->next), unfence(t->bed), unfence(t->friction), unfence(t->sums);
+    unfence(t->volumes), unfence(t->place);
+}
+
+static int sums_untouched(const Lent *t)
+{
+    const int32_t *sums = t->sums.first;
+    for (size_t i = 0; i < t->sums_len; i++)
+        if (sums[i] != MARK)
+            return 0;
+    return 1;
+}
+
+/* Cell by cell: the depths of a block go down from its sum to 0. */
+static int sums_are_of(const Lent *t, const int32_t *state)
+{
+    const int32_t *sums = t->sums.first, *bed = t->bed.first;
+    for (size_t k = 0; k < t->sums_len; k++) {
+        int64_t left = sums[k];
+        for (size_t i = k * BASSOONSUN_BLOCK_CELLS; i < (k + 1) * BASSOONSUN_BLOCK_CELLS && i < t->n; i++)
+            left -= state[i] - (bed[i] + bed[i + 1]) / 2;
+        if (left != 0)
+            return 0;
+    }
+    return 1;
 }
 
 static int untouched(const Lent *t)
@@ -128,10 +163,23 @@ static int takes_in(const Lent *t, const Call *c)
            (c->right != BASSOONSUN_INFLOW || volumes[1] == -((int64_t)c->right_q * c->dt / c->dx));
 }
 
-static uint32_t make_step(const Lent *t, const Call *c, int by_name)
+static uint32_t make_step_with_sums(const Lent *t, const Call *c, struct bassoonsun_call call, int by_name)
+{
+    if (by_name)
+        return bassoonsun_step_sums_call(t->now.first, t->now_len, t->next.first, t->next_len, t->bed.first, t->bed_len,
+                                         t->friction.first, t->n, t->sums.first, t->sums_len, call,
+                                         t->volumes.first, t->place.first);
+    return bassoonsun_step_sums(t->now.first, t->now_len, t->next.first, t->next_len, t->bed.first, t->bed_len,
+                                t->friction.first, t->n, t->sums.first, t->sums_len, c->dx, c->dt, c->jump, c->dry,
+                                c->left, c->right, c->left_q, c->right_q, t->volumes.first, t->place.first);
+}
+
+static uint32_t make_step(const Lent *t, const Call *c, int by_name, int with_sums)
 {
     struct bassoonsun_call call = {.dx = c->dx, .dt = c->dt, .jump = c->jump, .dry = c->dry, .left = c->left,
                                    .right = c->right, .left_q = c->left_q, .right_q = c->right_q};
+    if (with_sums)
+        return make_step_with_sums(t, c, call, by_name);
     if (by_name)
         return bassoonsun_step_call(t->now.first, t->now_len, t->next.first, t->next_len, t->bed.first, t->bed_len,
                                     t->friction.first, t->n, call, t->volumes.first, t->place.first);
@@ -149,16 +197,72 @@ static int placed(const Lent *t, const Call *c)
     return place[0] == due[c->place];
 }
 
+static void try_step(const Call *c, size_t n, int spot, int at_end, int by_name, int with_sums)
+{
+    Lent t = lend(c, n, spot, at_end);
+    uint32_t given = make_step(&t, c, by_name, with_sums);
+    check(given == c->due, c->what, n, at_end);
+    check(placed(&t, c), c->what, n, at_end);
+    check(given == BASSOONSUN_ACCEPTED ? keeps_water(&t) && takes_in(&t, c) : untouched(&t), c->what, n, at_end);
+    check(given == BASSOONSUN_ACCEPTED && with_sums ? sums_are_of(&t, t.next.first) : sums_untouched(&t), c->what, n,
+          at_end);
+    give_back(&t);
+}
+
+/* What a call that makes sums answers of the same tables: of the step's checks 1, 3 and 5. It is not lent next. */
+static uint32_t due_of_sums(const Call *c)
+{
+    if (c->next_more != 0)
+        return BASSOONSUN_ACCEPTED;
+    return c->due == BASSOONSUN_TABLES_MISFIT || c->due == BASSOONSUN_BED_OUT_OF_RANGE ||
+           c->due == BASSOONSUN_STATE_OUT_OF_RANGE ? c->due : BASSOONSUN_ACCEPTED;
+}
+
+static uint32_t make_sums(const Lent *t)
+{
+    return bassoonsun_sums(t->now.first, t->now_len, t->bed.first, t->bed_len, t->sums.first, t->sums_len);
+}
+
+/* A question of the tables; its answer is fenced too. The lengths must fit, and nothing else is looked at. */
+static void ask(const Lent *t, const char *what, uint32_t a, uint32_t b, uint32_t due, int at_end)
+{
+    Fenced lent = fence(3 * sizeof(int64_t), at_end);
+    int64_t *answer = lent.first, mark = INT64_MIN; /* wider than any water */
+    answer[0] = answer[1] = answer[2] = mark;
+    uint32_t given = bassoonsun_between(t->now.first, t->now_len, t->bed.first, t->bed_len, t->sums.first, t->sums_len,
+                                        a, b, answer);
+    int written = answer[0] != mark && answer[1] >= 0 && answer[2] >= 0;
+    int kept = answer[0] == mark && answer[1] == mark && answer[2] == mark;
+    check(given == due && (given == BASSOONSUN_ACCEPTED ? written : kept), what, t->n, at_end);
+    unfence(lent);
+}
+
+static void try_sums(const Call *c, size_t n, int spot, int at_end)
+{
+    Lent t = lend(c, n, spot, at_end);
+    uint32_t given = make_sums(&t), due = due_of_sums(c), last = (uint32_t)n;
+    uint32_t fit = due == BASSOONSUN_TABLES_MISFIT ? due : BASSOONSUN_ACCEPTED;
+    uint32_t misplaced = due == BASSOONSUN_TABLES_MISFIT ? due : BASSOONSUN_FACES_MISPLACED;
+    check(given == due, c->what, n, at_end);
+    check(given == BASSOONSUN_ACCEPTED ? sums_are_of(&t, t.now.first) : sums_untouched(&t), c->what, n, at_end);
+    only_read(t.sums);
+    ask(&t, c->what, 0, last, fit, at_end);
+    ask(&t, c->what, last / 3, last - last / 3, fit, at_end);
+    ask(&t, c->what, last, last, fit, at_end);
+    ask(&t, c->what, 0, last + 1, misplaced, at_end);
+    ask(&t, c->what, last + 1, last + 1, misplaced, at_end);
+    ask(&t, c->what, 1, 0, misplaced, at_end);
+    ask(&t, c->what, 0, UINT32_MAX, misplaced, at_end);
+    ask(&t, c->what, UINT32_MAX, last, misplaced, at_end);
+    give_back(&t);
+}
+
 static void try_call_at(const Call *c, size_t n, int spot, int at_end)
 {
-    for (int by_name = 0; by_name <= 1; by_name++) {
-        Lent t = lend(c, n, spot, at_end);
-        uint32_t given = make_step(&t, c, by_name);
-        check(given == c->due, c->what, n, at_end);
-        check(placed(&t, c), c->what, n, at_end);
-        check(given == BASSOONSUN_ACCEPTED ? keeps_water(&t) && takes_in(&t, c) : untouched(&t), c->what, n, at_end);
-        unfence(t.now), unfence(t.next), unfence(t.bed), unfence(t.friction), unfence(t.volumes), unfence(t.place);
-    }
+    for (int by_name = 0; by_name <= 1; by_name++)
+        for (int with_sums = c->sums_more != 0; with_sums <= 1; with_sums++)
+            try_step(c, n, spot, at_end, by_name, with_sums);
+    try_sums(c, n, spot, at_end);
 }
 
 static void try_call(const Call *c, size_t n, int at_end)
@@ -192,6 +296,18 @@ static const Call calls[] = {
     {GOOD, .what = "next too short", .due = BASSOONSUN_TABLES_MISFIT, .next_more = -1},
     {GOOD, .what = "bed too long", .due = BASSOONSUN_TABLES_MISFIT, .bed_more = 1},
     {GOOD, .what = "bed too short", .due = BASSOONSUN_TABLES_MISFIT, .bed_more = -1},
+    {GOOD, .what = "sums too long", .due = BASSOONSUN_TABLES_MISFIT, .sums_more = 1},
+    {GOOD, .what = "sums too short", .due = BASSOONSUN_TABLES_MISFIT, .sums_more = -1},
+    {GOOD, .what = "sums too long, and dx 0", .due = BASSOONSUN_TABLES_MISFIT, .sums_more = 1, .dx = 0},
+    {GOOD, .what = "sums too short, and odd bed", .due = BASSOONSUN_TABLES_MISFIT, .sums_more = -1, .spot_bed = 127},
+    {GOOD, .what = "sums too long, and friction 201", .due = BASSOONSUN_TABLES_MISFIT, .sums_more = 1,
+     .spot_friction = 201},
+    {GOOD, .what = "sums too short, and level below the bed", .due = BASSOONSUN_TABLES_MISFIT, .sums_more = -1,
+     .spot_level = -1},
+    {GOOD, .what = "sums too long, and water too fast", .due = BASSOONSUN_TABLES_MISFIT, .sums_more = 1,
+     .spot_discharge = 8388608},
+    {GOOD, .what = "sums too short, and time step too long", .due = BASSOONSUN_TABLES_MISFIT, .sums_more = -1,
+     .dt = 4096},
     {GOOD, .what = "dx 0", .due = BASSOONSUN_NUMBER_OUT_OF_RANGE, .dx = 0},
     {GOOD, .what = "dx too large", .due = BASSOONSUN_NUMBER_OUT_OF_RANGE, .dx = 1048577},
     {GOOD, .what = "dt 0", .due = BASSOONSUN_NUMBER_OUT_OF_RANGE, .dt = 0},
@@ -272,7 +388,7 @@ static void try_faces(int at_end)
 
 int main(void)
 {
-    static const size_t cells[] = {1, 2, 16, BASSOONSUN_MOST_CELLS};
+    static const size_t cells[] = {1, 2, 16, 17, BASSOONSUN_MOST_CELLS};
     static const Call good = {GOOD, .what = "too many cells or none", .due = BASSOONSUN_TABLES_MISFIT};
     for (int at_end = 0; at_end <= 1; at_end++) {
         for (size_t k = 0; k < sizeof cells / sizeof *cells; k++)

@@ -23,9 +23,9 @@ static void check(int good, const char *what)
 typedef struct {
     size_t cells;
     struct bassoonsun_call call;
-    int32_t now[4 * ROOM], next[4 * ROOM], bed[ROOM + 1];
+    int32_t now[4 * ROOM], next[4 * ROOM], bed[ROOM + 1], sums[BASSOONSUN_SUMS(ROOM)];
     uint16_t friction[ROOM];
-    int64_t volumes[2];
+    int64_t volumes[2], answer[3];
     uint32_t place;
 } Lent;
 
@@ -46,6 +46,8 @@ static void make_good(size_t cells)
     lent.call.dry = 4;
     lent.call.left = lent.call.right = BASSOONSUN_WALL;
     lent.volumes[0] = lent.volumes[1] = lent.place = MARK;
+    lent.sums[0] = MARK;
+    lent.answer[0] = lent.answer[1] = lent.answer[2] = MARK;
 }
 
 static uint32_t step(void)
@@ -62,6 +64,77 @@ static uint32_t step_in_a_row(void)
     const struct bassoonsun_call *c = &lent.call;
     return bassoonsun_step(lent.now, 4 * n, lent.next, 4 * n, lent.bed, n + 1, lent.friction, n, c->dx, c->dt, c->jump,
                            c->dry, c->left, c->right, c->left_q, c->right_q, lent.volumes, &lent.place);
+}
+
+/* Both again, keeping the sums; with so many of them more than fit. */
+static uint32_t step_with_sums(size_t more)
+{
+    size_t n = lent.cells;
+    return bassoonsun_step_sums_call(lent.now, 4 * n, lent.next, 4 * n, lent.bed, n + 1, lent.friction, n, lent.sums,
+                                     BASSOONSUN_SUMS(n) + more, lent.call, lent.volumes, &lent.place);
+}
+
+static uint32_t step_with_sums_in_a_row(void)
+{
+    size_t n = lent.cells;
+    const struct bassoonsun_call *c = &lent.call;
+    return bassoonsun_step_sums(lent.now, 4 * n, lent.next, 4 * n, lent.bed, n + 1, lent.friction, n, lent.sums,
+                                BASSOONSUN_SUMS(n), c->dx, c->dt, c->jump, c->dry, c->left, c->right, c->left_q,
+                                c->right_q, lent.volumes, &lent.place);
+}
+
+/* The sums of the present state, and the water between two faces of it. */
+static uint32_t make_sums(size_t more)
+{
+    size_t n = lent.cells;
+    return bassoonsun_sums(lent.now, 4 * n, lent.bed, n + 1, lent.sums, BASSOONSUN_SUMS(n) + more);
+}
+
+static uint32_t ask(uint32_t a, uint32_t b, size_t more)
+{
+    size_t n = lent.cells;
+    return bassoonsun_between(lent.now, 4 * n, lent.bed, n + 1, lent.sums, BASSOONSUN_SUMS(n) + more, a, b,
+                              lent.answer);
+}
+
+/* How many sums there are of any number of cells, and where a block ends. */
+static void check_blocks(void)
+{
+    for (size_t n = 1; n <= BASSOONSUN_MOST_CELLS; n++) {
+        make_good(n);
+        check(make_sums(0) == BASSOONSUN_ACCEPTED && make_sums(1) == BASSOONSUN_TABLES_MISFIT,
+              "so many sums of n cells and no more");
+    }
+    check(BASSOONSUN_SUMS(0) == 0, "no sums of no cells");
+    make_good(BASSOONSUN_BLOCK_CELLS + 1);
+    check(make_sums(0) == BASSOONSUN_ACCEPTED && lent.sums[0] == BASSOONSUN_BLOCK_CELLS * BASSOONSUN_UNIT &&
+          lent.sums[1] == BASSOONSUN_UNIT, "so many cells are a block");
+    check(ask(0, BASSOONSUN_BLOCK_CELLS, 0) == BASSOONSUN_ACCEPTED && lent.answer[0] == lent.sums[0] &&
+          lent.answer[1] == 0 && lent.answer[2] == 1, "a block is read as one");
+}
+
+/* The step with sums, and a question of what it keeps, by the names of their answers. */
+static void check_water(void)
+{
+    const size_t n = 2 * BASSOONSUN_BLOCK_CELLS + 1;
+    make_good(n);
+    check(step_with_sums(0) == BASSOONSUN_ACCEPTED && lent.sums[0] != MARK, "a step keeps the sums");
+    memcpy(lent.now, lent.next, sizeof lent.now);
+    check(ask(0, (uint32_t)n, 0) == BASSOONSUN_ACCEPTED && lent.answer[0] == (int64_t)n * BASSOONSUN_UNIT &&
+          lent.answer[1] == 0 && lent.answer[2] == BASSOONSUN_SUMS(n), "between walls the water stays");
+    check(ask(1, (uint32_t)n - 2, 0) == BASSOONSUN_ACCEPTED &&
+          lent.answer[1] == 2 * BASSOONSUN_BLOCK_CELLS - 2, "cells are read where no block lies whole");
+    lent.answer[0] = MARK;
+    check(ask(1, 0, 0) == BASSOONSUN_FACES_MISPLACED && ask(0, (uint32_t)n + 1, 0) == BASSOONSUN_FACES_MISPLACED &&
+          ask(0, 0, 1) == BASSOONSUN_TABLES_MISFIT && lent.answer[0] == MARK, "and nothing of faces that are none");
+    make_good(n);
+    lent.bed[1] = 1;
+    check(make_sums(0) == BASSOONSUN_BED_OUT_OF_RANGE && lent.sums[0] == MARK, "no sums over an odd bed");
+    make_good(n);
+    lent.now[n - 1] = -1;
+    check(make_sums(0) == BASSOONSUN_STATE_OUT_OF_RANGE && lent.sums[0] == MARK, "no sums of a level below the bed");
+    make_good(n);
+    check(step_with_sums(1) == BASSOONSUN_TABLES_MISFIT && lent.place == 0 && lent.sums[0] == MARK, "a sum too many");
 }
 
 static void check_sizes(void)
@@ -136,20 +209,27 @@ static void check_refusals(void)
         check(lent.place != MARK && (refusal == BASSOONSUN_ACCEPTED) == (lent.volumes[0] != MARK), "what is written");
         spoil(refusal);
         check(step_in_a_row() == refusal, bassoonsun_refusal_text(refusal));
+        spoil(refusal);
+        check(step_with_sums(0) == refusal, bassoonsun_refusal_text(refusal));
+        check((refusal == BASSOONSUN_ACCEPTED) == (lent.sums[0] != MARK), "what is written with sums");
+        spoil(refusal);
+        check(step_with_sums_in_a_row() == refusal, bassoonsun_refusal_text(refusal));
     }
 }
 
-/* Of every number that a step answers a text of its own, and one for all others. */
+/* Of every number that a call answers a text of its own, and one for all others, of which the first is 9. */
 static void check_texts(void)
 {
     const uint32_t none = BASSOONSUN_RESULT_TOO_LARGE + 1;
-    for (uint32_t i = 0; i <= none; i++) {
+    for (uint32_t i = 0; i <= BASSOONSUN_FACES_MISPLACED; i++) {
         const char *text = bassoonsun_refusal_text(i);
         check(text != NULL && text[0] != '\0', "a text is not empty");
         for (uint32_t j = 0; j < i; j++)
             check(strcmp(text, bassoonsun_refusal_text(j)) != 0, "no two texts are equal");
     }
-    check(strcmp(bassoonsun_refusal_text(UINT32_MAX), bassoonsun_refusal_text(none)) == 0, "one text for all others");
+    check(strcmp(bassoonsun_refusal_text(UINT32_MAX), bassoonsun_refusal_text(none)) == 0 &&
+          strcmp(bassoonsun_refusal_text(BASSOONSUN_FACES_MISPLACED + 1), bassoonsun_refusal_text(none)) == 0,
+          "one text for all others");
 }
 
 static void check_version(void)
@@ -163,6 +243,8 @@ static void check_version(void)
 int main(void)
 {
     check_sizes();
+    check_blocks();
+    check_water();
     check_unit();
     check_ends();
     check_refusals();

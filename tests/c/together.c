@@ -1,6 +1,7 @@
 /* Two threads step two reaches at the same time, a short one and one that is worked on the long tables, with refusals
- * among the steps; each must get, call for call, what it gets when the same calls are made one after another. The last
- * line is 'N passed, M failed'. */
+ * among the steps, and ask after each for the water between two faces. In half of the turns the step keeps the sums,
+ * else they are made anew. Each thread must get, call for call, what it gets when the same calls are made one after
+ * another. The last line is 'N passed, M failed'. */
 #define _DEFAULT_SOURCE
 #include <bassoonsun.h>
 #include <pthread.h>
@@ -10,16 +11,17 @@
 
 enum { METRE = BASSOONSUN_UNIT, ROUNDS = 8, REACHES = 2, MOST_CALLS = 2000, MOST_CELLS = 200, EVERY = 5 };
 
-/* What one call gave: its number, its place, its volumes and a sum that tells one table from another. */
+/* What one turn gave: the step's number, its place, its volumes and a number that tells one table from another; the
+ * same for the table of sums, with what making them answered where they were; and what the question answered. */
 typedef struct {
-    uint32_t refusal, place;
-    int64_t volumes[2];
-    uint64_t next;
+    uint32_t refusal, place, made, asked;
+    int64_t volumes[2], answer[3];
+    uint64_t next, sums;
 } Told;
 
 typedef struct {
     size_t cells, calls; /* so many calls that both reaches take about the same time */
-    int32_t now[4 * MOST_CELLS], next[4 * MOST_CELLS], bed[MOST_CELLS + 1];
+    int32_t now[4 * MOST_CELLS], next[4 * MOST_CELLS], bed[MOST_CELLS + 1], sums[BASSOONSUN_SUMS(MOST_CELLS)];
     uint16_t friction[MOST_CELLS];
     Told told[MOST_CALLS];
 } Reach;
@@ -31,6 +33,7 @@ static void fill(Reach *r)
     memset(r->told, 0, sizeof r->told);
     memset(r->now, 0, sizeof r->now);
     memset(r->next, 0, sizeof r->next);
+    memset(r->sums, 0, sizeof r->sums);
     for (size_t i = 0; i <= n; i++)
         r->bed[i] = (int32_t)(i * 37 % 64) * 2;
     for (size_t i = 0; i < n; i++) {
@@ -52,9 +55,18 @@ static uint64_t sum_of(const int32_t *table, size_t numbers)
     return sum;
 }
 
-static void make_call(Reach *r, size_t turn)
+/* A question of faces that move from turn to turn; in some turns they are out of order. */
+static void ask(Reach *r, size_t turn)
 {
     size_t n = r->cells;
+    uint32_t a = (uint32_t)(turn * 5 % (n + 1)), b = (uint32_t)(n - turn % (n / 3));
+    Told *told = &r->told[turn];
+    told->asked = bassoonsun_between(r->now, 4 * n, r->bed, n + 1, r->sums, BASSOONSUN_SUMS(n), a, b, told->answer);
+}
+
+static void make_call(Reach *r, size_t turn)
+{
+    size_t n = r->cells, keeping = turn / 3 % 2; /* so that each refusal comes with sums and without */
     enum spoilt spoilt = spoilt_in(turn);
     Told *told = &r->told[turn];
     struct bassoonsun_call call = {
@@ -64,13 +76,21 @@ static void make_call(Reach *r, size_t turn)
     };
     r->bed[n] += spoilt == BED; /* odd */
     r->now[n - 1] -= spoilt == STATE ? 2 * METRE : 0; /* below the bed */
-    told->refusal = bassoonsun_step_call(r->now, 4 * n, r->next, 4 * n, r->bed, n + 1, r->friction, n, call,
-                                         told->volumes, &told->place);
+    if (keeping)
+        told->refusal = bassoonsun_step_sums_call(r->now, 4 * n, r->next, 4 * n, r->bed, n + 1, r->friction, n, r->sums,
+                                                  BASSOONSUN_SUMS(n), call, told->volumes, &told->place);
+    else
+        told->refusal = bassoonsun_step_call(r->now, 4 * n, r->next, 4 * n, r->bed, n + 1, r->friction, n, call,
+                                             told->volumes, &told->place);
     r->bed[n] -= spoilt == BED;
     r->now[n - 1] += spoilt == STATE ? 2 * METRE : 0;
     told->next = sum_of(r->next, 4 * n);
     if (told->refusal == BASSOONSUN_ACCEPTED)
         memcpy(r->now, r->next, sizeof r->now);
+    if (!keeping)
+        told->made = bassoonsun_sums(r->now, 4 * n, r->bed, n + 1, r->sums, BASSOONSUN_SUMS(n));
+    told->sums = sum_of(r->sums, BASSOONSUN_SUMS(n));
+    ask(r, turn);
 }
 
 static void *run(void *given)
@@ -110,6 +130,15 @@ static size_t answered(const Reach *r, uint32_t refusal)
     return count;
 }
 
+/* How many questions were answered, none of them after sums that were refused. */
+static size_t asked(const Reach *r)
+{
+    size_t count = 0;
+    for (size_t turn = 0; turn < r->calls; turn++)
+        count += r->told[turn].asked == BASSOONSUN_ACCEPTED && r->told[turn].made == BASSOONSUN_ACCEPTED;
+    return count;
+}
+
 /* Of the calls alone: enough of each answer, or the comparison would say little. */
 static int try_mixture(const Reach *r)
 {
@@ -122,9 +151,10 @@ static int try_mixture(const Reach *r)
         if (count < least)
             least = count;
     }
-    int good = sum == r->calls && least >= r->calls / (5 * EVERY);
-    printf("%s  %zu cells, %zu calls alone: %zu accepted, the others refused with 2, 3, 5, 7, at least %zu with each\n",
-           good ? "passed" : "FAILED", r->cells, r->calls, answered(r, BASSOONSUN_ACCEPTED), least);
+    int good = sum == r->calls && least >= r->calls / (5 * EVERY) && 5 * asked(r) >= 2 * r->calls;
+    printf("%s  %zu cells, %zu calls alone: %zu accepted, the others refused with 2, 3, 5, 7, at least %zu with each; "
+           "%zu questions answered\n", good ? "passed" : "FAILED", r->cells, r->calls, answered(r, BASSOONSUN_ACCEPTED),
+           least, asked(r));
     return good;
 }
 

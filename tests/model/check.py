@@ -14,6 +14,7 @@ import both_ways
 import hard
 import model as m
 import places
+import sums
 from turned import can_turn, lengths_fit, turned, turned_answer, turned_table
 
 DRY = 4     # the dry depth of 01's own numbers, which were fixed before E3
@@ -453,6 +454,117 @@ def columns_hold(seed, count):
          decided >= count // 3 and exchanged >= count // 8, True)
 
 
+# ---- E8: the sums, what a question reads, the refusals, and the step that keeps the sums
+
+def stairs(n):
+    """A state of n cells on a flat bed whose mean depths are 1, 2, 3 and so on."""
+    return [*range(1, n + 1)] + [0] * (3 * n), [0] * (n + 1)
+
+
+def question(n, a, b):
+    """The water between two faces of such a state, with its own sums."""
+    state, bed = stairs(n)
+    return sums.between(state, bed, sums.sums_of(state, bed), a, b)[1:]
+
+
+def blocks_of_sixteen():
+    case("E8: the sums of 1, 15, 16, 17, 32 and 33 cells, 1, 2, 3 and so on deep",
+         [sums.make(*stairs(n), count)[1] for n, count in ((1, 1), (15, 1), (16, 1), (17, 2), (32, 2), (33, 3))],
+         [[1], [120], [136], [136, 17], [136, 392], [136, 392, 33]])
+    # face 1 of the bed is 40, so cells 0 and 1 have 20 of it each, whatever their slopes
+    case("E8: a depth is the level mean less the bed's mean", sums.make([120, 130, 110, 20, -20, 0, 9, 9, 9, 0, 0, 0], [0, 40, 0, 0], 1),
+         ("made", [100 + 110 + 110]))
+
+
+def what_is_read():
+    # of 18 cells 0 to 15 are a block, and 16 and 17 are a short one
+    wanted = {(0, 0): (0, 0, 0), (5, 5): (0, 0, 0), (16, 16): (0, 0, 0), (18, 18): (0, 0, 0),
+              (0, 1): (1, 1, 0), (0, 15): (120, 15, 0), (0, 16): (136, 0, 1), (0, 17): (153, 1, 1), (0, 18): (171, 0, 2),
+              (1, 16): (135, 15, 0), (1, 17): (152, 16, 0), (1, 18): (170, 15, 1), (15, 17): (33, 2, 0), (15, 18): (51, 1, 1),
+              (16, 17): (17, 1, 0), (16, 18): (35, 0, 1), (17, 18): (18, 1, 0)}
+    case("E8: the water, the cells and the blocks of %d ranges of 18 cells" % len(wanted), {ab: question(18, *ab) for ab in wanted}, wanted)
+    case("E8: one cell is a block, and 32 are two", [question(1, 0, 1), question(32, 0, 32), question(32, 1, 32), question(32, 0, 31)],
+         [(1, 0, 1), (528, 0, 2), (527, 15, 1), (496, 15, 1)])
+    case("E8: of 1,024 cells all, all but the outer two, and the most cells without a block",
+         [question(1024, *ab) for ab in ((0, 1024), (1, 1023), (1, 31))], [(524800, 0, 64), (523775, 30, 62), (495, 30, 0)])
+    most = [sums.read(n, a, b) for n in (31, 32, 33, 47, 48, 49) for a in range(n + 1) for b in range(a, n + 1)]
+    case("E8: never more than 30 cells, in all %d ranges of 31 to 49 cells" % len(most), max(len(cells) for cells, _ in most), 30)
+
+
+LEAST, MOST = -hard.I32, hard.I32 - 1
+
+
+def as_they_stand():
+    """Tables that no check has seen: n is 2 and the range its first cell, so that the cell is read and not its block."""
+    def first(e0, zl, zr):
+        return sums.between([e0] + [0] * 7, [zl, zr, 0], [0], 0, 1)
+    beds = {(0, 1): 0, (1, 0): 0, (1, 2): 1, (-1, 0): 0, (0, -1): 0, (-1, -1): -1, (-1, -2): -1, (-3, 0): -1, (-7, 2): -2, (7, -2): 2}
+    case("E8: the mean of beds of odd sum or below nought is cut toward nought", {z: first(100, *z) for z in beds},
+         {z: ("answered", 100 - mean, 1, 0) for z, mean in beds.items()})
+    widest = (LEAST, MOST, MOST), (MOST, LEAST, LEAST), (MOST, LEAST, MOST), (LEAST, LEAST, LEAST)
+    case("E8: a cell of the widest numbers", [first(*cell) for cell in widest],
+         [("answered", water, 1, 0) for water in (-4294967295, 4294967295, 2147483647, 0)])
+    state, bed = stairs(1024)
+    # the outer cells of 1 to 1,023 are 2 to 16 and 1,009 to 1,023 deep, 135 and 15,240 together
+    for z in (LEAST, MOST):
+        case("E8: sums that are not the state's, all %d" % z, [sums.between(state, bed, [z] * 64, *ab) for ab in ((0, 1024), (1, 1023))],
+             [("answered", 64 * z, 0, 64), ("answered", 62 * z + 135 + 15240, 30, 62)])
+    case("E8: one cell's own numbers are not read, its block's are", sums.between([LEAST, 1, 2, 3], [MOST, 5], [77], 0, 1),
+         ("answered", 77, 0, 1))
+
+
+def sums_refused():
+    """Tables that would be refused by every check, mended one by one."""
+    state, bed = stairs(17)
+    odd, low = with_one(bed, 17, 1), with_one(state, 16, -1)
+    tables = [(table, bed, 2) for table in ([], state[:-1], state + [0])] + [(state, table, 2) for table in (bed[:-1], bed + [0])]
+    tables += [(state, bed, length) for length in (0, 1, 3)]
+    case("E8: making with a state, a bed or sums of the wrong length", [sums.make(*t) for t in tables], [("refused", 1)] * 8)
+    case("E8: a question of the same", [sums.between(*t[:2], [0] * t[2], 0, 0) for t in tables], [("refused", 1)] * 8)
+    for what, n in (("no bed", -1), ("no cell", 0), ("1,025 cells", 1025)):
+        lent, room = ([0] * (4 * n), [0] * (n + 1)), max(0, n + 15) // 16
+        case("E8: " + what, (sums.make(*lent, room), sums.between(*lent, [0] * room, 0, 0)), (("refused", 1), ("refused", 1)))
+    case("E8: 1 before 3 and 5, 3 before 5", [sums.make(*t) for t in ((low, odd, 3), (low, odd, 2), (low, bed, 2), (state, bed, 2))],
+         [("refused", 1), ("refused", 3), ("refused", 5), ("made", [136, 17])])
+    deep = with_one(state, 16, m.DEEPEST)
+    edges = [deep, with_one(state, 16, m.DEEPEST + 1), with_one(deep, 33, 1)]
+    edges += [with_one(state, 67, q) for q in (m.GREATEST_Q, m.GREATEST_Q + 1)]
+    case("E8: the range of a state at its edge", [sums.make(edge, bed, 2)[0] for edge in edges],
+         ["made", "refused", "refused", "made", "refused"])
+    faces = (0, 17), (17, 17), (1, 0), (17, 16), (0, 18), (18, 18), (18, 17), (0, 2 ** 32 - 1), (2 ** 32 - 1, 0), (2 ** 32 - 1, 2 ** 32 - 1)
+    case("E8: a over b, b over n", [sums.between(low, odd, [0, 0], *ab)[0] for ab in faces], ["answered"] * 2 + ["refused"] * 8)
+    case("E8: and 10 is its number, after 1", [sums.between(low, odd, [0, 0], 18, 18), sums.between(low, odd, [0], 18, 18)],
+         [("refused", 10), ("refused", 1)])
+
+
+def sums_kept(seed, count):
+    """The step with sums: the step's own answer and the sums of what it writes; a wrong length of sums before all else."""
+    still = [4096] * 17 + [0] * 51
+    case("E8: a step of 17 still cells keeps their sums", sums.step(still, 68, [0] * 18, [0] * 17, 2, 4096, 653, 0, DRY, 0, 0, 0, 0),
+         ("accepted", still, 0, 0, [65536, 4096]))
+    rnd, wrong, answers, early, asked = random.Random(seed), 0, Counter(), Counter(), 0
+    for now, room, bed, friction, *given in hard.calls(seed, count):
+        n = len(friction)
+        answer, fits = m.step(now, room, bed, friction, *given), (n + 15) // 16
+        found = sums.step(now, room, bed, friction, fits, *given)
+        wrong += found[:4] != answer
+        answers[answer[1] if answer[0] == "refused" else 0] += 1
+        for length in {max(0, fits - 1), fits + 1} - {fits}:
+            wrong += sums.step(now, room, bed, friction, length, *given) != ("refused", 1, 0)
+            early[answer[1] if answer[0] == "refused" else 0] += 1
+        if answer[0] == "accepted":
+            state, kept = found[1], found[4]
+            wrong += sums.make(state, bed, fits) != ("made", kept)
+            a, b = sorted(rnd.randint(0, n) for _ in range(2))
+            wrong += sums.between(state, bed, kept, a, b)[1] != sum(depths(state, bed)[a:b])
+            wrong += sums.between(state, bed, kept, 0, n) != ("answered", water(state, bed), 0, fits)
+            asked += 1
+    case("E8: the step with sums answers as the step, and its sums are those of the new state, %d accepted of %d" % (asked, count),
+         (wrong, asked >= count // 4), (0, True))
+    case("E8: all of 0 to 8 came, and each also with sums of a wrong length, a 1",
+         [k for k in range(9) if min(answers[k], early[k]) < count // 500], [])
+
+
 # ---- E9: turning, the step from the other end, and rules that would break the law
 
 def turning():
@@ -810,6 +922,11 @@ def main():
     uncorrected_holds(11, 3000)
     columns()
     columns_hold(12, 4000)
+    blocks_of_sixteen()
+    what_is_read()
+    as_they_stand()
+    sums_refused()
+    sums_kept(15, 3000)
     turning()
     turning_holds(8, 4000)
     turned_runs_hold(14, 150)

@@ -125,7 +125,11 @@ pub extern "C" fn bassoonsun_step_sums(
         (now (volumes .entry)) (now (volumes .exit)) (now (place .entry)) (now (place .exit)) ⌝ }
 {
     let call = given(dx, dt, jump, dry, left, right, left_q, right_q);
-    tell(sums::step(state, next, bed, friction, sums, call), volumes, place)
+    tell(
+        sums::step(state, next, bed, friction, sums, call),
+        volumes,
+        place,
+    )
 }
 
 // 0 when all of the sums are filled, else the refusal's number; they are then as they were.

@@ -4,6 +4,7 @@ mod adding;
 mod blocks;
 mod filling;
 mod splitting;
+
 use crate::adding::added;
 use crate::adding::depths;
 use crate::blocks::bad_sums;
@@ -63,7 +64,11 @@ fn read(state: &[i32], bed: &[i32], sums: &[i32], a: usize, b: usize) -> Amount
     let before = depths(state, bed, a, s.head);
     let whole = added(sums, s.first, s.last);
     let behind = depths(state, bed, s.tail, b);
-    Amount::Water(whole + (before + behind), (s.head - a) + (b - s.tail), s.last - s.first)
+    Amount::Water(
+        whole + (before + behind),
+        (s.head - a) + (b - s.tail),
+        s.last - s.first,
+    )
 }
 
 // The water of the cells between faces a and b, by the numbers of the three tables as they stand.

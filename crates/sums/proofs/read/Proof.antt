@@ -30,9 +30,12 @@ module _ (c : tie.After-split-between) where
   cut = rw (← c .before .cells-over .ensures) (c .split-between .ensures)
 
 depths-requires : tie.Need-depths-requires
-depths-requires c κs = let k = cut c in let p = s c .pre in let f = p .0 in
-    (k .before, omega (arith, k .inside, k .behind, p, f .most), omega (arith, k .inside, k .behind, p, f .state),
-    omega (arith, k .inside, k .behind, p, f .some))
+depths-requires c κs = let k = cut c in let p = s c .pre in let f = p .0 in (
+  k .before,
+  omega (arith, k .inside, k .behind, p, f .most),
+  omega (arith, k .inside, k .behind, p, f .state),
+  omega (arith, k .inside, k .behind, p, f .some),
+)
 
 added-requires : tie.Need-added-requires
 added-requires c κs = let k = cut (c .before) in let f = s (c .before) .pre .0 in
