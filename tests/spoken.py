@@ -11,7 +11,7 @@ import os
 import re
 
 ROOT = os.path.join(os.path.dirname(os.path.abspath(__file__)), "..")
-PAGES = ["crates/promises/specs/%s.antt" % name for name in ("Promises", "FromC", "Changed", "Cases")] + ["crates/rules/specs/Numbers.antt"]
+PAGES = ["crates/promises/specs/%s.antt" % name for name in ("Promises", "Sums", "FromC", "SumsFromC", "Changed", "Cases")] + ["crates/rules/specs/Numbers.antt"]
 
 USE = re.compile(r"^(?:ghost )?use Rattle·(\w+)(?:·specs|·proofs)?\.(\S+?)(?:\.\{([^}]*)\}| as (\S+?));?$", re.M)
 STARTS = re.compile(r"^ {0,4}(abbrev |unfoldable )?(pub )?(record |data )?([^\s(:]+) (?=.*:|$)")

@@ -12,7 +12,7 @@ use Rattle.whole.specs.Flags.{cond-ind}
 use Rattle.rules.specs.Limits.{mostCells}
 use Rattle.rules.specs.Face.{Flux}
 use Rattle.rules.specs.Lent.{Lent, cellsOf, number, place, filled, crossed, Outcome, refused, accepted, stepOf}
-use Rattle.rules.specs.Sums.{misfitSums, Making, Reading, Question, unanswered, answered, keepingOf, sumsAfter}
+use Rattle.rules.specs.Sums.{misfitSums, Making, Question, unanswered, answered, keepingOf, sumsAfter}
 use Rattle.rules.specs.Laws.Within.{place-most}
 use Rattle.reach.specs.declared.Given.{Given}
 use Rattle.speeds.specs.Given.{Perhaps}
@@ -30,7 +30,7 @@ use Rattle.double.proofs.face.Unique as doubles
 use Rattle.step.specs.Gives.{answer, leaves, code, placed, Gives}
 use Rattle.step.specs.declared.Answer.{Answer}
 use Rattle.step.specs.declared.Answer.the-variants.{Refused, Accepted}
-use Rattle.sums.specs.Gives.{madeCode, madeAnswer, madeLeaves, asked}
+use Rattle.sums.specs.Gives.{madeCode, madeAnswer, madeLeaves, questionCode}
 
 -- ---- the step
 -- what an outcome leaves in the two volumes
@@ -57,10 +57,6 @@ pub record MakingTold (m : Making) (r : ℕ) (old new : List ℤ) : Type 0 where
   pub table : new ≡ madeLeaves m old
 
 -- of a question: the number, and the water, the cells and the blocks
-unfoldable pub questionCode : Question → ℕ
-questionCode (unanswered k) = k
-questionCode (answered x) = 0
-
 unfoldable pub readingInto : Question → List ℤ → List ℤ
 readingInto (unanswered k) old = old
 readingInto (answered x) old = set (set (set old 0 (x .water)) 1 (pos (x .cells))) 2 (pos (x .blocks))

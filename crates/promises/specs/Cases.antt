@@ -1,5 +1,6 @@
 -- That the promises are not empty: calls small enough for the checker to work them, each with what it gives. One is accepted and moves
--- water, one is refused with each number from 1 to 8, and one is lent a lake at rest with a shore, and keeps it.
+-- water, one is refused with each number from 1 to 8, and one is lent a lake at rest with a shore, and keeps it. Sums are made of seventeen
+-- cells, and are refused with each number that there is for them; questions read blocks and cells, and are refused with 1 and with 10.
 -- Assumes nothing.
 use mathlib.Core.Path.{_≡_, refl, sym, ap}
 use mathlib.Core.List.{List, [], _∷_}
@@ -29,11 +30,18 @@ use Rattle.rules.specs.Step.{rub, rubbedCell, rubbed, stageOne, half, carry, jo
 use Rattle.rules.specs.Refusals.{any, badEnd, badCall, badBed, badRough, offCell, off, fastCell, fastFriction, fastInflow, fastFace}
 use Rattle.rules.specs.Refusals.{fastPoints, fastGauss, tooLong, verdict, spot, stageChecks, early, checks, refusal, refusedAt}
 use Rattle.rules.specs.Lent.{Lent, misfit, number, place, filled, crossed, Outcome, refused, accepted, stepOf}
+use Rattle.rules.specs.StateAndBed.{misfitState, stateChecks}
+use Rattle.rules.specs.Sums.{blockTo, sumFrom, blockSum, sumsOf, makingChecks, makingRefusal, Making, unmade, made, makingOf, count}
+use Rattle.rules.specs.Sums.{wholeBlock, loneCell, reading, questionChecks, questionRefusal, Question, unanswered, answered, betweenOf}
+use Rattle.rules.specs.Sums.{keepingOf, sumsAfter}
 use Rattle.rules.specs.Numbers.{oneCell}
 use Rattle.step.specs.Gives.{end, lend, volumes, answer, leaves}
 use Rattle.step.specs.declared.Answer.the-variants.{Accepted}
+use Rattle.sums.specs.Gives.{madeCode, madeAnswer, madeLeaves}
+use Rattle.sums.specs.declared.Made.the-variants.{Done}
 use Rattle.promises.specs.Seen.{at, level, levelSlope, discharge, dischargeSlope, meanBed, bedSlope}
 use Rattle.promises.specs.Seen.{Lake, Besides, lending, Calls, none, more}
+use Rattle.promises.specs.SeenSums.{MadeFrom, by-making, CallsKeeping, none-kept, more-kept}
 
 -- ---- two cells of 1 m on a flat bed between walls, water 1.5 m deep in the left one and 1 m in the right one
 abbrev uneven : List ℤ
@@ -143,3 +151,84 @@ one-level (suc (suc i)) l = let z : ⊥ = omega arith in absurd z
 
 pub at-rest : Lake rising shore 3
 at-rest = record { mean = λ i l. still i l .0; slope = λ i l. still i l .1; cell = dry-or-flat; meet = one-level }
+
+-- ---- the sums of seventeen cells on a flat bed, each of them a unit deeper than the one before: a whole block, and one of a single cell
+abbrev flat : List ℤ
+flat = row 18 (λ i. pos 0)
+
+abbrev seventeen : List ℤ
+seventeen = tableOf 17 (λ i. record { e0 = pos (suc i); e1 = pos 0; q0 = pos 0; q1 = pos 0 })
+
+abbrev twoSums : List ℤ
+twoSums = pos 136 ∷ pos 17 ∷ []
+
+pub each-makes :
+    makingOf flat seventeen 2
+    ∷ makingOf flat seventeen 1
+    ∷ makingOf (pos 0 ∷ pos 1 ∷ []) (pos 4 ∷ pos 0 ∷ pos 0 ∷ pos 0 ∷ []) 1
+    ∷ makingOf (pos 4 ∷ pos 4 ∷ []) (pos 3 ∷ pos 0 ∷ pos 0 ∷ pos 0 ∷ []) 1
+    ∷ []
+    ≡ made twoSums ∷ unmade 1 ∷ unmade 3 ∷ unmade 5 ∷ []
+unfolding makingOf makingRefusal makingChecks stateChecks verdict some any misfitState badBed offCell hl hr h0 h1 z0 z1 sizeZ
+    sumsOf blockSum blockTo sumFrom row columns tableOf
+each-makes = refl
+
+abbrev tells : ℤ → ℕ → ℕ → Question
+tells w c b = answered (record { water = w; cells = c; blocks = b })
+
+-- the whole reach, the first block, all but the first cell, three cells, no cell; faces out of order and beyond the reach; too many sums;
+-- and sums that are not those of the state, over a bed that is odd and below nought
+pub each-tells :
+    betweenOf flat seventeen twoSums 0 17
+    ∷ betweenOf flat seventeen twoSums 0 16
+    ∷ betweenOf flat seventeen twoSums 1 17
+    ∷ betweenOf flat seventeen twoSums 14 17
+    ∷ betweenOf flat seventeen twoSums 5 5
+    ∷ betweenOf flat seventeen twoSums 3 2
+    ∷ betweenOf flat seventeen twoSums 0 18
+    ∷ betweenOf flat seventeen (pos 0 ∷ twoSums) 3 2
+    ∷ betweenOf (negℤ (pos 1) ∷ pos 0 ∷ negℤ (pos 3) ∷ []) uneven (negℤ (pos 7) ∷ []) 0 1
+    ∷ betweenOf (negℤ (pos 1) ∷ pos 0 ∷ negℤ (pos 3) ∷ []) uneven (negℤ (pos 7) ∷ []) 0 2
+    ∷ []
+    ≡ tells (pos 153) 0 2
+    ∷ tells (pos 136) 0 1
+    ∷ tells (pos 152) 15 1
+    ∷ tells (pos 48) 2 1
+    ∷ tells (pos 0) 0 0
+    ∷ unanswered 10
+    ∷ unanswered 10
+    ∷ unanswered 1
+    ∷ tells (pos 6144) 1 0
+    ∷ tells (negℤ (pos 7)) 0 1
+    ∷ []
+unfolding betweenOf questionRefusal questionChecks verdict some any misfitState reading count wholeBlock loneCell h0 z0
+    blockTo sumFrom row columns tableOf
+each-tells = refl
+
+-- ---- what is made is made of the state; and the call that moves water keeps the sums of its two cells
+pub made-of : MadeFrom flat seventeen twoSums
+unfolding madeCode madeAnswer madeLeaves
+made-of = by-making Done (pos 0 ∷ pos 0 ∷ []) twoSums
+    (record { says = sym (ap madeAnswer is); table = sym (ap (λ (m : Making). madeLeaves m (pos 0 ∷ pos 0 ∷ [])) is) }) refl
+  where
+    is : makingOf flat seventeen 2 ≡ made twoSums
+    is = ap head each-makes
+      where
+        head : List Making → Making
+        head [] = unmade 0
+        head (m ∷ ms) = m
+
+pub moves-kept : CallsKeeping (pos 0 ∷ pos 0 ∷ pos 0 ∷ []) 2 4096 uneven moved (pos 10240 ∷ []) (pos 10240 ∷ []) (pos 0) (pos 0)
+unfolding volumes answer leaves keepingOf sumsAfter sumsOf blockSum blockTo sumFrom h0 z0 row
+moves-kept = more-kept uneven moved moved (pos 10240 ∷ []) (pos 10240 ∷ []) (pos 10240 ∷ []) uneven (Accepted (pos 0) (pos 0))
+    (pos 0) (pos 0) (pos 0) (pos 0) refl
+    (record {
+      given = besides (0 ∷ 0 ∷ []) refl 317 (end 0 0) (end 0 0);
+      gave = record {
+        step = record { says = sym (ap answer is); table = sym (ap (λ (o : Outcome). leaves o uneven) is) };
+        kept = sym (ap (λ (o : Outcome). sumsAfter (pos 0 ∷ pos 0 ∷ pos 0 ∷ []) o (pos 10240 ∷ [])) is);
+      };
+    }) (none-kept moved (pos 10240 ∷ []))
+  where
+    is : stepOf (twoCells uneven (pos 0) 0 317) ≡ accepted moved (pos 0) (pos 0)
+    is = ap first each-gives

@@ -1,7 +1,7 @@
 -- What making the sums, a question and the step that keeps the sums give, by the checks that they pass.
 -- Assumes nothing.
 use mathlib.Core.Path.{_≡_, refl, sym, ap, _∙_}
-use mathlib.Core.Bool.{Bool, true, false, not, cond, _||_}
+use mathlib.Core.Bool.{Bool, true, false, cond, _||_}
 use mathlib.Core.List.{List}
 use Prim.Native.Nat.{ℕ, suc, _≤_}
 use native.Mathlib.Omega.{arith}
@@ -31,7 +31,7 @@ as-many sums n e = eqb-true sums (blocksOf n) (not-false (eqb sums (blocksOf n))
 -- ---- making them
 module _ (bed t : List ℤ) (sums : ℕ) where
   -- its number is 1, or that of the state and its bed
-  making-first : misfitSums sums (cellsOver bed) ≡ true → makingRefusal bed t sums ≡ 1
+  pub making-first : misfitSums sums (cellsOver bed) ≡ true → makingRefusal bed t sums ≡ 1
   unfolding makingRefusal makingChecks verdict
   making-first e = rw (of-call 1 (misfitSums sums (cellsOver bed)) ∙ e) refl
 

@@ -6,7 +6,6 @@ use mathlib.Core.List.{[], _∷_}
 use Prim.Native.Nat.{ℕ, zero, suc, _+_, _-_, _≤_, _<_}
 use native.Mathlib.Omega.{arith}
 use lib.IntN.{ℤ, pos, natAbs, _+ℤ_}
-use Rattle.whole.specs.Flags.{by}
 use Rattle.whole.specs.Ring.{v, k, _⊕_, solve}
 use Rattle.rules.specs.Sums.{sumFrom, sumTo, count, only}
 

@@ -2,7 +2,6 @@
 -- Assumes nothing.
 use mathlib.Core.Path.{_≡_, refl, sym, ap, _∙_}
 use mathlib.Core.Bool.{false}
-use mathlib.Core.List.{List}
 use Prim.Native.Nat.{ℕ, suc, _-_, _*_}
 use native.Mathlib.Omega.{arith}
 use borrow.Author.Tests.{ne-eqb, le-ltb, eq-eqb}
@@ -13,7 +12,7 @@ use Rattle.tables.specs.Cells.{cellIn, tableOf, length-table, cellIn-table}
 use Rattle.rules.specs.Limits.{mostCells}
 use Rattle.rules.specs.Reach.{under, bedAt}
 use Rattle.rules.specs.Step.{next}
-use Rattle.rules.specs.Refusals.{any, badBed, offCell, off, early, Check, Clear}
+use Rattle.rules.specs.Refusals.{any, badBed, offCell, off, early, Clear}
 use Rattle.rules.specs.Lent.{Lent, cellsOf, reachOf, callOf, stateOf, number, filled}
 use Rattle.rules.specs.Found.{Found}
 use Rattle.rules.specs.StateAndBed.{cellsOver, misfitState, stateChecks, stateRefusal}

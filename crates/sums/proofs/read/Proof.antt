@@ -1,15 +1,13 @@
 -- What is read is what the rules say of the cut.
-use mathlib.Core.Path.{_≡_, _∙_, ap, ap₂, sym}
+use mathlib.Core.Path.{_∙_, ap, ap₂, sym}
 use mathlib.Core.List.{List, [], _∷_}
-use Prim.Native.Nat.{ℕ}
 use native.Mathlib.Omega.{arith}
 use denote.Ref.{now}
-use lib.ListN.{getD}
-use lib.IntN.{ℤ, pos, _+ℤ_}
+use lib.IntN.{_+ℤ_}
 use borrow.Author.Needs.{needs}
 use Rattle.whole.specs.Machine.{X, v, _⊕_, Entry, entry, need, value}
-use Rattle.rules.specs.StateAndBed.{cellsOver, depthIn}
-use Rattle.rules.specs.Sums.{sumTo, reading, Reading}
+use Rattle.rules.specs.StateAndBed.{cellsOver}
+use Rattle.rules.specs.Sums.{reading, Reading}
 use Rattle.rules.specs.Laws.Blocks.{Cut}
 use Rattle.rules.specs.Laws.Sums.{cut-reading}
 use Rattle.sums.specs.Answered.{asked-read}

@@ -1,6 +1,5 @@
 -- Each turn adds the mean depth of one cell.
 use Prim.Native.Nat.{_-_}
-use native.Mathlib.Omega.{arith}
 use denote.Ref.{now}
 use borrow.Author.Needs.{needs}
 use Rattle.whole.specs.Machine.{back64}

@@ -1,6 +1,4 @@
 -- The test is the rule's.
-use mathlib.Core.Path.{ap}
-use Prim.Native.Nat.{ℕ}
 use borrow.Author.Needs.{needs}
 use Rattle.sums.proofs.blocks.bad_sums.Statement.{statement}
 use Rattle.sums.proofs.blocks.bad_sums.Tie as tie
