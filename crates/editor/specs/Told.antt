@@ -131,7 +131,8 @@ pub record AnswerTold (a : Answer) (r : ℕ) (volumes volumes′ : List ℤ) (pl
   pub crossed : volumes′ ≡ volumesIn a volumes
   pub place : places′ ≡ set places 0 (placed a)
 
-pub refused-told : {a : Answer} (k p : ℕ) (old : List ℤ) (places : List ℕ) → Refused k p ≡ a → AnswerTold a k old old places (set places 0 p)
+pub refused-told : {a : Answer} (k p : ℕ) (old : List ℤ) (places : List ℕ) → Refused k p ≡ a
+    → AnswerTold a k old old places (set places 0 p)
 unfolding code volumesIn placed
 refused-told k p old places e = record {
   number = ap code e;
@@ -165,7 +166,8 @@ step-told {o} {volumes = vs} {places = ps} g t = record {
 -- the place of a call is small enough for 32 bits
 pub step-place : (l : Lent) {a : Answer} → a ≡ answer (stepOf l) → placed a ≤ mostCells
 unfolding answer stepOf placed
-step-place l {a} e = rw e (cond-ind (eqb (number l) 0) (accepted (filled l) (crossed l 0) (crossed l (cellsOf l))) (refused (number l) (place l))
+step-place l {a} e = rw e (cond-ind (eqb (number l) 0)
+    (accepted (filled l) (crossed l 0) (crossed l (cellsOf l))) (refused (number l) (place l))
     (λ (o : Outcome). placed (answer o) ≤ mostCells) (λ b. omega arith) (λ b. place-most l))
 
 pub keeping-place : (l : Lent) (sums : ℕ) {a : Answer} → a ≡ answer (keepingOf l sums) → placed a ≤ mostCells

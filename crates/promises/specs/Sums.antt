@@ -280,7 +280,8 @@ module _ {bed : List ℤ} {n dx : ℕ} where
             (over e t after (between-all (still-made k h) after (onto e t z after f))),
       )
     where
-      onto : cellsOver bed ≡ n → (t z : List ℤ) (r : Amount) → asked r ≡ betweenOf bed t z 0 n → asked r ≡ betweenOf bed t z 0 (cellsOver bed)
+      onto : cellsOver bed ≡ n → (t z : List ℤ) (r : Amount) → asked r ≡ betweenOf bed t z 0 n
+          → asked r ≡ betweenOf bed t z 0 (cellsOver bed)
       onto e t z r g = subst (λ (m : ℕ). asked r ≡ betweenOf bed t z 0 m) (sym e) g
 
       over : cellsOver bed ≡ n → (t : List ℤ) (r : Amount) → Answers r (water bed t (cellsOver bed)) → Answers r (water bed t n)

@@ -90,7 +90,8 @@ module _ (l : Lent) {r : ℕ} {old new was sums vs vs′ : List ℤ} {ps ps′ :
 
   -- with sums that fit it is `bassoonsun_step`, of which all that `FromC` says is said
   pub step-same : length was ≡ blocksOf (cellsOf l) → StepTold (stepOf l) r old new vs vs′ ps ps′
-  step-same e = subst (λ (o : Outcome). StepTold o r old new vs vs′ ps ps′) (kept-step l (length was) (sums-fit (length was) (cellsOf l) e)) (g .step)
+  step-same e = subst (λ (o : Outcome). StepTold o r old new vs vs′ ps ps′)
+      (kept-step l (length was) (sums-fit (length was) (cellsOf l) e)) (g .step)
 
   pub step-untouched : 0 < r → (new ≡ old) × (sums ≡ was)
   step-untouched some = page.step-untouched l kept (step-code (λ k. 0 < k) some)
@@ -101,7 +102,8 @@ module _ (l : Lent) {r : ℕ} {old new was sums vs vs′ : List ℤ} {ps ps′ :
   kept-volumes : length vs ≡ 2 → r ≡ 0 → volumes answers ≡ both (at vs′ 0) (at vs′ 1)
   kept-volumes two e =
       let fit = page.fitting l kept (step-code (λ k. k ≡ 0) e) in
-      ap (λ (o : Outcome). volumes (answer o)) (kept-step l (length was) (sums-fit (length was) (cellsOf l) fit)) ∙ wrote l (step-same fit) two e
+      ap (λ (o : Outcome). volumes (answer o)) (kept-step l (length was) (sums-fit (length was) (cellsOf l) fit))
+      ∙ wrote l (step-same fit) two e
 
 -- ---- a question
 -- what it tells, as Rattle's answer

@@ -66,6 +66,6 @@ one-amount a b p q = sym (same a) ∙ ap back (p ∙ sym q) ∙ same b
     same (amount.Refused k) = refl
     same (amount.Water w c b) = refl
 
-pub one-keeping : {l : Lent} {a b : Answer} {old new new′ sums s s′ : List ℤ} → KeepingGives l a old new sums s → KeepingGives l b old new′ sums s′
-    → (a ≡ b) × (new ≡ new′) × (s ≡ s′)
+pub one-keeping : {l : Lent} {a b : Answer} {old new new′ sums s s′ : List ℤ} → KeepingGives l a old new sums s
+    → KeepingGives l b old new′ sums s′ → (a ≡ b) × (new ≡ new′) × (s ≡ s′)
 one-keeping p q = (one-answer (p .step) (q .step), one-table (p .step) (q .step), p .kept ∙ sym (q .kept))

@@ -38,7 +38,8 @@ returns c = let told = c .before .k .given in let b = c .before .before .before 
 returns-2 : tie.Need-returns-2
 unfolding asked
 returns-2 c =
-    let k = c .before in let told = k .water .given in let t = c .known-told2 .given in let old = now (s k .args .answer) in let n = few k in
+    let k = c .before in let told = k .water .given in let t = c .known-told2 .given in
+    let old = now (s k .args .answer) in let n = few k in
     rw (back {z = told .0 .0} (t .0 .1), as-whole (told .0 .1 .0) (omega (arith, n)), as-whole (told .0 .1 .1 .0) (omega (arith, n)))
     (read-told _ (told .0 .0) (told .0 .1 .0) (told .0 .1 .1 .0) old (sym (ap asked (told .1)) ∙ asks k .between .ensures))
 

@@ -28,7 +28,8 @@ tell-requires c κs = let w = c .before .before .before .before in
     keeping-place (call w) (length (now (s w .args .sums))) (gave w .step .says)
 
 returns : tie.Need-returns
-returns c = let w = c .before .before .before .before .before in record { step = step-told (gave w .step) (c .tell .ensures); kept = gave w .kept }
+returns c = let w = c .before .before .before .before .before in
+    record { step = step-told (gave w .step) (c .tell .ensures); kept = gave w .kept }
 
 pub bassoonsun-step-sums-spec : {M : Type 1} → statement M
 bassoonsun-step-sums-spec =

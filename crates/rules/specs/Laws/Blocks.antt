@@ -171,7 +171,8 @@ module _ {n a b head first last tail : ℕ} (c : Cut n a b head first last tail)
 
   cells-inside : Has (loneCell n a b) false head tail
   cells-inside i p q = lone-not n a b i (⊎-elim
-      (λ e. c .whole (at i) (omega (arith, e)) (⊎-elim (λ d. omega (arith, e, d)) (λ d. omega (arith, e, d, c .behind, c .reach)) (block-end n (last - 1))))
+      (λ e. c .whole (at i) (omega (arith, e))
+      (⊎-elim (λ d. omega (arith, e, d)) (λ d. omega (arith, e, d, c .behind, c .reach)) (block-end n (last - 1))))
       (λ e. let z : ⊥ = omega (arith, e) in absurd z) (c .ends))
 
   cells-behind : Has (loneCell n a b) true tail b

@@ -46,7 +46,8 @@ module _ (bed t : List ℤ) (sums : ℕ) where
   pub unmade-one : misfitSums sums (cellsOver bed) ≡ true → makingOf bed t sums ≡ unmade 1
   unmade-one e = by-number 1 (making-first e)
 
-  pub unmade-later : misfitSums sums (cellsOver bed) ≡ false → (stateRefusal bed t ≡ 0 → ⊥) → makingOf bed t sums ≡ unmade (stateRefusal bed t)
+  pub unmade-later : misfitSums sums (cellsOver bed) ≡ false → (stateRefusal bed t ≡ 0 → ⊥)
+      → makingOf bed t sums ≡ unmade (stateRefusal bed t)
   unmade-later e some = by-number (stateRefusal bed t) (making-later e) ∙ rw (ne-eqb (stateRefusal bed t) 0 some) refl
 
   pub all-made : misfitSums sums (cellsOver bed) ≡ false → stateRefusal bed t ≡ 0 → makingOf bed t sums ≡ made (sumsOf bed t)

@@ -57,7 +57,8 @@ module _ (bed t : List ℤ) where
   -- the sums of blocks in a row are the sum of their cells
   from-blocks : (l m : ℕ) → l + m ≤ blocksOf n → sumFrom (blockSum bed t) l m ≡ sumTo depth (edge n l) (edge n (l + m))
   unfolding sumFrom blockSum
-  from-blocks l zero h = let e : l + 0 ≡ l = omega arith in sym (ap (λ (x : ℕ). sumTo depth (edge n l) (edge n x)) e ∙ sum-none depth (edge n l))
+  from-blocks l zero h = let e : l + 0 ≡ l = omega arith in
+      sym (ap (λ (x : ℕ). sumTo depth (edge n l) (edge n x)) e ∙ sum-none depth (edge n l))
   from-blocks l (suc m) h =
       let e : l + suc m ≡ suc (l + m) = omega arith in
       ap₂ _+ℤ_ (from-blocks l m (omega arith))

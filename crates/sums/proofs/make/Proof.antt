@@ -31,7 +31,8 @@ module _ (c : tie.Else1) where
 returns-2 : tie.Need-returns-2
 returns-2 c =
     let r = c .before in let e = r .before in let p = s e .args in let is = r .refusal .ensures in
-    made-none (unmade-later (now (p .bed)) (now (p .state)) (length (now (p .sums))) (fit e) (λ z. c .if2 .taken (is ∙ z)) ∙ ap unmade (sym is))
+    made-none
+    (unmade-later (now (p .bed)) (now (p .state)) (length (now (p .sums))) (fit e) (λ z. c .if2 .taken (is ∙ z)) ∙ ap unmade (sym is))
     (now (p .sums))
 
 -- the state passes its checks
@@ -62,4 +63,11 @@ returns-3 c =
 pub make-spec : {M : Type 1} → statement M
 make-spec =
     tie.close
-    (tie.spec (λ c κs. search needs) (λ c κs. search needs) returns (λ c κs. search needs) returns-2 fill-requires (λ c. search needs) returns-3)
+    (tie.spec
+    (λ c κs. search needs) (λ c κs. search needs)
+    returns
+    (λ c κs. search needs)
+    returns-2
+    fill-requires
+    (λ c. search needs)
+    returns-3)

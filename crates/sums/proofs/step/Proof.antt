@@ -43,14 +43,16 @@ fill-requires c κs =
 returns-2 : tie.Need-returns-2
 returns-2 c =
     let k = c .before in let w = k .before .before .before in let s = start w in let told = k .k .given in
-    keeping-refused (call s) (now (s .args .next)) _ (now (s .args .sums)) (same w) (w .step .ensures) (told .0 .0) (told .0 .1 .0) (told .1)
+    keeping-refused (call s) (now (s .args .next)) _ (now (s .args .sums)) (same w) (w .step .ensures)
+    (told .0 .0) (told .0 .1 .0) (told .1)
 
 returns-3 : tie.Need-returns-3
 returns-3 c =
     let f = c .before in let k = c .before .before .before .before .before in let w = k .before .before .before in
     let s = start w in let told = k .w .given in let t = c .before .before .before .before .known-told2 .given in
     rw (back {z = told .0 .0} (t .0 .1), back {z = told .0 .1 .0} (t .1 .0 .1))
-    (keeping-accepted (call s) (now (s .args .next)) _ (now (s .args .sums)) (same w) (w .step .ensures) (told .0 .0) (told .0 .1 .0) (told .1) _
+    (keeping-accepted (call s) (now (s .args .next)) _ (now (s .args .sums)) (same w) (w .step .ensures)
+    (told .0 .0) (told .0 .1 .0) (told .1) _
     (f .fill .ensures))
 
 pub step-spec : {M : Type 1} → statement M

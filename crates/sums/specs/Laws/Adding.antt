@@ -47,7 +47,8 @@ module _ (f : ℕ → ℤ) (a b : ℕ) where
       more-size = record { abs = omega (arith, b-add (so-far .size) small .abs, so-far .from) }
 
       pub adding-fits : SFits w64 (toZ w64 bits +ℤ x)
-      adding-fits = rw (adding-is, value) (fit {A = mostCells * mostAddend} (record { abs = omega (arith, more-size .abs, so-far .from) }) tt)
+      adding-fits = rw (adding-is, value)
+          (fit {A = mostCells * mostAddend} (record { abs = omega (arith, more-size .abs, so-far .from) }) tt)
 
       pub adding-more : Adding f a b (i + 1) (ofZ w64 (toZ w64 bits +ℤ x))
       adding-more = let e = sum-more f a i (so-far .from) in record {

@@ -23,11 +23,13 @@ cast-water c = let l = c .before .before in widens (getD (now (l .before .args .
 
 add-water : tie.Need-add-water Inv-loop μ-loop
 add-water c = let e = c .before in let l = e .before in let s = l .before in
-    adding-fits _ _ _ (l .loop .inv) (s .pre .1) _ (widened (c .water .given)) (b-up _ (within32 (c .water .given)) tt) (e .loop-test .taken)
+    adding-fits _ _ _ (l .loop .inv) (s .pre .1) _ (widened (c .water .given))
+    (b-up _ (within32 (c .water .given)) tt) (e .loop-test .taken)
 
 loop-again : tie.Need-loop-again Inv-loop μ-loop
 loop-again c = let e = c .before in let l = e .before in let s = l .before in
-    adding-more _ _ _ (l .loop .inv) (s .pre .1) _ (widened (c .water .given)) (b-up _ (within32 (c .water .given)) tt) (e .loop-test .taken)
+    adding-more _ _ _ (l .loop .inv) (s .pre .1) _ (widened (c .water .given))
+    (b-up _ (within32 (c .water .given)) tt) (e .loop-test .taken)
 
 returns : tie.Need-returns Inv-loop μ-loop
 returns c = let l = c .before in adding-all _ _ _ (l .loop .inv) (l .before .pre .1) (c .loop-test .left)

@@ -22,11 +22,13 @@ depth-requires c κs = search needs
 
 add-water : tie.Need-add-water Inv-loop μ-loop
 add-water c = let e = c .before in let l = e .before in let s = l .before in let d = c .depth in
-    adding-fits _ _ _ (l .loop .inv) (s .pre .1) _ (back64 (d .ok) (d .ensures .0)) (rw (← d .ensures .0) (d .ensures .1)) (e .loop-test .taken)
+    adding-fits _ _ _ (l .loop .inv) (s .pre .1) _ (back64 (d .ok) (d .ensures .0))
+    (rw (← d .ensures .0) (d .ensures .1)) (e .loop-test .taken)
 
 loop-again : tie.Need-loop-again Inv-loop μ-loop
 loop-again c = let e = c .before in let l = e .before in let s = l .before in let d = c .depth in
-    adding-more _ _ _ (l .loop .inv) (s .pre .1) _ (back64 (d .ok) (d .ensures .0)) (rw (← d .ensures .0) (d .ensures .1)) (e .loop-test .taken)
+    adding-more _ _ _ (l .loop .inv) (s .pre .1) _ (back64 (d .ok) (d .ensures .0))
+    (rw (← d .ensures .0) (d .ensures .1)) (e .loop-test .taken)
 
 returns : tie.Need-returns Inv-loop μ-loop
 returns c = let l = c .before in adding-all _ _ _ (l .loop .inv) (l .before .pre .1) (c .loop-test .left)

@@ -27,8 +27,10 @@ loop-holds c = let p = c .before .args in
 
 block-sum-requires : tie.Need-block-sum-requires Inv-loop μ-loop
 block-sum-requires c κs =
-    let l = c .before in let n = l .before in let fit = n .before .pre .0 in let e = n .cells-over .ensures in let i = l .loop .inv in
-    ((e, omega (arith, e, fit .most), omega (arith, e, fit .state), omega (arith, e, fit .blocks, i .1, c .loop-test .taken)), n .before .pre .1)
+    let l = c .before in let n = l .before in let fit = n .before .pre .0 in let e = n .cells-over .ensures in let i = l .loop .inv in (
+      (e, omega (arith, e, fit .most), omega (arith, e, fit .state), omega (arith, e, fit .blocks, i .1, c .loop-test .taken)),
+      n .before .pre .1,
+    )
 
 loop-again : tie.Need-loop-again Inv-loop μ-loop
 loop-again c =
