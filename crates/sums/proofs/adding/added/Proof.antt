@@ -1,3 +1,4 @@
+-- Each turn adds one entry, whatever it is.
 use Prim.Native.Nat.{_-_}
 use lib.ListN.{getD}
 use lib.IntN.{pos}
