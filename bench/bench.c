@@ -261,8 +261,8 @@ static int compare_case(const Case *c, const char *name)
                            k + 1, (unsigned)given[0].refusal), 0;
         memcpy(now, given[0].next, 4 * c->n * sizeof now[0]);
         if (!same_water(c, now))
-            return fprintf(stderr, "bench: %s, %zu cells: after step %d the water is answered in two ways\n", name, c->n,
-                           k + 1), 0;
+            return fprintf(stderr, "bench: %s, %zu cells: after step %d the water is answered in two ways\n", name,
+                           c->n, k + 1), 0;
     }
     return 1;
 }

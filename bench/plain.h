@@ -1,4 +1,4 @@
-/* The step of bassoonsun.h written plainly in C, and its question: same arguments, same answers. */
+/* The step of bassoonsun.h written plainly in C: same arguments, same answers; and its question: the same water. */
 #ifndef PLAIN_H
 #define PLAIN_H
 
@@ -19,7 +19,7 @@ uint32_t plain_root_step(const int32_t *now, size_t now_len, int32_t *next, size
                          uint32_t left, uint32_t right, uint32_t left_q, uint32_t right_q,
                          int64_t volumes[2], uint32_t place[1]);
 
-/* The water between two faces, cell by cell: the call of bassoonsun.h that reads no sums. */
+/* bassoonsun_between without its sums: the water cell by cell. */
 uint32_t plain_between(const int32_t *state, size_t state_len, const int32_t *bed, size_t bed_len, const int32_t *sums,
                        size_t sums_len, uint32_t a, uint32_t b, int64_t answer[3]);
 

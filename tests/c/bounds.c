@@ -120,7 +120,7 @@ static int sums_untouched(const Lent *t)
     return 1;
 }
 
-/* Cell by cell: the depths of a block go down from its sum to 0. */
+/* From each sum the depths of its block are taken away, cell by cell, which leaves nothing. */
 static int sums_are_of(const Lent *t, const int32_t *state)
 {
     const int32_t *sums = t->sums.first, *bed = t->bed.first;

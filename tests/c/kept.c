@@ -11,10 +11,10 @@ enum {
     METRE = BASSOONSUN_UNIT,
     MOST_CELLS = BASSOONSUN_MOST_CELLS,
     MOST_SUMS = BASSOONSUN_SUMS(MOST_CELLS),
-    CELL_STEPS = 200000, /* of one reach, in steps of all its cells */
-    MOST_STEPS = 1500,
+    CELL_STEPS = 200000, /* of one reach, its steps times its cells; */
+    MOST_STEPS = 1500, /* or so many steps, where these are fewer */
     EVERY = 9, /* of so many steps one is refused */
-    QUESTIONS = 3 /* after each step */
+    QUESTIONS = 3 /* after each accepted step, besides those of the whole reach */
 };
 
 typedef struct {

@@ -4,8 +4,8 @@
 
 COMMAND is examples/leat.c's program, with an emulator before it where one is needed.  The balance and the
 water between the markers must be the same line for line, the drawn section its mirror image, and a step
-that is refused must be refused with the same number.  The last line is 'N passed, M failed'; the exit status is 1 when
-something failed.
+that is refused must be refused with the same number.  The last line is 'N passed, M failed'; the exit
+status is 1 when something failed.
 """
 
 import re
@@ -45,8 +45,8 @@ def main():
          "leat: the balance is the same from both ends, %d lines" % len(above[1]))
     between = re.search(r" (\S+) m3 stand between (\d+) m and (\d+) m", above[1][-1])
     whole = int(above[1][-2].split()[4]) / 4096
-    case(between and 0 < float(between[1]) < whole, "leat: the water between the markers, %s of %.3f m3, is told from both ends"
-         % (between and between[1], whole))
+    case(between is not None and 0 < float(between[1]) < whole,
+         "leat: the water between the markers is told, %s of %.3f m3" % (between and between[1], whole))
     lines = section(above[2])
     case(section(below[2]) == [mirrored(line) for line in lines] and any(line != mirrored(line) for line in lines),
          "leat: the section drawn from below is the mirror image, %d lines" % len(lines))

@@ -66,7 +66,7 @@ static uint32_t step_in_a_row(void)
                            c->dry, c->left, c->right, c->left_q, c->right_q, lent.volumes, &lent.place);
 }
 
-/* Both again, keeping the sums; with so many of them more than fit. */
+/* Both again, keeping the sums; the first with so many of them more than fit. */
 static uint32_t step_with_sums(size_t more)
 {
     size_t n = lent.cells;

@@ -1,9 +1,9 @@
 /* Measures the stack that a step takes, without sums and with them, of a short reach and of the longest, and what
  * making the sums and a question take, on threads of 512 KiB as an editor's worker thread has. What a thread library
- * keeps on a stack differs, so it is not the smallest stack that is sought: the thread's stack is filled with a pattern
- * beforehand, and after the call all is counted from the lowest word that has changed up to the frame of the function
- * that made the call. A call that takes more than the whole stack runs into an untouchable page and ends the program.
- * The last line is 'N passed, M failed'. */
+ * keeps on a stack differs, so it is not the smallest stack that is sought: what lies below the frame of the function
+ * that makes the call is filled with a pattern beforehand, and after the call all is counted from the lowest word that
+ * has changed up to that frame. A call that takes more than the whole stack runs into an untouchable page and ends the
+ * program. The last line is 'N passed, M failed'. */
 #define _DEFAULT_SOURCE
 #include "fence.h"
 #include <bassoonsun.h>
@@ -16,7 +16,8 @@ enum {
     MOST_CELLS = BASSOONSUN_MOST_CELLS,
     SHORT_CELLS = 128,
     SHORT_MOST = 32 * KIB,
-    NO_TABLES_MOST = 4 * KIB /* for the calls that have no tables of their own */
+    NO_TABLES_MOST = 1 * KIB, /* for the calls that have no tables of their own */
+    FRAME_MOST = 256 /* bytes that the frame itself may have below its address; they are not filled, and all counted */
 };
 #define PATTERN UINT64_C(0x9d3c51e7a6f08b42)
 
@@ -53,13 +54,17 @@ typedef struct {
     size_t cells;
     uint64_t *stack; /* its lowest word */
     uint32_t refusal;
-    size_t taken; /* bytes below the caller's frame, with what little the frame itself has there */
+    size_t taken; /* bytes below the address of the caller's frame, with what little the frame itself has there */
 } Trial;
 
-/* The thread: it counts before it returns, so that nothing else has used its stack meanwhile. */
+/* The thread: it fills its stack, which starting it has used already, and counts before it returns, so that nothing
+ * else has used the stack meanwhile. */
 static void *make_call(void *given)
 {
     Trial *trial = given;
+    size_t below = (size_t)((const char *)__builtin_frame_address(0) - (const char *)trial->stack) - FRAME_MOST;
+    for (size_t i = 0; i < below / sizeof *trial->stack; i++)
+        trial->stack[i] = PATTERN;
     trial->refusal = trial->call(trial->cells);
     const uint64_t *lowest = trial->stack;
     while (*lowest == PATTERN)
@@ -74,8 +79,6 @@ static void run_thread(Trial *trial)
     pthread_attr_t attributes;
     Fenced stack = fence(STACK, 0);
     trial->stack = stack.first;
-    for (size_t i = 0; i < STACK / sizeof *trial->stack; i++)
-        trial->stack[i] = PATTERN;
     if (pthread_attr_init(&attributes) != 0 || pthread_attr_setstack(&attributes, stack.first, STACK) != 0 ||
         pthread_create(&thread, &attributes, make_call, trial) != 0 || pthread_join(thread, NULL) != 0) {
         fputs("thread: no thread with such a stack\n", stderr);
@@ -118,7 +121,9 @@ static int try_call(size_t k)
     if (trial.call != ask)
         sums[0] = 0;
     run_thread(&trial);
-    int written = trial.call == ask ? answer[2] != 0 : trial.call == make_sums ? sums[0] != 0 : next[0] != 0;
+    int steps = trial.call == step || trial.call == step_with_sums;
+    int written = trial.call == ask ? answer[2] != 0
+                                    : (!steps || next[0] != 0) && (trial.call == step || sums[0] != 0);
     int passed = trial.refusal == BASSOONSUN_ACCEPTED && written && trial.taken < tried[k].most;
     printf("%s  %s of %zu cells, answer %u: %.1f KiB of stack, under %zu wanted\n", passed ? "passed" : "FAILED",
            tried[k].what, trial.cells, (unsigned)trial.refusal, (double)trial.taken / KIB, tried[k].most / KIB);

@@ -1,9 +1,9 @@
-"""The calls of the water between two faces (E8), made from C by serve.c, against the independent model, number for number.
+"""The calls of the water between two faces (E8), made from C by serve.c, against the independent model.
 
     water.py SEED SUMS QUESTIONS STEPS -- COMMAND...
 
-makes so many random calls that make sums, that ask for the water and that step and keep the sums.  COMMAND is serve, with
-an emulator before it where one is needed.  How calls are made and compared, and what is a case, is compare.py's.
+makes so many random calls that make sums, that ask for the water and that step and keep the sums.  COMMAND is serve,
+with an emulator before it where one is needed.  How calls are made and compared, and what is a case, is compare.py's.
 """
 
 import itertools
@@ -33,16 +33,18 @@ def number_of_cells(rnd):
 
 
 def reach(rnd, n):
-    """A bed and a state over it in range, deep ones and dry ones too; some as full as there are."""
+    """A bed and a state over it in range, deep ones and dry ones too; some as full as there are, or nearly."""
     if rnd.randrange(15) == 0:
-        bed = hard.beds(rnd, n)
-        return bed, m.table_of(hard.placed(zl, zr, m.DEEPEST - rnd.choice((0, 0, 1)), 0, 0, 0) for zl, zr in zip(bed, bed[1:]))
+        bed, less = hard.beds(rnd, n), rnd.choice(((0,), (0, 0, 1)))
+        deep = [m.DEEPEST - rnd.choice(less) for _ in range(n)]
+        return bed, m.table_of(hard.placed(zl, zr, h0, 0, 0, 0) for zl, zr, h0 in zip(bed, bed[1:], deep))
     return hard.reach_of(rnd, n, hard.dry_depths(rnd))
 
 
 def junk(rnd, count):
-    """Numbers as wide as an i32, and any: odd ones, and ones below nought, as a bed."""
-    return [rnd.choice((LEAST, LEAST + 1, -3, -2, -1, 0, 1, 3, MOST - 1, MOST, rnd.randint(LEAST, MOST))) for _ in range(count)]
+    """Numbers as wide as an i32 or small, odd and even, above nought and below."""
+    edges = LEAST, LEAST + 1, -3, -2, -1, 0, 1, 3, MOST - 1, MOST
+    return [rnd.choice((*edges, rnd.randint(LEAST, MOST))) for _ in range(count)]
 
 
 def blocks(n):
@@ -50,9 +52,11 @@ def blocks(n):
 
 
 CHANGES = {"too short": lambda t: t[:-1], "too long": lambda t: t + [MOST], "of length 0": lambda t: []}
-NO_REACH = {"no cell": 0, "1,025 cells": m.MOST_CELLS + 1, "65,537 cells": (1 << 16) + 1}      # the last is 1 in 16 bits
+# The last is 1 in 16 bits.
+NO_REACH = {"no cell": 0, "1,025 cells": m.MOST_CELLS + 1, "65,537 cells": (1 << 16) + 1}
 ONE_TABLE = ["%s %s" % pair for pair in itertools.product(("state", "bed", "sums"), CHANGES)]
-FAULTS = {**dict.fromkeys([*ONE_TABLE, "no cell", "1,025 cells"], 3), "65,537 cells": 1}        # and how often, against each other
+# How often each is drawn, against the others.
+FAULTS = {**dict.fromkeys([*ONE_TABLE, "no cell", "1,025 cells"], 3), "65,537 cells": 1}
 
 
 def misfit(rnd, lent):
@@ -84,7 +88,9 @@ def lent_tables(rnd):
 
 def ending(n):
     """What the last of several blocks is, or that there is but one."""
-    return "one block" if n <= sums.BLOCK_CELLS else "a whole last block" if n % sums.BLOCK_CELLS == 0 else "a short last block"
+    if n <= sums.BLOCK_CELLS:
+        return "one block"
+    return "a short last block" if n % sums.BLOCK_CELLS else "a whole last block"
 
 
 # ---- Making
@@ -114,9 +120,9 @@ def in_order(check, *given):
 
 
 def making_ways(lent, number):
-    """What is particular in a call: faults that a later check would have refused too, and a sum at the end of its range."""
-    if number == 1 and len(lent.state) == 4 * (len(lent.bed) - 1) and not in_order(m.check_bed, lent.bed):
-        yield "1, and a bed out of range"
+    """What is particular in a call: what a later check would have refused too, and a sum at the end of its range."""
+    if number == 1 and lent.fault.startswith("sums") and not in_order(m.check_bed, lent.bed):
+        yield "1 for the sums, and a bed out of range"
     if number == 3 and not in_order(sums.check_state, lent.state, lent.bed):
         yield "3, and a state out of range"
     if number == 0:
@@ -124,8 +130,8 @@ def making_ways(lent, number):
         yield "made, " + ending(n)
         if n == m.MOST_CELLS:
             yield "made, longest reach"
-        if max(lent.sums) > 4000000:
-            yield "made, a block nearly full"
+        if max(lent.sums) == sums.BLOCK_CELLS * m.DEEPEST:
+            yield "made, a full block"
 
 
 def making_due(lent):
@@ -138,8 +144,9 @@ def making_due(lent):
 
 
 MAKING_WAYS = {
-    "made": 3, "made, one block": 15, "made, a whole last block": 30, "made, a short last block": 5, "made, longest reach": 300,
-    "made, a block nearly full": 80, "3": 10, "5": 15, "3, and a state out of range": 20, "1, and a bed out of range": 150,
+    "made": 3, "made, one block": 15, "made, a whole last block": 30, "made, a short last block": 5,
+    "made, longest reach": 500, "made, a full block": 200, "3": 10, "5": 20, "3, and a state out of range": 20,
+    "1 for the sums, and a bed out of range": 150,
     **{"1, " + fault: 500 // often for fault, often in FAULTS.items()},
 }
 
@@ -155,15 +162,17 @@ def faces(rnd, n):
         edge = sums.BLOCK_CELLS * rnd.randint(0, blocks(n)) + rnd.choice((0, 0, -1, 1))
         return rnd.choice((end, max(0, min(n, edge)), max(0, min(n, edge)), rnd.randint(0, n), rnd.randint(0, n)))
     a, b = sorted((one(0), one(n)))
-    # the most blocks that there are, the most cells, and none
-    return rnd.choice(((0, n), (1, n - 1), (1, 31), (a, a))) if n > 31 and rnd.randrange(3 if n == m.MOST_CELLS else 12) == 0 else (a, b)
+    if n > 31 and rnd.randrange(3 if n == m.MOST_CELLS else 12) == 0:
+        # the most blocks, the most cells with blocks between them and without, and neither
+        return rnd.choice(((0, n), (1, n - 1), (1, 31), (a, a)))
+    return a, b
 
 
 def misplaced(rnd, n, a, b):
     """Faces out of order, just beyond the reach or far, or such that only their lower bits would be in order."""
     wide = rnd.choice((1 << 11, 1 << 16, 1 << 31))
-    return rnd.choice(((b + 1, a), (b + 1, b), (a, n + 1), (n + 1, n + 1), (n + 1, n), (n + 2, n + 1), (a, U32), (U32, b), (U32, U32),
-                       (U32, U32 - 1), (a, b + wide), (a + wide, b), (a + wide, b + wide)))
+    return rnd.choice(((b + 1, a), (b + 1, b), (a, n + 1), (n + 1, n + 1), (n + 1, n), (n + 2, n + 1), (a, U32),
+                       (U32, b), (U32, U32), (U32, U32 - 1), (a, b + wide), (a + wide, b), (a + wide, b + wide)))
 
 
 def questions(seed, count):
@@ -171,7 +180,7 @@ def questions(seed, count):
     for _ in range(count):
         lent, how = lent_tables(rnd), rnd.randrange(4)
         n = len(lent.bed) - 1
-        if how == 0:        # nothing in the tables is looked at
+        if how == 0:        # tables of which nothing is in order
             lent = Lent(junk(rnd, 4 * n), junk(rnd, n + 1), junk(rnd, len(lent.sums)), None)
         elif how == 1:      # sums of another state
             lent = lent._replace(sums=[z + rnd.choice((0, -1, 1, 7)) for z in lent.sums])
@@ -183,24 +192,22 @@ def questions(seed, count):
 
 def question_asked(q):
     state, bed, kept, _ = q.lent
-    return (table("I", (len(state), len(bed), len(kept), q.a, q.b)) + table("i", state) + table("i", bed) + table("i", kept))
+    return (table("I", (len(state), len(bed), len(kept), q.a, q.b))
+            + table("i", state) + table("i", bed) + table("i", kept))
 
 
-def read_way(n, a, b):
-    """What is read between two faces: cells before the blocks that lie whole, blocks, cells behind them; or cells alone."""
-    cells, whole = sums.read(n, a, b)
+def read_way(cells, whole, a, b):
+    """What is read between two faces: cells before the whole blocks, these, cells behind them; or cells alone."""
     if not whole:
-        return "cells alone" if cells else "nothing"
-    first, last = sums.blocks(n)[whole[0]], sums.blocks(n)[whole[-1]]
-    parts = (a < first.start and "cells before", len(whole) > 1 and "blocks" or "a block", last.stop < b and "cells behind")
-    return ", ".join(part for part in parts if part)
+        return "answered, cells alone" if cells else "answered, nothing"
+    before, behind = ["cells before"] * (a in cells), ["cells behind"] * (b - 1 in cells)
+    return "answered, " + ", ".join(before + ["blocks" if len(whole) > 1 else "a block"] + behind)
 
 
-def question_ways(q, water):
+def question_ways(q, cells, whole, water):
     """What is particular in a question that is answered."""
     state, bed, kept, _ = q.lent
     n = len(bed) - 1
-    cells, whole = sums.read(n, q.a, q.b)
     short = n % sums.BLOCK_CELLS
     if short and blocks(n) - 1 in whole:
         yield "answered, a short last block read"
@@ -214,39 +221,40 @@ def question_ways(q, water):
         yield "answered, more than 32 bits hold"
     if any((bed[i] + bed[i + 1]) % 2 and bed[i] + bed[i + 1] < 0 for i in cells):
         yield "answered, half of an odd sum below nought"
-    if q.b > q.a and kept == sums.sums_of(state, bed) and water == sums.water(state, bed, q.a, q.b):
+    if q.b > q.a and kept == sums.sums_of(state, bed):
+        assert water == sums.water(state, bed, q.a, q.b)
         yield "answered, the water itself"
 
 
 def question_due(q):
     state, bed, kept, fault = q.lent
-    answer = sums.between(state, bed, kept, q.a, q.b)
-    if answer[0] == "refused":
-        number, n = answer[1], len(bed) - 1
+    n, (said, *numbers) = len(bed) - 1, sums.between(state, bed, kept, q.a, q.b)
+    if said == "refused":
         wrong = [what for what, is_so in (("a over b", q.a > q.b), ("b over n", q.b > n)) if is_so]
-        if number == 10:
-            return Due(number, "10, " + " and ".join(wrong), MARK * 24)
-        return Due(number, "1, " + fault, MARK * 24, ["1, and faces misplaced"] if wrong else [])
-    water = answer[1]
-    return Due(0, "answered, " + read_way(len(bed) - 1, q.a, q.b), table("q", answer[1:]), list(question_ways(q, water)))
+        if numbers == [10]:
+            return Due(10, "10, " + " and ".join(wrong), MARK * 24)
+        return Due(numbers[0], "1, " + fault, MARK * 24, ["1, and faces misplaced"] if wrong else [])
+    cells, whole = sums.read(n, q.a, q.b)
+    also = list(question_ways(q, cells, whole, numbers[0]))
+    return Due(0, read_way(cells, whole, q.a, q.b), table("q", numbers), also)
 
 
 QUESTION_WAYS = {
     **{"answered, " + way: share for way, share in (
-        ("nothing", 20), ("cells alone", 8), ("a block", 30), ("cells before, a block", 40), ("a block, cells behind", 60),
-        ("cells before, a block, cells behind", 100), ("blocks", 30), ("cells before, blocks", 40), ("blocks, cells behind", 60),
-        ("cells before, blocks, cells behind", 100), ("a short last block read", 8), ("a short last block cut", 50),
-        ("30 cells read", 200), ("64 blocks read", 1500), ("more than 32 bits hold", 30),
-        ("half of an odd sum below nought", 30), ("the water itself", 5))},
+        ("nothing", 20), ("cells alone", 8), ("a block", 30), ("cells before, a block", 40),
+        ("a block, cells behind", 60), ("cells before, a block, cells behind", 100), ("blocks", 30),
+        ("cells before, blocks", 40), ("blocks, cells behind", 60), ("cells before, blocks, cells behind", 100),
+        ("a short last block read", 8), ("a short last block cut", 50), ("30 cells read", 200),
+        ("64 blocks read", 1500), ("more than 32 bits hold", 30), ("half of an odd sum below nought", 30),
+        ("the water itself", 5))},
     "10, a over b": 60, "10, b over n": 60, "10, a over b and b over n": 300, "1, and faces misplaced": 80,
-    **{"1, " + fault: 500 // often for fault, often in FAULTS.items()},
+    **{"1, " + fault: 700 // often for fault, often in FAULTS.items()},
 }
 
 
 # ---- Steps that keep the sums
 
 Kept = namedtuple("Kept", "step sums_len fault")
-SUMS_FAULTS = ("too short", "too long", "of length 0")
 
 
 def ordinary(rnd):
@@ -261,7 +269,7 @@ def kept_steps(seed, count):
         if rnd.randrange(4) == 0:
             call = ordinary(rnd)
         fits = blocks(len(call[3]))
-        fault = rnd.choice(SUMS_FAULTS) if rnd.randrange(3) == 0 and fits else None
+        fault = rnd.choice(list(CHANGES)) if rnd.randrange(3) == 0 and fits else None
         length = {None: fits, "too short": fits - 1, "too long": fits + 1, "of length 0": 0}[fault]
         yield Kept(call, length, fault)
 
@@ -282,16 +290,18 @@ def kept_due(kept):
     number, place = answer[1:]
     if kept.fault:
         without = m.step(*kept.step)
-        also = ["1, sums %s" % kept.fault, "1 for the sums, without them %s" % (without[1] if without[0] == "refused" else "accepted")]
+        also = ["1, sums %s" % kept.fault,
+                "1 for the sums, without them %s" % (without[1] if without[0] == "refused" else "accepted")]
     else:
-        also = ["%d for another reason" % number]
+        also = ["%d, with sums that fit" % number]
     return Due(number, str(number), table("I", [place]) + MARK * (4 * next_len + 16 + 4 * kept.sums_len), also)
 
 
 KEPT_WAYS = {
     "accepted": 5, "accepted, one block": 10, "accepted, a whole last block": 40, "accepted, a short last block": 20,
-    "accepted, longest reach": 300, **{"1, sums %s" % fault: 15 for fault in SUMS_FAULTS},
-    **{"%d for another reason" % number: share for number, share in enumerate((200, 200, 500, 500, 600, 20, 25, 30), 1)},
+    "accepted, longest reach": 300, **{"1, sums %s" % fault: 15 for fault in CHANGES},
+    **{"%d, with sums that fit" % number: share
+       for number, share in enumerate((200, 200, 500, 500, 600, 20, 25, 30), 1)},
     "1 for the sums, without them accepted": 10,
     **{"1 for the sums, without them %d" % number: share
        for number, share in enumerate((500, 500, 800, 1000, 1500, 50, 50, 50), 1)},

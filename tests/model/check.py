@@ -472,33 +472,40 @@ def blocks_of_sixteen():
          [sums.make(*stairs(n), count)[1] for n, count in ((1, 1), (15, 1), (16, 1), (17, 2), (32, 2), (33, 3))],
          [[1], [120], [136], [136, 17], [136, 392], [136, 392, 33]])
     # face 1 of the bed is 40, so cells 0 and 1 have 20 of it each, whatever their slopes
-    case("E8: a depth is the level mean less the bed's mean", sums.make([120, 130, 110, 20, -20, 0, 9, 9, 9, 0, 0, 0], [0, 40, 0, 0], 1),
-         ("made", [100 + 110 + 110]))
+    case("E8: a depth is the level mean less the bed's mean",
+         sums.make([120, 130, 110, 20, -20, 0, 9, 9, 9, 0, 0, 0], [0, 40, 0, 0], 1), ("made", [100 + 110 + 110]))
 
 
 def what_is_read():
     # of 18 cells 0 to 15 are a block, and 16 and 17 are a short one
     wanted = {(0, 0): (0, 0, 0), (5, 5): (0, 0, 0), (16, 16): (0, 0, 0), (18, 18): (0, 0, 0),
-              (0, 1): (1, 1, 0), (0, 15): (120, 15, 0), (0, 16): (136, 0, 1), (0, 17): (153, 1, 1), (0, 18): (171, 0, 2),
-              (1, 16): (135, 15, 0), (1, 17): (152, 16, 0), (1, 18): (170, 15, 1), (15, 17): (33, 2, 0), (15, 18): (51, 1, 1),
-              (16, 17): (17, 1, 0), (16, 18): (35, 0, 1), (17, 18): (18, 1, 0)}
-    case("E8: the water, the cells and the blocks of %d ranges of 18 cells" % len(wanted), {ab: question(18, *ab) for ab in wanted}, wanted)
-    case("E8: one cell is a block, and 32 are two", [question(1, 0, 1), question(32, 0, 32), question(32, 1, 32), question(32, 0, 31)],
+              (0, 1): (1, 1, 0), (0, 15): (120, 15, 0), (0, 16): (136, 0, 1), (0, 17): (153, 1, 1),
+              (0, 18): (171, 0, 2), (1, 16): (135, 15, 0), (1, 17): (152, 16, 0), (1, 18): (170, 15, 1),
+              (15, 17): (33, 2, 0), (15, 18): (51, 1, 1), (16, 17): (17, 1, 0), (16, 18): (35, 0, 1),
+              (17, 18): (18, 1, 0)}
+    case("E8: the water, the cells and the blocks of %d ranges of 18 cells" % len(wanted),
+         {ab: question(18, *ab) for ab in wanted}, wanted)
+    case("E8: one cell is a block, and 32 are two",
+         [question(1, 0, 1), question(32, 0, 32), question(32, 1, 32), question(32, 0, 31)],
          [(1, 0, 1), (528, 0, 2), (527, 15, 1), (496, 15, 1)])
     case("E8: of 1,024 cells all, all but the outer two, and the most cells without a block",
-         [question(1024, *ab) for ab in ((0, 1024), (1, 1023), (1, 31))], [(524800, 0, 64), (523775, 30, 62), (495, 30, 0)])
-    most = [sums.read(n, a, b) for n in (31, 32, 33, 47, 48, 49) for a in range(n + 1) for b in range(a, n + 1)]
-    case("E8: never more than 30 cells, in all %d ranges of 31 to 49 cells" % len(most), max(len(cells) for cells, _ in most), 30)
+         [question(1024, *ab) for ab in ((0, 1024), (1, 1023), (1, 31))],
+         [(524800, 0, 64), (523775, 30, 62), (495, 30, 0)])
+    most = [len(sums.read(n, a, b)[0])
+            for n in (31, 32, 33, 47, 48, 49) for a in range(n + 1) for b in range(a, n + 1)]
+    case("E8: never more than 30 cells, in all %d ranges of 31 to 33 and of 47 to 49 cells" % len(most), max(most), 30)
 
 
 LEAST, MOST = -hard.I32, hard.I32 - 1
 
 
 def as_they_stand():
-    """Tables that no check has seen: n is 2 and the range its first cell, so that the cell is read and not its block."""
+    """Tables that no check has seen."""
     def first(e0, zl, zr):
+        """Of two cells the first, so that the cell is read and not its block."""
         return sums.between([e0] + [0] * 7, [zl, zr, 0], [0], 0, 1)
-    beds = {(0, 1): 0, (1, 0): 0, (1, 2): 1, (-1, 0): 0, (0, -1): 0, (-1, -1): -1, (-1, -2): -1, (-3, 0): -1, (-7, 2): -2, (7, -2): 2}
+    beds = {(0, 1): 0, (1, 0): 0, (1, 2): 1, (-1, 0): 0, (0, -1): 0, (-1, -1): -1, (-1, -2): -1, (-3, 0): -1,
+            (-7, 2): -2, (7, -2): 2}
     case("E8: the mean of beds of odd sum or below nought is cut toward nought", {z: first(100, *z) for z in beds},
          {z: ("answered", 100 - mean, 1, 0) for z, mean in beds.items()})
     widest = (LEAST, MOST, MOST), (MOST, LEAST, LEAST), (MOST, LEAST, MOST), (LEAST, LEAST, LEAST)
@@ -507,40 +514,47 @@ def as_they_stand():
     state, bed = stairs(1024)
     # the outer cells of 1 to 1,023 are 2 to 16 and 1,009 to 1,023 deep, 135 and 15,240 together
     for z in (LEAST, MOST):
-        case("E8: sums that are not the state's, all %d" % z, [sums.between(state, bed, [z] * 64, *ab) for ab in ((0, 1024), (1, 1023))],
+        case("E8: sums that are not the state's, all %d" % z,
+             [sums.between(state, bed, [z] * 64, *ab) for ab in ((0, 1024), (1, 1023))],
              [("answered", 64 * z, 0, 64), ("answered", 62 * z + 135 + 15240, 30, 62)])
-    case("E8: one cell's own numbers are not read, its block's are", sums.between([LEAST, 1, 2, 3], [MOST, 5], [77], 0, 1),
-         ("answered", 77, 0, 1))
+    case("E8: one cell's own numbers are not read, its block's are",
+         sums.between([LEAST, 1, 2, 3], [MOST, 5], [77], 0, 1), ("answered", 77, 0, 1))
 
 
 def sums_refused():
-    """Tables that would be refused by every check, mended one by one."""
+    """Each check alone and at its edge, and tables that more than one of them refuses."""
     state, bed = stairs(17)
     odd, low = with_one(bed, 17, 1), with_one(state, 16, -1)
-    tables = [(table, bed, 2) for table in ([], state[:-1], state + [0])] + [(state, table, 2) for table in (bed[:-1], bed + [0])]
+    tables = [(table, bed, 2) for table in ([], state[:-1], state + [0])]
+    tables += [(state, table, 2) for table in (bed[:-1], bed + [0])]
     tables += [(state, bed, length) for length in (0, 1, 3)]
-    case("E8: making with a state, a bed or sums of the wrong length", [sums.make(*t) for t in tables], [("refused", 1)] * 8)
+    case("E8: making with a table that does not fit", [sums.make(*t) for t in tables], [("refused", 1)] * 8)
     case("E8: a question of the same", [sums.between(*t[:2], [0] * t[2], 0, 0) for t in tables], [("refused", 1)] * 8)
     for what, n in (("no bed", -1), ("no cell", 0), ("1,025 cells", 1025)):
         lent, room = ([0] * (4 * n), [0] * (n + 1)), max(0, n + 15) // 16
-        case("E8: " + what, (sums.make(*lent, room), sums.between(*lent, [0] * room, 0, 0)), (("refused", 1), ("refused", 1)))
-    case("E8: 1 before 3 and 5, 3 before 5", [sums.make(*t) for t in ((low, odd, 3), (low, odd, 2), (low, bed, 2), (state, bed, 2))],
+        case("E8: " + what, [sums.make(*lent, room), sums.between(*lent, [0] * room, 0, 0)], [("refused", 1)] * 2)
+    case("E8: 1 before 3 and 5, 3 before 5",
+         [sums.make(*t) for t in ((low, odd, 3), (low, odd, 2), (low, bed, 2), (state, bed, 2))],
          [("refused", 1), ("refused", 3), ("refused", 5), ("made", [136, 17])])
     deep = with_one(state, 16, m.DEEPEST)
     edges = [deep, with_one(state, 16, m.DEEPEST + 1), with_one(deep, 33, 1)]
     edges += [with_one(state, 67, q) for q in (m.GREATEST_Q, m.GREATEST_Q + 1)]
     case("E8: the range of a state at its edge", [sums.make(edge, bed, 2)[0] for edge in edges],
          ["made", "refused", "refused", "made", "refused"])
-    faces = (0, 17), (17, 17), (1, 0), (17, 16), (0, 18), (18, 18), (18, 17), (0, 2 ** 32 - 1), (2 ** 32 - 1, 0), (2 ** 32 - 1, 2 ** 32 - 1)
-    case("E8: a over b, b over n", [sums.between(low, odd, [0, 0], *ab)[0] for ab in faces], ["answered"] * 2 + ["refused"] * 8)
-    case("E8: and 10 is its number, after 1", [sums.between(low, odd, [0, 0], 18, 18), sums.between(low, odd, [0], 18, 18)],
+    top = 2 ** 32 - 1
+    faces = (0, 17), (17, 17), (1, 0), (17, 16), (0, 18), (18, 18), (18, 17), (0, top), (top, 0), (top, top)
+    case("E8: a over b, b over n", [sums.between(low, odd, [0, 0], *ab)[0] for ab in faces],
+         ["answered"] * 2 + ["refused"] * 8)
+    case("E8: and 10 is its number, after 1",
+         [sums.between(low, odd, [0, 0], 18, 18), sums.between(low, odd, [0], 18, 18)],
          [("refused", 10), ("refused", 1)])
 
 
 def sums_kept(seed, count):
-    """The step with sums: the step's own answer and the sums of what it writes; a wrong length of sums before all else."""
+    """The step with sums: its own answer and the sums of what it writes; the length of the sums before all else."""
     still = [4096] * 17 + [0] * 51
-    case("E8: a step of 17 still cells keeps their sums", sums.step(still, 68, [0] * 18, [0] * 17, 2, 4096, 653, 0, DRY, 0, 0, 0, 0),
+    case("E8: a step of 17 still cells keeps their sums",
+         sums.step(still, 68, [0] * 18, [0] * 17, 2, 4096, 653, 0, DRY, 0, 0, 0, 0),
          ("accepted", still, 0, 0, [65536, 4096]))
     rnd, wrong, answers, early, asked = random.Random(seed), 0, Counter(), Counter(), 0
     for now, room, bed, friction, *given in hard.calls(seed, count):
@@ -559,8 +573,8 @@ def sums_kept(seed, count):
             wrong += sums.between(state, bed, kept, a, b)[1] != sum(depths(state, bed)[a:b])
             wrong += sums.between(state, bed, kept, 0, n) != ("answered", water(state, bed), 0, fits)
             asked += 1
-    case("E8: the step with sums answers as the step, and its sums are those of the new state, %d accepted of %d" % (asked, count),
-         (wrong, asked >= count // 4), (0, True))
+    case("E8: the step with sums answers as the step, and its sums are those of the new state, %d accepted of %d"
+         % (asked, count), (wrong, asked >= count // 4), (0, True))
     case("E8: all of 0 to 8 came, and each also with sums of a wrong length, a 1",
          [k for k in range(9) if min(answers[k], early[k]) < count // 500], [])
 

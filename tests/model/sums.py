@@ -1,8 +1,8 @@
-"""The water between two chainages, from the words of 02's E8.
+"""The water between two faces, from the words of 02's E8.
 
-Beside a state stand the sums of the mean depths of its blocks of sixteen cells, the last block perhaps shorter.
-Said here is what is read, by lists: which blocks lie whole within a range, and which of its cells are in none of
-those.  How a library comes to them is its own matter.
+Beside a state stand sums, for each block of sixteen cells that of its mean depths; the last block is what is left.
+Said here is what is read, by lists: which blocks lie whole within a range, and which of its cells no such block
+covers.  How a library comes to them is its own matter.
 
 `make` answers ("refused", number) or ("made", sums), `between` ("refused", number) or ("answered", water, cells,
 blocks), and `step` as the model's does, with the sums behind the rest: ("accepted", next, W0, Wn, sums).
@@ -28,14 +28,14 @@ def sums_of(state, bed):
 
 
 def water(state, bed, a, b):
-    """The sum over cells a to b-1."""
+    """Of the cells between faces a and b, one by one."""
     return sum(mean_depth(state, bed, i) for i in range(a, b))
 
 
 # ---- Checks
 
 def check_tables(state, bed, sums_len):
-    """1: n is the bed's length less 1, and the other two must fit it."""
+    """1: the bed says how many cells there are, and the other two must fit it."""
     n = len(bed) - 1
     if not 1 <= n <= m.MOST_CELLS:
         raise m.Refused(1, 0, "cells")
@@ -69,10 +69,10 @@ def made(state, bed, sums_len):
 
 
 def read(n, a, b):
-    """What is read between faces a and b: the blocks that lie whole there, and the cells in none of those."""
-    within = range(a, b)
-    whole = [k for k, block in enumerate(blocks(n)) if all(i in within for i in block)]
-    covered = {i for k in whole for i in blocks(n)[k]}
+    """What is read between faces a and b: the cells that no whole block covers, and the blocks that lie whole there."""
+    within, every = range(a, b), blocks(n)
+    whole = [k for k, block in enumerate(every) if all(i in within for i in block)]
+    covered = {i for k in whole for i in every[k]}
     return [i for i in within if i not in covered], whole
 
 
@@ -86,7 +86,7 @@ def asked(state, bed, sums, a, b):
 
 
 def worked(now, next_len, bed, friction, sums_len, *numbers):
-    """The step; a sums table of the wrong length is a 1 before all other checks."""
+    """The step; sums of a length that does not fit are a 1 before all other checks."""
     if sums_len != len(blocks(len(friction))):
         raise m.Refused(1, 0, "sums length")
     state, W0, Wn = m.worked(now, next_len, bed, friction, *numbers)

@@ -4,8 +4,8 @@
     python3 tests/reference/water.py > crates/water/stdout
 
 It draws the same reaches as the program, and the model makes the sums, answers the questions and works the step that
-keeps them. How the answers are spread goes to standard error. It is an error if some answer never comes, or if the water
-of a whole reach does not change by what came in.
+keeps them. How the answers are spread goes to standard error. It is an error if some answer never comes, or if the
+water of a whole reach does not change by what came in.
 """
 import collections
 import os
@@ -85,7 +85,7 @@ seen = collections.Counter()
 
 
 def said(what, answer):
-    seen[what, *answer[:1], *(answer[1:2] if answer[0] == "refused" else ())] += 1
+    seen[(what, *answer[:2 if answer[0] == "refused" else 1])] += 1
     return answer
 
 
@@ -94,8 +94,9 @@ def questions(r, n, state, bed, kept):
     told = []
     for j in range(4):
         a, b = faces(r, n, j)
-        answer = said("question", sums.between(state, bed, kept, a, b))
-        told.append("%d to %d %s" % (a, b, "refused %d" % answer[1] if answer[0] == "refused" else "%d by %d and %d" % answer[1:]))
+        answered, *numbers = said("question", sums.between(state, bed, kept, a, b))
+        form = "refused %d" if answered == "refused" else "%d by %d and %d"
+        told.append("%d to %d %s" % (a, b, form % tuple(numbers)))
     return told
 
 

@@ -10,7 +10,7 @@ use Rattle.rules.specs.Limits.{mostCells}
 use Rattle.rules.specs.Reach.{bedAt, h0}
 use Rattle.rules.specs.Refusals.{any, badBed, offCell, Check, each, ofCall, verdict}
 
--- n is the bed's length less 1
+-- there is a cell between every two values of the bed
 abbrev pub cellsOver : List ℤ → ℕ
 cellsOver bed = length bed - 1
 

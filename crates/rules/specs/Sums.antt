@@ -87,7 +87,7 @@ reading bed t sums a b = let n = cellsOver bed in record {
   blocks = count (wholeBlock n a b) (blocksOf n);
 }
 
--- 1, then 10: a over b, or b over n
+-- 1, then 10: the faces are in the wrong order, or beyond the reach
 unfoldable pub questionChecks : List ℤ → List ℤ → ℕ → ℕ → ℕ → List Check
 questionChecks bed t sums a b = let n = cellsOver bed in
     ofCall 1 (misfitSums sums n) ∷ ofCall 1 (misfitState (length t) n) ∷ ofCall 10 (ltb b a || ltb n b) ∷ []
