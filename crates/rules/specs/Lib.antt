@@ -1,4 +1,4 @@
--- The rules of the step in force, in the scope document's order; then what follows from them.
+-- The rules in force, of the step in the scope document's order, then of the water between two faces; then what follows from them.
 pub mod Limits
 pub mod Face
 pub mod Lawful
