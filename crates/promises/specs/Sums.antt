@@ -8,24 +8,24 @@ use mathlib.Core.Bool.{false}
 use mathlib.Core.List.{List}
 use Prim.Native.Nat.{ℕ, zero, suc, _+_, _-_, _≤_, _<_}
 use native.Mathlib.Omega.{arith}
-use borrow.Author.Tests.{le-ltb, eqb-true, eqb-false, eq-eqb, ne-eqb}
+use borrow.Author.Tests.{le-ltb, eqb-true, eqb-false, ne-eqb}
 use lib.Dec.{eqb}
 use lib.ListN.{length}
 use lib.IntN.{ℤ, _+ℤ_, _-ℤ_}
 use Rattle.whole.specs.Flags.{by, clash}
-use Rattle.tables.specs.Some.{some}
 use Rattle.rules.specs.Reach.{h0, z0}
 use Rattle.rules.specs.Refusals.{Check, verdict}
 use Rattle.rules.specs.Lent.{Lent, cellsOf, number, filled, Outcome, refused, accepted, stepOf}
-use Rattle.rules.specs.StateAndBed.{cellsOver, depthIn, misfitState, stateChecks, stateRefusal}
+use Rattle.rules.specs.StateAndBed.{cellsOver, depthIn, stateRefusal}
 use Rattle.rules.specs.Sums.{blocksOf, sumFrom, sumsOf, misfitSums, makingChecks, makingRefusal, Making, unmade, made, makingOf}
-use Rattle.rules.specs.Sums.{Reading, reading, questionChecks, questionRefusal, Question, unanswered, answered, betweenOf}
+use Rattle.rules.specs.Sums.{Reading, reading, questionChecks, Question, unanswered, answered, betweenOf}
 use Rattle.rules.specs.Sums.{keepingOf, sumsAfter}
 use Rattle.rules.specs.Laws.Lengths.{accepts}
+use Rattle.rules.specs.Laws.StateAndBed.{state-clear}
 use Rattle.rules.specs.Laws.Written.{written-passes}
 use Rattle.rules.specs.Laws.Sums.{length-sums, between-water as rules-water}
 use Rattle.rules.specs.Laws.Questions.{sums-misfit, sums-fit, as-many, making-first, making-later, disordered, all-answered}
-use Rattle.rules.specs.Laws.Questions.{unkept, kept-step}
+use Rattle.rules.specs.Laws.Questions.{making-verdict, by-number, question-verdict, by-refusal, unkept, kept-step}
 use Rattle.step.specs.Gives.{code, placed, Gives, answer, leaves}
 use Rattle.step.specs.declared.Answer.{Answer}
 use Rattle.sums.specs.Gives.{madeCode, asked, questionCode, madeAnswer, madeLeaves, MakingGives, KeepingGives}
@@ -58,12 +58,10 @@ module _ (bed t : List ℤ) {a : Made} {old new : List ℤ} (g : MakingGives (ma
   checks = makingChecks bed t (length old)
 
   made-when : verdict checks ≡ 0 → makingOf bed t (length old) ≡ made (sumsOf bed t)
-  unfolding makingOf makingRefusal
-  made-when e = rw (eq-eqb (verdict checks) 0 e) refl
+  made-when e = by-number bed t (length old) 0 (making-verdict bed t (length old) ∙ e)
 
   unmade-when : (verdict checks ≡ 0 → ⊥) → makingOf bed t (length old) ≡ unmade (verdict checks)
-  unfolding makingOf makingRefusal
-  unmade-when f = rw (ne-eqb (verdict checks) 0 f) refl
+  unmade-when f = by-number bed t (length old) (verdict checks) (making-verdict bed t (length old)) ∙ rw (ne-eqb (verdict checks) 0 f) refl
 
   making-code : madeCode a ≡ verdict checks
   unfolding madeCode madeAnswer
@@ -89,10 +87,11 @@ module _ (bed t : List ℤ) {a : Made} {old new : List ℤ} (g : MakingGives (ma
 
   -- and the state passed its checks
   making-passed : madeCode a ≡ 0 → stateRefusal bed t ≡ 0
-  unfolding makingRefusal
-  making-passed e = by (misfitSums (length old) (cellsOver bed))
-      (λ b. let z = making-first bed t (length old) b in let y = making-code in let x : ⊥ = omega (arith, z, y) in absurd x)
-      (λ b. sym (making-later bed t (length old) b) ∙ sym making-code ∙ e)
+  making-passed e =
+      let none : makingRefusal bed t (length old) ≡ 0 = making-verdict bed t (length old) ∙ sym making-code ∙ e in
+      by (misfitSums (length old) (cellsOver bed))
+      (λ b. let z = making-first bed t (length old) b in let x : ⊥ = omega (arith, z) in absurd x)
+      (λ b. sym (making-later bed t (length old) b) ∙ none)
 
 -- ---- the step that keeps the sums, in a table that held `was`
 module _ (l : Lent) {a : Answer} {old new was sums : List ℤ} (g : KeepingGives l a old new was sums) where
@@ -165,12 +164,10 @@ module _ (bed t sums : List ℤ) (a b : ℕ) (r : Amount) (g : asked r ≡ betwe
   asks = questionChecks bed t (length sums) a b
 
   answered-when : verdict asks ≡ 0 → asked r ≡ answered (reading bed t sums a b)
-  unfolding betweenOf questionRefusal
-  answered-when e = g ∙ rw (eq-eqb (verdict asks) 0 e) refl
+  answered-when e = g ∙ by-refusal bed t sums a b 0 (question-verdict bed t sums a b ∙ e)
 
   unanswered-when : (verdict asks ≡ 0 → ⊥) → asked r ≡ unanswered (verdict asks)
-  unfolding betweenOf questionRefusal
-  unanswered-when f = g ∙ rw (ne-eqb (verdict asks) 0 f) refl
+  unanswered-when f = g ∙ by-refusal bed t sums a b (verdict asks) (question-verdict bed t sums a b) ∙ rw (ne-eqb (verdict asks) 0 f) refl
 
   asked-code : questionCode (asked r) ≡ verdict asks
   unfolding questionCode
@@ -194,12 +191,6 @@ module _ (bed t sums : List ℤ) (a b : ℕ) (r : Amount) (g : asked r ≡ betwe
   unfolding asked
   question-few x e = asked-few bed t sums a b (x .water) (x .cells) (x .blocks) (sym e ∙ g)
 
--- a state that passed its checks has the right length
-state-fitting : (bed t : List ℤ) → stateRefusal bed t ≡ 0 → misfitState (length t) (cellsOver bed) ≡ false
-unfolding stateRefusal stateChecks verdict some
-state-fitting bed t e = by (misfitState (length t) (cellsOver bed))
-    (λ b. let z : _≡_ {A = ℕ} 1 0 = rw b at e in let f : ⊥ = omega arith in absurd f) (λ b. b)
-
 -- ---- with the sums of the state: it is answered, and tells the water
 between-is : (bed t : List ℤ) (a m : ℕ)
     → total (λ i. meanDepth bed t (cellsOver bed) (a + i)) m ≡ sumFrom (depthIn bed t) a m
@@ -221,7 +212,7 @@ module _ {bed t sums : List ℤ} (made : MadeFrom bed t sums) where
       let ordered : disordered bed t sums a b ≡ false = rw (le-ltb b a low, le-ltb n b high) in
       record {
         read = reading bed t sums a b;
-        told = g ∙ all-answered bed t sums a b lengths (state-fitting bed t (ok .0)) ordered;
+        told = g ∙ all-answered bed t sums a b lengths (state-clear bed t (ok .0)) ordered;
         water = ap (λ (z : List ℤ). reading bed t z a b .water) (ok .1) ∙ rules-water bed t a b low high ∙ sym (between-is bed t a (b - a));
       }
 
@@ -258,7 +249,6 @@ module _ {bed : List ℤ} {n dx : ℕ} where
   pub stays-made : {s t u z : List ℤ} {a b : ℤ} → CallsKeeping bed n dx s t u z a b → MadeFrom bed s u
       → {x : Made} {old new : List ℤ} → length old ≡ length z → MakingGives (makingOf bed t (length old)) x old new
       → (madeCode x ≡ 0) × (new ≡ z)
-  unfolding makingRefusal
   stays-made {t = t} {z = z} k h {x} {old} size g =
       let ok = passes (still-made k h) in
       let fit = sums-fit (length old) (cellsOver bed) (size ∙ ap length (ok .1) ∙ length-sums bed t) in
@@ -266,7 +256,7 @@ module _ {bed : List ℤ} {n dx : ℕ} where
       (none, make-sums bed t g none ∙ sym (ok .1))
     where
       making-none : misfitSums (length old) (cellsOver bed) ≡ false → stateRefusal bed t ≡ 0 → verdict (makingChecks bed t (length old)) ≡ 0
-      making-none fit e = making-later bed t (length old) fit ∙ e
+      making-none fit e = sym (making-verdict bed t (length old)) ∙ making-later bed t (length old) fit ∙ e
 
   -- so what a question of the whole reach tells changes by what crosses the ends, to the unit
   pub between-balances : {s t u z : List ℤ} {a b : ℤ} → length bed ≡ suc n → CallsKeeping bed n dx s t u z a b → MadeFrom bed s u

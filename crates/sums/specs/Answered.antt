@@ -14,7 +14,7 @@ use Rattle.rules.specs.Lent.{Lent, cellsOf, number, filled, Outcome, refused, a
 use Rattle.rules.specs.StateAndBed.{cellsOver}
 use Rattle.rules.specs.Sums.{sumsOf, misfitSums, Making, unmade, made, Reading, answered, betweenOf, keepingOf, sumsAfter}
 use Rattle.rules.specs.Laws.Lengths.{accepts, refuses}
-use Rattle.rules.specs.Laws.StateAndBed.{state-fits, state-passed}
+use Rattle.rules.specs.Laws.StateAndBed.{StateFits, state-fits, state-passed}
 use Rattle.rules.specs.Laws.Written.{cells-over, written-passes}
 use Rattle.rules.specs.Laws.Questions.{as-many, answered-asked}
 use Rattle.rules.specs.Laws.Sums.{few-cells, few-blocks}
@@ -25,6 +25,16 @@ use Rattle.sums.specs.Gives.{madeAnswer, madeLeaves, MakingGives, asked,
 use Rattle.sums.specs.Ranges.{TablesFit, DepthsIn}
 use Rattle.sums.specs.declared.Made.the-variants as made-is
 use Rattle.sums.specs.declared.Amount.the-variants as amount
+
+-- tables whose lengths pass their checks fit each other
+pub tables-fit : (bed t sums : List ℤ) → StateFits (length t) (cellsOver bed) → misfitSums (length sums) (cellsOver bed) ≡ false
+    → TablesFit bed t sums
+tables-fit bed t sums f e = record {
+  some = f .some;
+  most = f .most;
+  state = f .state;
+  blocks = as-many (length sums) (cellsOver bed) e;
+}
 
 -- ---- making
 pub made-none : {m : Making} {k : ℕ} → m ≡ unmade k → (old : List ℤ) → MakingGives m (made-is.Refused k) old old
@@ -68,15 +78,8 @@ pub keeping-ready : (l : Lent) {a : Answer} (old new sums : List ℤ) (w v : ℤ
 keeping-ready l old new sums w v gave e fit =
     let z = accepted-filled l w v (subst (λ (x : Answer). Gives (stepOf l) x old new) e gave) in
     let n = cells-over l (z .0) in
-    let ok = state-passed (l .bed) new (rw (z .1) (written-passes l (z .0))) in (
-      record {
-        some = ok .0 .some;
-        most = ok .0 .most;
-        state = ok .0 .state;
-        blocks = as-many (length sums) (cellsOver (l .bed)) (rw n fit);
-      },
-      ok .1,
-    )
+    let ok = state-passed (l .bed) new (rw (z .1) (written-passes l (z .0))) in
+    (tables-fit (l .bed) new sums (ok .0) (rw n fit), ok .1)
 
 module _ (l : Lent) (old new sums : List ℤ) where
   -- one whose sums do not fit

@@ -39,7 +39,12 @@ module _ (bed t : List ℤ) (sums : ℕ) where
   unfolding makingRefusal makingChecks verdict stateRefusal
   making-later e = rw (of-call 1 (misfitSums sums (cellsOver bed)) ∙ e) refl
 
-  by-number : (k : ℕ) → makingRefusal bed t sums ≡ k → makingOf bed t sums ≡ cond (eqb k 0) (made (sumsOf bed t)) (unmade k)
+  -- it is that of the first check that applies, and what is given goes by it
+  pub making-verdict : makingRefusal bed t sums ≡ verdict (makingChecks bed t sums)
+  unfolding makingRefusal
+  making-verdict = refl
+
+  pub by-number : (k : ℕ) → makingRefusal bed t sums ≡ k → makingOf bed t sums ≡ cond (eqb k 0) (made (sumsOf bed t)) (unmade k)
   unfolding makingOf
   by-number k e = ap (λ (m : ℕ). cond (eqb m 0) (made (sumsOf bed t)) (unmade m)) e
 
@@ -62,7 +67,12 @@ module _ (bed t sums : List ℤ) (a b : ℕ) where
   abbrev pub disordered : Bool
   disordered = ltb b a || ltb (cellsOver bed) b
 
-  by-refusal : (k : ℕ) → questionRefusal bed t (length sums) a b ≡ k
+  -- its number is that of the first check that applies, and what is given goes by it
+  pub question-verdict : questionRefusal bed t (length sums) a b ≡ verdict (questionChecks bed t (length sums) a b)
+  unfolding questionRefusal
+  question-verdict = refl
+
+  pub by-refusal : (k : ℕ) → questionRefusal bed t (length sums) a b ≡ k
       → betweenOf bed t sums a b ≡ cond (eqb k 0) (answered (reading bed t sums a b)) (unanswered k)
   unfolding betweenOf
   by-refusal k e = ap (λ (m : ℕ). cond (eqb m 0) (answered (reading bed t sums a b)) (unanswered m)) e

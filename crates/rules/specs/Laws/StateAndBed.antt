@@ -53,12 +53,17 @@ mean-in b x e =
     )
 
 -- ---- a state that passed them all
+pub state-clear : (bed t : List ℤ) → stateRefusal bed t ≡ 0 → misfitState (length t) (cellsOver bed) ≡ false
+unfolding stateRefusal stateChecks
+state-clear bed t e =
+    sym (of-call 1 (misfitState (length t) (cellsOver bed))) ∙ clear-at (stateChecks bed t) (cleared (stateChecks bed t) tt (sym e)) 0
+
 pub state-passed : (bed t : List ℤ) → stateRefusal bed t ≡ 0
     → StateFits (length t) (cellsOver bed)
     × ((i : ℕ) → i < cellsOver bed → (pos 0 ≤ℤ depthIn bed t i) × (depthIn bed t i ≤ℤ deepest))
 unfolding stateRefusal stateChecks
 state-passed bed t e =
     let n = cellsOver bed in let clear = clear-at (stateChecks bed t) (cleared (stateChecks bed t) tt (sym e)) in (
-      state-fits (length t) n (sym (of-call 1 (misfitState (length t) n)) ∙ clear 0),
+      state-fits (length t) n (state-clear bed t e),
       λ i l. mean-in (bedAt bed i) (cellIn n t i) (some-none (λ i. offCell (bedAt bed i) (cellIn n t i)) n (clear 2) i l),
     )

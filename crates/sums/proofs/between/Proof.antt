@@ -12,8 +12,9 @@ use Rattle.whole.specs.Flags.{or-true}
 use Rattle.rules.specs.StateAndBed.{cellsOver, misfitState}
 use Rattle.rules.specs.Sums.{misfitSums, unanswered, betweenOf}
 use Rattle.rules.specs.Laws.StateAndBed.{state-fits}
-use Rattle.rules.specs.Laws.Questions.{as-many, disordered, unanswered-sums, unanswered-state, unanswered-faces, all-answered}
+use Rattle.rules.specs.Laws.Questions.{disordered, unanswered-sums, unanswered-state, unanswered-faces, all-answered}
 use Rattle.sums.specs.Gives.{asked}
+use Rattle.sums.specs.Answered.{tables-fit}
 use Rattle.sums.proofs.between.Statement.{statement}
 use Rattle.sums.proofs.between.Tie as tie
 
@@ -73,17 +74,9 @@ returns-4 c = let e = c .before .before in let p = s (fitted e) .args in
 
 read-requires : tie.Need-read-requires
 read-requires c κs =
-    let e = c .before .before in let p = s (fitted e) .args in
-    let ok = state-fits (length (now (p .state))) (cellsOver (now (p .bed))) (fits e) in (
-      record {
-        some = ok .some;
-        most = ok .most;
-        state = ok .state;
-        blocks = as-many (length (now (p .sums))) (cellsOver (now (p .bed))) (fit (fitted e));
-      },
-      c .before .if3 .left,
-      omega (arith, beyond e, c .if4 .left),
-    )
+    let e = c .before .before in let p = s (fitted e) .args in let bed = now (p .bed) in let state = now (p .state) in
+    let ok = state-fits (length state) (cellsOver bed) (fits e) in
+    (tables-fit bed state (now (p .sums)) ok (fit (fitted e)), c .before .if3 .left, omega (arith, beyond e, c .if4 .left))
 
 returns-5 : tie.Need-returns-5
 returns-5 c =

@@ -7,8 +7,8 @@ use borrow.Author.Needs.{needs}
 use Rattle.rules.specs.StateAndBed.{cellsOver, stateRefusal}
 use Rattle.rules.specs.Sums.{misfitSums, unmade}
 use Rattle.rules.specs.Laws.StateAndBed.{state-passed}
-use Rattle.rules.specs.Laws.Questions.{as-many, unmade-one, unmade-later, all-made}
-use Rattle.sums.specs.Answered.{made-none, made-all}
+use Rattle.rules.specs.Laws.Questions.{unmade-one, unmade-later, all-made}
+use Rattle.sums.specs.Answered.{tables-fit, made-none, made-all}
 use Rattle.sums.proofs.make.Statement.{statement}
 use Rattle.sums.proofs.make.Tie as tie
 
@@ -45,15 +45,8 @@ module _ (c : tie.Else2) where
 
 fill-requires : tie.Need-fill-requires
 fill-requires c κs =
-    let z = c .before in let p = s (fitted z) .args in let ok = state-passed (now (p .bed)) (now (p .state)) (passed z) in (
-      record {
-        some = ok .0 .some;
-        most = ok .0 .most;
-        state = ok .0 .state;
-        blocks = as-many (length (now (p .sums))) (cellsOver (now (p .bed))) (fit (fitted z));
-      },
-      ok .1,
-    )
+    let z = c .before in let p = s (fitted z) .args in let bed = now (p .bed) in let state = now (p .state) in
+    let ok = state-passed bed state (passed z) in (tables-fit bed state (now (p .sums)) (ok .0) (fit (fitted z)), ok .1)
 
 returns-3 : tie.Need-returns-3
 returns-3 c =
