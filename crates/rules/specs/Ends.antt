@@ -14,6 +14,9 @@ pub record End : Type 0 where
   pub kind : ℕ
   pub q : ℕ
 
+abbrev pub openKind : ℕ
+openKind = 1
+
 abbrev pub inflowKind : ℕ
 inflowKind = 2
 

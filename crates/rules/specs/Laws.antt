@@ -5,6 +5,7 @@ pub mod Mirror
 pub mod Face
 pub mod Sizes
 pub mod Shown
+pub mod Outer
 pub mod Ends
 pub mod FastFaces
 pub mod EndChecks
@@ -13,12 +14,15 @@ pub mod Inside
 pub mod Accept
 pub mod Verdicts
 pub mod Alike
+pub mod Outcome
 pub mod Order
 pub mod Agree
 pub mod Lengths
 pub mod StateAndBed
 pub mod Within
 pub mod Positive
+pub mod Telescope
+pub mod Chain
 pub mod Balance
 pub mod Summing
 pub mod Blocks

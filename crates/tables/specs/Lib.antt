@@ -1,4 +1,5 @@
--- Lists as tables: some entry with a property, rows made from an index, columns of numbers, cells and back, what a loop has written so far.
+-- Lists as tables: some entry with a property, rows made from an index, columns of numbers, cells and pools and back, and what a loop has
+-- written so far.
 pub mod Some
 pub mod Scan
 pub mod Rows
@@ -6,3 +7,4 @@ pub mod Filling
 pub mod Columns
 pub mod Reversed
 pub mod Cells
+pub mod Pools

@@ -80,6 +80,10 @@ pub record Entry : Type 0 where
 abbrev pub entry : {A : ℕ} {x : ℤ} → SFits w64 x → Within A x → Entry
 entry {A} {x} f h = record { val = x; most = A; fits = f; inn = h }
 
+-- the same of a number whose size is known
+abbrev pub sized : {A : ℕ} {x : ℤ} → Within A x → T (ltb A (2 ^ 63)) → Entry
+sized h t = entry (fit h t) h
+
 abbrev pub nil : Entry
 nil = record { val = pos 0; most = 0; fits = record { sfits = lib.Dec.lit< tt }; inn = record { abs = lit≤ tt } }
 

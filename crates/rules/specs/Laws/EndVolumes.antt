@@ -7,18 +7,19 @@ use native.Mathlib.Omega.{arith}
 use borrow.Author.Tests.{ne-eqb}
 use lib.IntN.{ℤ, pos, _*ℤ_}
 use lib.Signed.{quotZ, _≤ℤ_}
-use Rattle.whole.specs.Parts.{Within, b-add, b-up, b-range}
-use Rattle.whole.specs.Difference.{at, lit, nlit, ⊖, _⊠_, le!, le?, none-times}
+use Rattle.whole.specs.Parts.{Within, b-add, b-up}
+use Rattle.whole.specs.Difference.{none-times}
 use Rattle.whole.specs.Quotient.{b-quot-by, quot-none}
 use Rattle.rules.specs.Limits.{deepest}
 use Rattle.rules.specs.Face.{Side}
 use Rattle.rules.specs.Lawful.{Lawful}
 use Rattle.rules.specs.Shown.{crossAt, volume}
 use Rattle.rules.specs.Reach.{Reach, Call, State, h0, h1, hl, sideL}
-use Rattle.rules.specs.Ends.{inflowKind, outer, leftEnd}
+use Rattle.rules.specs.Ends.{inflowKind, leftEnd}
 use Rattle.rules.specs.Stage.{atLeft, faceAt}
 use Rattle.rules.specs.Step.{rubbed, rubbedCell, stageOne, half, carry}
-use Rattle.rules.specs.Laws.Shown.{InTime, half-right, half-left, face-right, face-left}
+use Rattle.rules.specs.Laws.Shown.{InTime}
+use Rattle.rules.specs.Laws.Outer.{left-outer-most}
 use Rattle.rules.specs.Laws.Balance.{half-same}
 use Rattle.rules.specs.Laws.Positive.{Fine}
 use Rattle.rules.specs.Laws.Ends.{left-wall, left-inflow}
@@ -43,20 +44,13 @@ module _ (r : Reach) (law : Lawful (r .face)) (c : Call) where
 
 -- ---- at an end of another kind no more passes than half of the depth that stands there, so no more than half of the greatest
 module _ (r : Reach) (law : Lawful (r .face)) (c : Call) (other : c .left .kind ≡ inflowKind → ⊥) where
-  -- in one stage: as much stands on the outer side as on the inner one, and of neither more than half is taken
+  -- in one stage
   left-stage : (s : State) → Fine r c → pos 0 ≤ℤ atLeft r c s 0 .h → atLeft r c s 0 .h ≤ℤ deepest → InTime (r .dx) (c .dt) (faceAt r c s 0)
       → Within 131072 (volume (r .dx) (c .dt) (faceAt r c s 0))
-  unfolding crossAt leftEnd outer
-  left-stage s ok wet low brief =
-      let x = atLeft r c s 0 in let y = outer (c .left .kind) x in let f = r .face y x in let w = volume (r .dx) (c .dt) f in
-      let beside = ne-eqb (c .left .kind) inflowKind other in
-      let short : InTime (r .dx) (c .dt) f = rw beside at brief in
-      let right = half-right (r .dx) (c .dt) (ok .dx) (ok .dt) (x .h) wet f (face-right (r .face) law y x wet wet) short in
-      let left = half-left (r .dx) (c .dt) (ok .dx) (ok .dt) (x .h) wet f (face-left (r .face) law y x wet wet) short in
-      let most = le? (at (x .h)) (lit 262144) low in
-      rw beside (b-range
-      (le! (nlit 131071) (at w) (omega (arith, most, le? (⊖ (at (x .h))) (lit 2 ⊠ at w) left)))
-      (le! (at w) (lit 131072) (omega (arith, most, le? (lit 2 ⊠ at w) (at (x .h)) right))))
+  unfolding crossAt leftEnd
+  left-stage s ok wet low brief = let beside = ne-eqb (c .left .kind) inflowKind other in
+      let short = rw beside at brief in
+      rw beside (left-outer-most (r .face) law (c .left .kind) (r .dx) (c .dt) (ok .dx) (ok .dt) (atLeft r c s 0) wet low short)
 
   -- and so over the step
   pub left-most : (s : State) → 0 < r .n → Accepted r c s → Within 131072 (carry r c s 0)

@@ -1,13 +1,12 @@
--- What a row of faces asks of its ends, shown of each kind: the right end is the left one seen from the other bank, so each law is shown
--- of the left end and turned. Of the face rule only what is lawful is used.
+-- What a row of faces asks of its ends, shown of each kind; of a wall and an open end it stands in Outer. The right end is the left one
+-- seen from the other bank, so each law is shown of the left end and turned. Of the face rule only what is lawful is used.
 -- Assumes nothing.
 use mathlib.Core.Path.{_≡_, refl, sym, _∙_, ap, subst}
 use Prim.Native.Nat.{ℕ}
 use native.Mathlib.Omega.{arith}
-use lib.Dec.{eqb}
 use lib.IntN.{ℤ, pos, negℤ, _+ℤ_, _*ℤ_}
 use lib.Signed.{_≤ℤ_}
-use Rattle.whole.specs.Flags.{by, cond-ind, cond-same}
+use Rattle.whole.specs.Flags.{by, cond-ind}
 use Rattle.whole.specs.Parts.{nat-nonneg, le-trans}
 use Rattle.whole.specs.Difference.{lit, nonneg, _⊞_, ⊖, _⊠_, le!, none-times}
 use Rattle.whole.specs.Quotient.{quot-none}
@@ -16,9 +15,8 @@ use Rattle.rules.specs.Face.{Side, Flux, speed, wave}
 use Rattle.rules.specs.Lawful.{Still, resting, mirror, flip, Lawful}
 use Rattle.rules.specs.Ends.{End, inflowKind, isInflow, outer, inflowSpeed, inflow, leftEnd, rightEnd}
 use Rattle.rules.specs.Laws.Speeds.{wave≥0}
-use Rattle.rules.specs.Laws.Mirror.{mirror-twice}
-use Rattle.rules.specs.Laws.Face.{wall}
-use Rattle.rules.specs.Laws.Shown.{TakesRight, TakesLeft, takes-flip, face-left}
+use Rattle.rules.specs.Laws.Shown.{TakesRight, TakesLeft, takes-flip}
+use Rattle.rules.specs.Laws.Outer.{outer-turned, left-outer-takes, left-outer-still, left-outer-wall}
 
 -- ---- an inflow's top speed is at least that of what comes in, and that of a wave against the inner side
 pub inflow-top : (d : ℤ) (e : End) (f : ℤ) (x : Side) → inflowSpeed d e x ≤ℤ inflow d e f x .S
@@ -51,39 +49,28 @@ inflow-takes d e f x p h = let s = inflow-size d e f x in
 
 -- ---- both ends, beside any lawful rule
 module _ (face : Side → Side → Flux) (law : Lawful face) (d : ℤ) (e : End) where
-  outer-turn : (x : Side) → outer (e .kind) (mirror x) ≡ mirror (outer (e .kind) x)
-  unfolding outer
-  outer-turn x = by (eqb (e .kind) 0) (λ b. rw b) (λ b. rw b)
-
   -- the right end is the left one of the mirror image, seen from the other bank
   pub right-turned : (x : Side) → rightEnd face d e x ≡ flip (leftEnd face d e (mirror x))
   unfolding leftEnd rightEnd
   right-turned x = by (isInflow e) (λ b. rw b (inflow-turn d e (pos (e .q)) x))
-      (λ b. rw b (
-      ap (λ (y : Side). face y (outer (e .kind) y)) (sym (mirror-twice x))
-      ∙ ap (face (mirror (mirror x))) (outer-turn (mirror x))
-      ∙ law .mirrored (outer (e .kind) (mirror x)) (mirror x)))
+      (λ b. rw b (outer-turned face law (e .kind) x))
 
   -- an end takes no more than its side has; an inflow takes nothing, as it only brings water in
   pub left-end-takes : (x : Side) → pos 0 ≤ℤ x .h → TakesLeft (x .h) (leftEnd face d e x)
-  unfolding leftEnd outer
+  unfolding leftEnd
   left-end-takes x h = cond-ind (isInflow e) (inflow d e (pos (e .q)) x) (face (outer (e .kind) x) x) (TakesLeft (x .h))
-      (λ b. inflow-takes d e (pos (e .q)) x (nat-nonneg (e .q)) h) (λ b. face-left face law (outer (e .kind) x) x h h)
+      (λ b. inflow-takes d e (pos (e .q)) x (nat-nonneg (e .q)) h) (λ b. left-outer-takes face law (e .kind) x h)
 
   pub right-end-takes : (x : Side) → pos 0 ≤ℤ x .h → TakesRight (x .h) (rightEnd face d e x)
   right-end-takes x h = subst (TakesRight (x .h)) (sym (right-turned x)) (takes-flip (left-end-takes (mirror x) h))
 
   -- beside still water an end that brings nothing in is still
   pub left-end-still : e .q ≡ 0 → (h : ℤ) → pos 0 ≤ℤ h → Still h (leftEnd face d e (resting h))
-  unfolding leftEnd inflow inflowSpeed outer
+  unfolding leftEnd inflow inflowSpeed
   left-end-still z h p =
       cond-ind (isInflow e) (inflow d e (pos (e .q)) (resting h)) (face (outer (e .kind) (resting h)) (resting h)) (Still h)
-      (λ b. dammed) (λ b. subst (λ (x : Side). Still h (face x (resting h))) (sym outer-still) (law .still h p))
+      (λ b. dammed) (λ b. left-outer-still face law (e .kind) h p)
     where
-      -- the outer side of still water has no speed either
-      outer-still : outer (e .kind) (resting h) ≡ resting h
-      outer-still = λ j. record { h = h; u = cond-same (eqb (e .kind) 0) (pos 0) (pos 0) (pos 0) refl refl j }
-
       dammed : Still h (inflow d e (pos (e .q)) (resting h))
       dammed = record {
         F≡ = ap pos z;
@@ -98,8 +85,8 @@ module _ (face : Side → Side → Flux) (law : Lawful face) (d : ℤ) (e : End)
 
   -- ---- the mass that crosses the left one: none at a wall, and at an inflow what is given
   pub left-wall : e .kind ≡ 0 → (x : Side) → leftEnd face d e x .F ≡ pos 0
-  unfolding leftEnd outer
-  left-wall z x = rw z (wall face law x)
+  unfolding leftEnd
+  left-wall z x = rw z (left-outer-wall face law 0 refl x)
 
   pub left-inflow : e .kind ≡ inflowKind → (x : Side) → leftEnd face d e x .F ≡ pos (e .q)
   unfolding leftEnd inflow

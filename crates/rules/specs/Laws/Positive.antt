@@ -1,6 +1,6 @@
 -- No depth falls below nought: the law of a row of faces, and what finishing makes of a mean that is not below nought.
 -- Assumes nothing.
-use mathlib.Core.Path.{_≡_, refl}
+use mathlib.Core.Path.{_≡_, refl, sym, subst}
 use mathlib.Core.Bool.{cond}
 use Prim.Native.Nat.{ℕ, suc, _<_}
 use native.Mathlib.Omega.{arith}
@@ -19,6 +19,7 @@ use Rattle.rules.specs.Stage.{shown, faceRight, faceAt, update, stage}
 use Rattle.rules.specs.Finishing.{limit, clipped, cut, dried, finish}
 use Rattle.rules.specs.Step.{rubbed, rubbedCell, stageOne, half, carry, joinedCell, joined, next}
 use Rattle.rules.specs.Laws.Shown.{InTime, SoundRow, keeps}
+use Rattle.rules.specs.Laws.Agree.{Same}
 use Rattle.rules.specs.Laws.Ends.{left-end-takes, right-end-takes}
 
 -- what a call's numbers satisfy
@@ -35,6 +36,9 @@ pub record Nonneg (b : Bed) (x : Cell) : Type 0 where
 -- no face depth is below nought
 abbrev pub Wet : Reach → State → Type 0
 Wet r s = (i : ℕ) → i < r .n → Nonneg (under r i) (s i)
+
+pub wet-same : (r : Reach) (s t : State) → Same r t s → Wet r s → Wet r t
+wet-same r s t e w i l = subst (Nonneg (under r i)) (sym (e i l)) (w i l)
 
 -- nor then the mean, of which they are two halves
 pub mean≥0 : (b : Bed) (x : Cell) → Nonneg b x → pos 0 ≤ℤ h0 b x

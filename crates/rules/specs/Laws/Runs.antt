@@ -1,17 +1,17 @@
--- Demand 3: the laws of a call by its refusal number, and of any number of accepted calls on one reach.
+-- Demand 3: the laws of a call by its refusal number. `Chain` has what follows over any number of them.
 -- Assumes nothing.
-use mathlib.Core.Path.{_≡_, sym, _∙_, ap, subst}
+use mathlib.Core.Path.{_≡_, sym, _∙_}
 use mathlib.Core.Bool.{true, false, not}
 use mathlib.Core.List.{List, [], _∷_, _++_}
 use mathlib.Core.Logic.{_⊎_, inl, inr}
 use Prim.Native.Nat.{ℕ, suc, _%_, _<_}
 use native.Mathlib.Omega.{arith}
 use lib.Dec.{eqb, eqb→eq}
-use lib.IntN.{ℤ, pos, natAbs, _+ℤ_, _-ℤ_, _*ℤ_}
+use lib.IntN.{ℤ, pos, natAbs, _*ℤ_}
 use lib.Signed.{_≤ℤ_, _<ℤ_}
 use Rattle.whole.specs.Flags.{or-r, not-f, held, by}
 use Rattle.whole.specs.Parts.{of-le}
-use Rattle.whole.specs.Difference.{at, lit, _⊞_, _⊟_, le!, lt!, eq! }
+use Rattle.whole.specs.Difference.{at, lit, le!, lt! }
 use Rattle.whole.specs.Tests.{lt-no, lt-yes, no-lt}
 use Rattle.whole.specs.Choice.{sizeZ}
 use Rattle.tables.specs.Some.{some, some-none, some-yes}
@@ -32,7 +32,6 @@ use Rattle.rules.specs.Laws.Accept.{none-at, One, any-one, passed}
 use Rattle.rules.specs.Laws.Verdicts.{cleared, clear-at, of-call, clear-parts}
 use Rattle.rules.specs.Laws.Order as order
 use Rattle.rules.specs.Laws.Positive.{Fine, Nonneg, Wet, mean≥0, Brief, stageOne-wet, next-wet}
-use Rattle.rules.specs.Laws.Balance.{sum-same, water, balanced}
 use Rattle.rules.specs.Laws.EvenBed.{even-of, EvenBed}
 use Rattle.rules.specs.Laws.EndChecks.{SlowInflows, slow-inflows}
 use Rattle.rules.specs.Laws.Rest.{NoInflow, next-rest, carry-none}
@@ -228,34 +227,6 @@ accepted-depths r law c s e = let p = accepted r c s e in (
   depths r (stageOne r c s) (wet-stageOne r law c s (p .early)),
   depths r (next r c s) (wet-next r law c s (p .early) (p .brief)),
 )
-
--- ---- any number of accepted calls, each from the state that the one before it left in the reach; a and b: what crossed face 0 and face n
-pub data Run (r : Reach) : State → State → ℤ → ℤ → Type 0 where
-  stop : (s : State) → Run r s s (pos 0) (pos 0)
-  step : (c : Call) (s m t : State) (a b : ℤ) → refusal r c s ≡ 0 → Same r m (next r c s) → Run r m t a b
-      → Run r s t (carry r c s 0 +ℤ a) (carry r c s (r .n) +ℤ b)
-
-wet-same : (r : Reach) (s t : State) → Same r t s → Wet r s → Wet r t
-wet-same r s t e w i l = subst (Nonneg (under r i)) (sym (e i l)) (w i l)
-
-water-same : (r : Reach) (s t : State) → Same r t s → water r t ≡ water r s
-unfolding water
-water-same r s t e = sum-same (λ i. h0 (under r i) (t i)) (λ i. h0 (under r i) (s i)) (r .n) (λ i l. ap (h0 (under r i)) (e i l))
-
--- the water changes by what crossed the ends, exactly
-pub run-balanced : (r : Reach) {s t : State} {a b : ℤ} → Run r s t a b → water r t ≡ water r s +ℤ a -ℤ b
-run-balanced r (stop s) = eq! (at (water r s)) (at (water r s) ⊞ lit 0 ⊟ lit 0) (omega arith)
-run-balanced r (step c s m t a b e f k) =
-    let w = water r s in let x = carry r c s 0 in let y = carry r c s (r .n) in
-    run-balanced r k ∙ ap (λ (z : ℤ). z +ℤ a -ℤ b) (water-same r (next r c s) m f ∙ balanced r c s)
-    ∙ eq! (at w ⊞ at x ⊟ at y ⊞ at a ⊟ at b) (at w ⊞ (at x ⊞ at a) ⊟ (at y ⊞ at b)) (omega arith)
-
--- no depth falls below nought
-pub run-wet : (r : Reach) → Lawful (r .face) → {s t : State} {a b : ℤ} → Run r s t a b → Wet r s → Wet r t
-run-wet r law (stop s) w = w
-run-wet r law (step c s m t a b e f k) w =
-    let p = accepted r c s e in
-    run-wet r law k (wet-same r (next r c s) m f (wet-next r law c s (p .early) (p .brief)))
 
 -- a call that is accepted and brings no water in keeps every number of a lake at rest, and nothing crosses its ends
 pub accepted-rest : (r : Reach) → Lawful (r .face) → 0 < r .n → (c : Call) (s : State) → refusal r c s ≡ 0 → NoInflow c → AtRest r s

@@ -4,8 +4,9 @@
 -- Assumes nothing.
 use mathlib.Core.Path.{_≡_, sym, _∙_, ap, ap₂, subst}
 use mathlib.Core.Bool.{true, false, cond}
-use Prim.Native.Nat.{ℕ, zero, suc, _<_}
+use Prim.Native.Nat.{ℕ, zero, suc, _-_, _<_}
 use native.Mathlib.Omega.{arith}
+use borrow.Author.Tests.{eq-eqb}
 use lib.Dec.{T, eqb, eqb-refl, eqb→eq}
 use lib.IntN.{ℤ, pos, negℤ, _+ℤ_, _-ℤ_, _*ℤ_}
 use lib.Signed.{_≤ℤ_, _<ℤ_}
@@ -32,6 +33,12 @@ inside i n l e = omega (arith, differ)
 pub last : {A : Type 0} (i n : ℕ) → i < n → (x y x′ y′ : A) → x ≡ x′ → (suc i < n → y ≡ y′)
     → cond (eqb (suc i) n) x y ≡ cond (eqb (suc i) n) x′ y′
 last i n l x y x′ y′ p q = by (eqb (suc i) n) (λ e. rw e p) (λ e. rw e (q (inside i n l e)))
+
+-- the last face is the right end, beside the last cell
+pub at-last : (w : Shown) → 0 < w .n → crossAt w (w .n) ≡ w .right (w .toRight (w .n - 1))
+unfolding crossAt crossRight
+at-last w o = let last = w .n - 1 in let e : suc last ≡ w .n = omega arith in
+    subst (λ (j : ℕ). crossAt w j ≡ w .right (w .toRight last)) e (rw (eq-eqb (suc last) (w .n) e))
 
 -- rows that differ only in sides that do not count have one flux at each face
 module _ (w : Shown) (a b : ℕ → Side) (p : (i : ℕ) → i < w .n → w .toLeft i ≡ a i) (q : (i : ℕ) → i < w .n → w .toRight i ≡ b i) where

@@ -32,7 +32,7 @@ use Rattle.rules.specs.Laws.Rest.{NoInflow, sideL-rest, sideR-rest, rubb
 use Rattle.rules.specs.Laws.Runs.{fine, even-bed}
 
 -- ---- no speed is too great where there is no discharge
-no-speed : (d q h : ℤ) → q ≡ pos 0 → past fastest (speed d q h) ≡ false
+pub no-speed : (d q h : ℤ) → q ≡ pos 0 → past fastest (speed d q h) ≡ false
 unfolding sizeZ
 no-speed d q h e = ap (λ (z : ℤ). past fastest (speed d z h)) e ∙ ap (past fastest) (speed-none d h)
 

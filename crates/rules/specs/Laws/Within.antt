@@ -21,14 +21,14 @@ abbrev pub Within : ℕ → List Check → Type 0
 Within m [] = Unit {0}
 Within m (x ∷ xs) = (x .many ≤ suc m) × Within m xs
 
-spot-within : (m : ℕ) (xs : List Check) → Within m xs → spot xs ≤ m
+pub spot-within : (m : ℕ) (xs : List Check) → Within m xs → spot xs ≤ m
 unfolding spot
 spot-within m [] w = omega arith
 spot-within m (x ∷ xs) w = by (applies x)
     (λ e. rw e (let l = lowest-is (x .at) (x .many) e .below in omega (arith, l, w .0)))
     (λ e. rw e (spot-within m xs (w .1)))
 
-checks-within : (r : Reach) (c : Call) (s : State) → Within (r .n) (checks r c s)
+pub checks-within : (r : Reach) (c : Call) (s : State) → Within (r .n) (checks r c s)
 unfolding checks early stageChecks
 checks-within r c s = let face : suc (r .n) ≤ suc (r .n) = omega arith in let cell : r .n ≤ suc (r .n) = omega arith in
     (omega arith, (face, (cell, (cell, (cell, (face, (cell, (face, (cell, (face, (cell, (face, (cell, tt)))))))))))))
