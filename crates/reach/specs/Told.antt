@@ -5,11 +5,13 @@ use lib.ListN.{getD}
 use lib.IntN.{ℤ, pos}
 use Rattle.rules.specs.Face.{face}
 use Rattle.rules.specs.Ends as rules-ends
+use Rattle.rules.specs.Found.{Found, at}
 use Rattle.rules.specs.Reach as rules
 use Rattle.reach.specs.declared.Reach.{Reach}
 use Rattle.reach.specs.declared.End.{End}
 use Rattle.reach.specs.declared.Call.{Call}
 use Rattle.reach.specs.declared.bed.Bed.{Bed}
+use Rattle.reach.specs.declared.found.Found.{Found as ToldFound}
 
 -- the reach, with the lent bed
 abbrev pub reachIn : Reach → List ℤ → rules.Reach
@@ -25,3 +27,7 @@ callOn c ρ = record { dt = c .dt; jump = c .jump; dry = c .dry; rough = ρ; lef
 -- the bed of a cell
 abbrev pub bedIn : Bed → rules.Bed
 bedIn b = record { zl = b .zl; zr = b .zr }
+
+-- the number and the place that a row of checks found
+abbrev pub foundIn : ToldFound → Found
+foundIn k = at (k .no) (k .place)

@@ -1,8 +1,12 @@
 // What a reach is to the code: its limits, the cells of its working tables, and the numbers that
 // travel together. The rules' records of the same names hold the bed and the friction too, which are
 // lent tables here.
+pub mod answer;
 pub mod bed;
+pub mod found;
+pub mod friction;
 pub mod lengths;
+pub mod lent;
 pub mod limits;
 pub mod size;
 

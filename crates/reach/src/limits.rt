@@ -30,10 +30,13 @@ pub const FULLEST: i64 = 8388608;
 
 pub const FASTEST: i64 = 131072;
 
-// The inflow at an end, 2048 m2/s, and the kind of such an end, the last of the kinds.
+// The inflow at an end, 2048 m2/s, and the kind of such an end, the last of the kinds; and the last but one,
+// an open end.
 pub const LARGEST_INFLOW: u32 = 8388608;
 
 pub const INFLOW: u32 = 2;
+
+pub const OPEN: u32 = 1;
 
 // The dry depth, at or below which water has no speed, from about 0.2 mm to about 16 mm.
 pub const LEAST_DRY: i64 = 1;

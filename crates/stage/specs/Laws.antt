@@ -1,7 +1,6 @@
 -- Why the numbers of a stage fit, and why what its functions answer is the rule's.
 pub mod Around
 pub mod CellSizes
-pub mod FrictionStrength
 pub mod FrictionRange
 pub mod UpdateSizes
 pub mod Faces

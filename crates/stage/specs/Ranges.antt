@@ -33,17 +33,6 @@ widestLevel = pos 2199023255552
 abbrev pub thinFastest : ℤ
 thinFastest = pos 17179869184
 
--- how strongly friction can act
-abbrev pub strongest : ℤ
-strongest = pos 21438427962
-
--- what friction divides: for its strength, which is the largest product of the step, and for what it leaves of a discharge
-abbrev pub largestProduct : ℤ
-largestProduct = pos 5393104534241280000
-
-abbrev pub mostSlowed : ℤ
-mostSlowed = pos 179839118065270784
-
 -- what crosses a face
 abbrev pub mostMass : ℤ
 mostMass = pos 51439616

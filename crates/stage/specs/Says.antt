@@ -13,7 +13,7 @@ use Rattle.rules.specs.Stage.{faceAt, stage}
 use Rattle.rules.specs.Finishing.{finish}
 use Rattle.rules.specs.Step.{rubbed, stageOne, next}
 use Rattle.rules.specs.Refusals.{badBed, badRough, offCell, off, fastCell, fastFace, Check, each, stageChecks}
-use Rattle.rules.specs.Found.{Found, at, found}
+use Rattle.rules.specs.Found.{Found, found}
 use Rattle.rules.specs.Laws.Agree.{Same}
 use Rattle.reach.specs.declared.Reach.{Reach as ToldReach}
 use Rattle.reach.specs.declared.Call.{Call as ToldCall}
@@ -21,11 +21,6 @@ use Rattle.reach.specs.Told.{reachIn, callOn}
 use Rattle.reach.specs.Ranges.{Wides}
 use Rattle.stage.specs.Ranges.{Smalls, Ranged, FaceRows}
 use Rattle.stage.specs.Rows.{sidesAt, fastSides, SlowEnds, faceRow, joinAt}
-use Rattle.stage.specs.declared.found.Found.{Found as ToldFound}
-
--- the number and the place that a row of checks found
-abbrev pub foundIn : ToldFound → Found
-foundIn k = at (k .no) (k .place)
 
 -- checks 3 to 5 and the friction speeds, at a dry depth
 abbrev pub readyChecks : ℤ → ℕ → List ℤ → List ℕ → State → List Check

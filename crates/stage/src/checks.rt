@@ -18,7 +18,6 @@ use reach::limits::LARGEST_INFLOW;
 use reach::limits::LARGEST_JUMP;
 use reach::limits::LONGEST_CELL;
 use reach::limits::LONGEST_STEP;
-use reach::limits::ROUGHEST;
 use reach::limits::bad_dry;
 use reach::limits::outside;
 use reach::limits::past;
@@ -29,7 +28,7 @@ ghost use lib.ListN.{getD, length};
 ghost use lib.IntN.{ℤ, pos};
 ghost use Rattle.tables.specs.Some.{lowest};
 ghost use Rattle.tables.specs.Cells.{asCell, seen};
-ghost use Rattle.rules.specs.Refusals.{badEnd, badCall, badBed, badRough, offCell, fastCell};
+ghost use Rattle.rules.specs.Refusals.{badEnd, badCall, badBed, offCell, fastCell};
 ghost use Rattle.rules.specs.Lent.{misfit};
 ghost use Rattle.rules.specs.Reach.{bedAt};
 ghost use Rattle.reach.specs.Told.{endIn, reachIn, callOn, bedIn};
@@ -119,20 +118,6 @@ pub fn bad_bed(bed: &[i32]) -> usize
         i += 1;
     }
     bed.len()
-}
-
-// 4: the lowest friction value over 200, or their number.
-pub fn bad_friction(friction: &[u16]) -> usize
-    ensures { λ r. ⌜ r ≡ lowest (λ i. badRough (pos (getD (now (friction .entry)) i 0))) (length (now (friction .entry))) ⌝ }
-{
-    let mut i: usize = 0;
-    while i < friction.len() {
-        if ROUGHEST < friction[i] {
-            return i;
-        }
-        i += 1;
-    }
-    friction.len()
 }
 
 // 5 and 8: the lowest cell out of range, or n.

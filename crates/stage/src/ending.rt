@@ -1,19 +1,19 @@
 // The end of a stage: its state is finished, and its range is checked.
 use crate::checks::off;
-use crate::found::Found;
 use reach::Call;
 use reach::Cell;
 use reach::Reach;
+use reach::found::Found;
 ghost use mathlib.Core.Path.{_≡_};
 ghost use Prim.Native.Nat.{ℕ, _+_, _≤_};
 ghost use lib.ListN.{length};
 ghost use lib.IntN.{ℤ};
 ghost use Rattle.tables.specs.Cells.{seen};
 ghost use Rattle.rules.specs.Limits.{mostCells};
-ghost use Rattle.reach.specs.Told.{reachIn, callOn};
+ghost use Rattle.reach.specs.Told.{reachIn, callOn, foundIn};
 ghost use Rattle.reach.specs.Ranges.{Numbers, Grounds};
 ghost use Rattle.stage.specs.Ranges.{Room, Smalls};
-ghost use Rattle.stage.specs.Says.{foundIn, EndSays};
+ghost use Rattle.stage.specs.Says.{EndSays};
 
 // The unfinished state u, finished, into b: an 8 with its place where that is out of range, else 0.
 pub fn end(u: &[Cell], bed: &[i32], reach: Reach, call: Call, b: &mut [Cell]) -> Found

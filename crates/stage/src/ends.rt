@@ -1,11 +1,11 @@
 // What crosses the two ends of the reach: beside a wall or an open end as between two sides, at an
 // inflow what is given.
-use crate::lent::widened;
 use crate::rows::Flux;
 use crate::rows::Side;
 use crate::sides::speed_of;
 use face::answer::Carried;
 use reach::End;
+use reach::lent::widened;
 use reach::limits::FASTEST;
 use reach::limits::INFLOW;
 use reach::limits::past;

@@ -4,8 +4,7 @@ use reach::Cell;
 use reach::Reach;
 ghost use mathlib.Core.Path.{_≡_};
 ghost use Prim.Native.Nat.{_+_, _*_, _≤_, _<_};
-ghost use lib.ListN.{getD, length};
-ghost use lib.IntN.{pos};
+ghost use lib.ListN.{length};
 ghost use Rattle.tables.specs.Columns.{inColumn};
 ghost use Rattle.tables.specs.Cells.{asList, cellIn};
 ghost use Rattle.rules.specs.Limits.{mostCells};
@@ -52,19 +51,4 @@ pub fn load(state: &[i32], reach: Reach, t: &mut [Cell])
         t[i] = cell_of(state, n, i);
         i += 1;
     }
-}
-
-// The Manning value of cell i.
-pub fn rough_of(friction: &[u16], i: usize) -> i64
-    requires { ⌜ i < length (now friction) ⌝ }
-    ensures { λ r. ⌜ r ≡ pos (getD (now (friction .entry)) i 0) ⌝ }
-{
-    friction[i] as i64
-}
-
-// A number of a call, widened.
-pub fn widened(x: u32) -> i64
-    ensures { λ r. ⌜ r ≡ pos x ⌝ }
-{
-    x as i64
 }

@@ -1,21 +1,21 @@
 // One stage, from a state that is in range.
 use crate::face_speeds::face_speeds;
 use crate::faces::faces;
-use crate::found::Found;
 use crate::points::points;
 use crate::rows::FaceRow;
 use crate::update::update;
 use reach::Call;
 use reach::Cell;
 use reach::Reach;
+use reach::found::Found;
 ghost use Prim.Native.Nat.{ℕ, _≤_, _<_};
 ghost use lib.IntN.{ℤ};
 ghost use Rattle.tables.specs.Cells.{seen};
 ghost use Rattle.rules.specs.Limits.{mostCells};
-ghost use Rattle.reach.specs.Told.{reachIn, callOn};
+ghost use Rattle.reach.specs.Told.{reachIn, callOn, foundIn};
 ghost use Rattle.reach.specs.Ranges.{Numbers};
 ghost use Rattle.stage.specs.Ranges.{Room, FaceRoom, Ranged};
-ghost use Rattle.stage.specs.Says.{foundIn, StageSays};
+ghost use Rattle.stage.specs.Says.{StageSays};
 
 // A stage from the state t: a 6 or a 7 with its place where it may not go on, else 0, with the rows of its
 // faces in f and the unfinished state in u. The momenta of its cells go into g. Their sides stand in u

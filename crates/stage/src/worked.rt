@@ -1,24 +1,24 @@
 // The whole step, worked on tables of this crate's own and stored in the lent one at its end.
 use crate::checks::bad_bed;
-use crate::checks::bad_friction;
 use crate::checks::bad_lengths;
 use crate::checks::bad_numbers;
 use crate::checks::fast;
 use crate::checks::off;
 use crate::ending::end;
-use crate::found::Found;
-use crate::friction::rub;
 use crate::joining::end_volume;
 use crate::joining::join;
 use crate::lent::load;
-use crate::lent::widened;
 use crate::rows::FaceRow;
+use crate::rubbed::rub;
 use crate::stages::stage;
 use crate::store::store;
 use reach::Call;
 use reach::Cell;
 use reach::Given;
 use reach::Reach;
+use reach::found::Found;
+use reach::friction::bad_friction;
+use reach::lent::widened;
 use reach::limits::CELLS;
 use reach::limits::FACES;
 ghost use mathlib.Core.Path.{_≡_};
@@ -26,9 +26,10 @@ ghost use Prim.Native.Nat.{_+_, _*_};
 ghost use lib.ListN.{length};
 ghost use Rattle.tables.specs.Cells.{seen};
 ghost use Rattle.rules.specs.Found.{found};
+ghost use Rattle.reach.specs.Told.{foundIn};
 ghost use Rattle.reach.specs.Ranges.{DryDepth, Wides};
 ghost use Rattle.stage.specs.Ranges.{InOrder, Room, FaceRoom, Ranged, FaceRows};
-ghost use Rattle.stage.specs.Says.{foundIn, readyChecks, OneSays, TwoSays, BothSay};
+ghost use Rattle.stage.specs.Says.{readyChecks, OneSays, TwoSays, BothSay};
 ghost use Rattle.stage.specs.Worked.{TablesSay, lentBy, WorkedSays};
 
 // A reach of at most so many cells is worked on short tables: they take an eighth of the room of the long

@@ -14,7 +14,7 @@ use Rattle.stage.specs.Worked.{Volume, WorkedSays}
 use Rattle.stage.specs.declared.worked.Worked.{Worked}
 use Rattle.stage.specs.declared.worked.Worked.the-variants as worked
 use Rattle.step.specs.Gives.{Gives, answer, leaves}
-use Rattle.step.specs.declared.Answer.the-variants.{Refused, Accepted}
+use Rattle.reach.specs.declared.answer.Answer.the-variants.{Refused, Accepted}
 
 module _ (a : Lent) (w : Worked) (old new : List ℤ) (h : WorkedSays a w old new) where
   told : (x : Worked) → w ≡ x → WorkedSays a x old new

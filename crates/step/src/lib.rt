@@ -8,17 +8,11 @@ ghost use Rattle.stage.specs.Worked.{lentBy};
 ghost use Rattle.step.specs.Gives.{Gives};
 pub use reach::End;
 pub use reach::Given;
-
-pub enum Answer {
-    // the number of the first check that applies, and the lowest bed value, cell or face to which it does
-    // (0 for a 1 and a 2); `next` is as it was
-    Refused(u32, usize),
-    // the volumes W at face 0 and at face n, rightward positive; all of `next` is filled
-    Accepted(i64, i64),
-}
+pub use reach::answer::Answer;
 
 // The step of 01: `state` is now, `next` where the new state goes, each in four columns of n: level means,
-// level slopes, discharge means, discharge slopes; n is the length of `friction`, and `bed` has n + 1 values.
+// level slopes, discharge means, discharge slopes; n is the length of `friction`, and `bed` has n + 1 values. The
+// volumes of the answer are W.
 pub fn step(state: &[i32], next: &mut [i32], bed: &[i32], friction: &[u16], call: Given) -> Answer
     ensures { λ r. ⌜ Gives
         (stepOf (lentBy (now (state .entry)) (length (now (next .entry))) (now (bed .entry)) (now (friction .entry)) call))

@@ -19,8 +19,8 @@ use Rattle.rules.specs.Laws.Written.{cells-over, written-passes}
 use Rattle.rules.specs.Laws.Questions.{as-many, answered-asked}
 use Rattle.rules.specs.Laws.Sums.{few-cells, few-blocks}
 use Rattle.step.specs.Gives.{Gives, answer, leaves}
-use Rattle.step.specs.declared.Answer.{Answer}
-use Rattle.step.specs.declared.Answer.the-variants.{Refused, Accepted}
+use Rattle.reach.specs.declared.answer.Answer.{Answer}
+use Rattle.reach.specs.declared.answer.Answer.the-variants.{Refused, Accepted}
 use Rattle.sums.specs.Gives.{madeAnswer, madeLeaves, MakingGives, asked, KeepingGives}
 use Rattle.sums.specs.Ranges.{TablesFit, DepthsIn}
 use Rattle.sums.specs.declared.Made.the-variants as made-is

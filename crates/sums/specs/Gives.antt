@@ -8,7 +8,7 @@ use lib.IntN.{ℤ}
 use Rattle.rules.specs.Lent.{Lent}
 use Rattle.rules.specs.Sums.{Making, unmade, made, Question, unanswered, answered, keepingOf, sumsAfter}
 use Rattle.step.specs.Gives.{Gives, one-answer, one-table}
-use Rattle.step.specs.declared.Answer.{Answer}
+use Rattle.reach.specs.declared.answer.Answer.{Answer}
 use Rattle.sums.specs.declared.Made.{Made}
 use Rattle.sums.specs.declared.Made.the-variants as made-is
 use Rattle.sums.specs.declared.Amount.{Amount}

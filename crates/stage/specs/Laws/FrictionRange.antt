@@ -1,44 +1,23 @@
 -- Friction leaves a cell in range: it takes from a discharge and never turns or adds to it.
 -- Assumes nothing.
-use mathlib.Core.Path.{_∙_, ap}
-use Prim.Native.Nat.{ℕ, _/_, _≤_}
-use native.Mathlib.Nat as NatL
+use Prim.Native.Nat.{_≤_}
 use native.Mathlib.Omega.{arith}
-use lib.IntN.{ℤ, pos, negsuc, natAbs, _+ℤ_, _*ℤ_}
-use lib.Signed.{leZ, _≤ℤ_}
-use Rattle.whole.specs.Flags.{cond-ind}
-use Rattle.whole.specs.Parts.{b-add, b-sub, b-lit, abs-mul, lt-le, le-lt-trans, le-trans, nat-nonneg}
-use Rattle.whole.specs.Quotient.{abs-quot, share-le}
-use Rattle.whole.specs.Tests.{le-no}
+use lib.IntN.{ℤ, pos, natAbs}
+use lib.Signed.{_≤ℤ_}
+use Rattle.whole.specs.Parts.{b-add, b-sub, b-lit}
 use Rattle.whole.specs.Choice.{not-beyond}
 use Rattle.tables.specs.Cells.{Cell}
 use Rattle.rules.specs.Limits.{leastDry}
-use Rattle.rules.specs.Face.{speed}
-use Rattle.rules.specs.Friction.{drag, slowed}
 use Rattle.rules.specs.Reach.{Bed, ql, qr, h0, h1, hl, hr}
 use Rattle.rules.specs.Step.{rub, rubbedCell}
+use Rattle.rules.specs.Laws.Friction.{after-size}
 use Rattle.stage.specs.Ranges.{Inside}
-use Rattle.stage.specs.Laws.FrictionStrength.{drag-nonneg}
 use Rattle.stage.specs.Laws.Around.{flow-sum}
 use Rattle.stage.specs.Laws.CellSizes.{cell-sizes, in-range, range-in}
 
--- what it leaves is no larger
-slowed-size : (x q : ℤ) → pos 0 ≤ℤ x → natAbs (slowed x q) ≤ natAbs q
-unfolding slowed
-slowed-size x q p =
-    let a = pos 65536 +ℤ x in let b = pos 65536 +ℤ pos 2 *ℤ x in
-    NatL.le-trans (NatL.le-of-eq (abs-quot (q *ℤ a) b ∙ ap (λ (m : ℕ). m / natAbs b) (abs-mul q a)))
-    (share-le (natAbs q) (natAbs a) (natAbs b) (below x p))
-  where
-    below : (x : ℤ) → pos 0 ≤ℤ x → natAbs (pos 65536 +ℤ x) ≤ natAbs (pos 65536 +ℤ pos 2 *ℤ x)
-    below (pos n) h = omega arith
-    below (negsuc n) h = absurd (h .le)
-
 rub-size : (dt d f : ℤ) (b : Bed) (x : Cell) (q : ℤ) → pos 0 ≤ℤ dt → leastDry ≤ℤ d → natAbs (rub dt d f b x q) ≤ natAbs q
 unfolding rub
-rub-size dt d f b x q p l = let h = h0 b x in let u = speed d (x .q0) h in let strength = drag dt f h u in
-    cond-ind (leZ h d) q (slowed strength q) (λ z. natAbs z ≤ natAbs q) (λ e. omega arith)
-    (λ e. slowed-size strength q (drag-nonneg dt f h u p (lt-le (le-lt-trans (le-trans (nat-nonneg 1) l) (le-no h d e)))))
+rub-size dt d f b x q p l = after-size dt d f (h0 b x) (x .q0) q p l
 
 pub rubbed-inside : (dt d f : ℤ) (b : Bed) (x : Cell) → pos 0 ≤ℤ dt → leastDry ≤ℤ d → Inside b x → Inside b (rubbedCell dt d f b x)
 unfolding rubbedCell hl hr h0 h1

@@ -1,15 +1,13 @@
 -- Sizes of the lines of an update: of what a slope changes by, and of the pressures E and D of a cell in range, which a thrust can take.
 -- Assumes nothing.
 use mathlib.Core.List.{List, [], _∷_}
-use Prim.Native.Nat.{ℕ, _^_}
 use native.Mathlib.Omega.{arith}
-use lib.Dec.{T, ltb}
 use lib.IntN.{ℤ, pos, _*ℤ_}
 use lib.Signed.{_<ℤ_}
-use Rattle.whole.specs.Parts.{Within, of-lt, b-add, b-sub, b-mul, b-lit, b-up, b-nonneg, fit}
+use Rattle.whole.specs.Parts.{of-lt, b-add, b-sub, b-mul, b-lit, b-up, b-nonneg}
 use Rattle.whole.specs.Difference.{at, lit, _⊠_, le!, lt! }
 use Rattle.whole.specs.Quotient.{b-quot, b-quot-by, b-quot-ge}
-use Rattle.whole.specs.Machine.{Entry, entry}
+use Rattle.whole.specs.Machine.{Entry, sized}
 use Rattle.tables.specs.Cells.{Cell}
 use Rattle.rules.specs.Limits.{longestStep}
 use Rattle.rules.specs.Reach.{Bed, h0, h1}
@@ -29,10 +27,6 @@ pub thrust-size : (e dx dt : ℤ) → UpTo mostPressure e → pos 0 <ℤ dx → 
 unfolding thrust
 thrust-size e dx dt p h q =
     b-quot-ge 819199 (b-mul (b-mul (b-lit (pos 981)) p) q) (le! (lit 819200) (lit 819200 ⊠ at dx) (omega (arith, of-lt h)))
-
--- a number whose size is known, among those that the code computes with
-abbrev pub sized : {A : ℕ} {x : ℤ} → Within A x → T (ltb A (2 ^ 63)) → Entry
-sized h t = entry (fit h t) h
 
 module _ {m s zl zr kl kr : ℤ} (p : Pressed m s zl zr kl kr) where
   -- the six, in their order

@@ -7,14 +7,13 @@ use lib.Dec.{lit<}
 use lib.IntN.{ℤ, pos, _*ℤ_}
 use lib.Signed.{quotZ}
 use Rattle.whole.specs.Parts.{Within, fit}
-use Rattle.whole.specs.Machine.{X, v, k, _⊗_, _⊘_, Entry, need, value, back, back64}
+use Rattle.whole.specs.Machine.{X, v, k, _⊗_, _⊘_, Entry, need, value, back, back64, sized}
 use Rattle.rules.specs.Ends.{inflowSpeed, inflow}
 use Rattle.rules.specs.Laws.Speeds.{speed-size}
 use Rattle.rules.specs.Laws.Sizes.{depth-size}
 use Rattle.rules.specs.Laws.EndSizes.{inflow-most}
 use Rattle.reach.specs.Told.{endIn}
 use Rattle.stage.specs.Rows.{sideIn}
-use Rattle.stage.specs.Laws.UpdateSizes.{sized}
 use Rattle.stage.proofs.ends.inflow.Statement.{statement}
 use Rattle.stage.proofs.ends.inflow.Tie as tie
 

@@ -5,10 +5,9 @@ use native.Mathlib.Omega.{arith}
 use lib.IntN.{pos}
 use borrow.Author.Tests.{eq-eqb, ne-eqb}
 use Rattle.whole.specs.Difference.{at, lit, _⊟_, ⊖, eq! }
-use Rattle.whole.specs.Machine.{X, v, k, _⊝_, Entry, need, value}
+use Rattle.whole.specs.Machine.{X, v, k, _⊝_, Entry, need, value, sized}
 use Rattle.rules.specs.Ends.{outer}
 use Rattle.rules.specs.Laws.Sizes.{depth-size}
-use Rattle.stage.specs.Laws.UpdateSizes.{sized}
 use Rattle.stage.proofs.ends.outer.Statement.{statement}
 use Rattle.stage.proofs.ends.outer.Tie as tie
 

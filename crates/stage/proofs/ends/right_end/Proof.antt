@@ -8,14 +8,13 @@ use borrow.Author.Tests.{eq-eqb, ne-eqb}
 use lib.IntN.{ℤ, pos, negℤ, _-ℤ_}
 use Rattle.whole.specs.Parts.{Within}
 use Rattle.whole.specs.Difference.{at, lit, _⊟_, ⊖, eq! }
-use Rattle.whole.specs.Machine.{X, v, k, _⊝_, Entry, rd, need, value}
+use Rattle.whole.specs.Machine.{X, v, k, _⊝_, Entry, rd, need, value, sized}
 use Rattle.rules.specs.Face.{face}
 use Rattle.rules.specs.Ends.{rightEnd}
 use Rattle.rules.specs.Laws.Sizes.{Sound}
 use Rattle.rules.specs.Laws.EndSizes.{inflow-most, outer-sound}
 use Rattle.reach.specs.Told.{endIn}
 use Rattle.stage.specs.Rows.{sideIn}
-use Rattle.stage.specs.Laws.UpdateSizes.{sized}
 use Rattle.stage.proofs.ends.right_end.Statement.{statement}
 use Rattle.stage.proofs.ends.right_end.Tie as tie
 

@@ -1,9 +1,8 @@
 -- F, K and A are passed on, and the volume is the product divided by a length that is not nought.
 use mathlib.Core.List.{List, [], _∷_}
 use Rattle.whole.specs.Parts.{b-nonneg}
-use Rattle.whole.specs.Machine.{v, _⊗_, _⊘_, Entry, need, value, divisor}
+use Rattle.whole.specs.Machine.{v, _⊗_, _⊘_, Entry, need, value, divisor, sized}
 use Rattle.rules.specs.Shown.{volume}
-use Rattle.stage.specs.Laws.UpdateSizes.{sized}
 use Rattle.stage.proofs.faces.face_row.Statement.{statement}
 use Rattle.stage.proofs.faces.face_row.Tie as tie
 

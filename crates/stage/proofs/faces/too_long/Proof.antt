@@ -3,9 +3,8 @@ use mathlib.Core.List.{List, [], _∷_}
 use mathlib.Core.Path.{ap₂}
 use lib.IntN.{pos}
 use lib.Signed.{ltZ}
-use Rattle.whole.specs.Machine.{X, v, k, _⊗_, Entry, need, value}
+use Rattle.whole.specs.Machine.{X, v, k, _⊗_, Entry, need, value, sized}
 use Rattle.stage.specs.Rows.{longFlux}
-use Rattle.stage.specs.Laws.UpdateSizes.{sized}
 use Rattle.stage.proofs.faces.too_long.Statement.{statement}
 use Rattle.stage.proofs.faces.too_long.Tie as tie
 

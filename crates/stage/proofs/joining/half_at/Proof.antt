@@ -3,9 +3,8 @@ use mathlib.Core.List.{List, [], _∷_}
 use lib.Dec.{lit<}
 use lib.IntN.{pos}
 use borrow.Author.Needs.{needs}
-use Rattle.whole.specs.Machine.{v, k, _⊕_, _⊘_, Entry, need, value}
+use Rattle.whole.specs.Machine.{v, k, _⊕_, _⊘_, Entry, need, value, sized}
 use Rattle.rules.specs.Step.{half}
-use Rattle.stage.specs.Laws.UpdateSizes.{sized}
 use Rattle.stage.proofs.joining.half_at.Statement.{statement}
 use Rattle.stage.proofs.joining.half_at.Tie as tie
 

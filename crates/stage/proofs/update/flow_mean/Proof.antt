@@ -4,10 +4,10 @@ use mathlib.Core.List.{List, [], _∷_}
 use lib.IntN.{ℤ, _+ℤ_}
 use mir.Facts.{toZ-ofZ}
 use borrow.Author.Needs.{needs}
-use Rattle.whole.specs.Machine.{X, v, _⊕_, _⊝_, _⊗_, _⊘_, Entry, ideal, need, value, divisor}
+use Rattle.whole.specs.Machine.{X, v, _⊕_, _⊝_, _⊗_, _⊘_, Entry, ideal, need, value, divisor, sized}
 use Rattle.reach.specs.Ranges.{UpTo}
 use Rattle.stage.specs.Ranges.{mostThrust}
-use Rattle.stage.specs.Laws.UpdateSizes.{sized, thrust-size}
+use Rattle.stage.specs.Laws.UpdateSizes.{thrust-size}
 use Rattle.stage.specs.Rows.{thrust}
 use Rattle.stage.proofs.update.flow_mean.Statement.{statement}
 use Rattle.stage.proofs.update.flow_mean.Tie as tie

@@ -6,10 +6,10 @@ use lib.IntN.{pos, _-ℤ_}
 use mir.Facts.{toZ-ofZ}
 use borrow.Author.Needs.{needs}
 use Rattle.whole.specs.Parts.{b-up}
-use Rattle.whole.specs.Machine.{X, v, _⊕_, _⊝_, Entry, entry, ideal, got, need, value}
+use Rattle.whole.specs.Machine.{X, v, _⊕_, _⊝_, Entry, entry, ideal, got, need, value, sized}
 use Rattle.reach.specs.Ranges.{UpTo}
 use Rattle.stage.specs.Ranges.{mostThrust, mostTurn, mostChange}
-use Rattle.stage.specs.Laws.UpdateSizes.{sized, slope-size, thrust-size}
+use Rattle.stage.specs.Laws.UpdateSizes.{slope-size, thrust-size}
 use Rattle.stage.specs.Rows.{slopeOf, thrust}
 use Rattle.stage.proofs.update.flow_slope.Statement.{statement}
 use Rattle.stage.proofs.update.flow_slope.Tie as tie

@@ -1,8 +1,7 @@
 -- The mean with the two volumes fits, and is the rule's.
 use mathlib.Core.List.{List, [], _∷_}
 use borrow.Author.Needs.{needs}
-use Rattle.whole.specs.Machine.{v, _⊕_, _⊝_, Entry, need, value}
-use Rattle.stage.specs.Laws.UpdateSizes.{sized}
+use Rattle.whole.specs.Machine.{v, _⊕_, _⊝_, Entry, need, value, sized}
 use Rattle.stage.proofs.update.level_mean.Statement.{statement}
 use Rattle.stage.proofs.update.level_mean.Tie as tie
 

@@ -5,10 +5,10 @@ use lib.ListN.{getD}
 use lib.IntN.{ℤ, pos, _-ℤ_}
 use borrow.Author.Needs.{needs}
 use Rattle.whole.specs.Parts.{b-up}
-use Rattle.whole.specs.Machine.{X, v, k, _⊕_, _⊝_, _⊗_, Entry, ideal, got, need, value}
+use Rattle.whole.specs.Machine.{X, v, k, _⊕_, _⊝_, _⊗_, Entry, ideal, got, need, value, sized}
 use Rattle.reach.specs.Ranges.{UpTo}
 use Rattle.stage.specs.Ranges.{mostTurn, mostChange}
-use Rattle.stage.specs.Laws.UpdateSizes.{sized, slope-size}
+use Rattle.stage.specs.Laws.UpdateSizes.{slope-size}
 use Rattle.stage.specs.Rows.{slopeOf}
 use Rattle.stage.proofs.update.level_slope.Statement.{statement}
 use Rattle.stage.proofs.update.level_slope.Tie as tie

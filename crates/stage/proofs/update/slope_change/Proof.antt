@@ -1,8 +1,7 @@
 -- The product is formed whole, then divided by a length that is not nought.
 use mathlib.Core.List.{List, [], _∷_}
 use lib.IntN.{pos}
-use Rattle.whole.specs.Machine.{X, v, k, _⊗_, _⊘_, Entry, entry, need, value, divisor}
-use Rattle.stage.specs.Laws.UpdateSizes.{sized}
+use Rattle.whole.specs.Machine.{X, v, k, _⊗_, _⊘_, Entry, entry, need, value, divisor, sized}
 use Rattle.stage.specs.Rows.{slopeOf}
 use Rattle.stage.proofs.update.slope_change.Statement.{statement}
 use Rattle.stage.proofs.update.slope_change.Tie as tie

@@ -1,8 +1,8 @@
 -- The product is formed whole: it stays below 2^63 for a pressure within 2·10^12.
 use mathlib.Core.List.{List, [], _∷_}
 use lib.IntN.{pos}
-use Rattle.whole.specs.Machine.{X, v, k, _⊗_, _⊘_, Entry, entry, need, value, divisor}
-use Rattle.stage.specs.Laws.UpdateSizes.{wide-pos, sized}
+use Rattle.whole.specs.Machine.{X, v, k, _⊗_, _⊘_, Entry, entry, need, value, divisor, sized}
+use Rattle.stage.specs.Laws.UpdateSizes.{wide-pos}
 use Rattle.stage.specs.Rows.{thrust}
 use Rattle.stage.proofs.update.thrust_of.Statement.{statement}
 use Rattle.stage.proofs.update.thrust_of.Tie as tie

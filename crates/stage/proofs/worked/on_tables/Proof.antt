@@ -8,8 +8,8 @@ use Prim.Native.Nat.{ℕ}
 use Rattle.whole.specs.Machine.{back64}
 use Rattle.tables.specs.Cells.{cellIn}
 use Rattle.rules.specs.Reach.{Reach, Call, State}
-use Rattle.reach.specs.Told.{reachIn, callOn}
-use Rattle.stage.specs.Says.{foundIn, StepSays}
+use Rattle.reach.specs.Told.{reachIn, callOn, foundIn}
+use Rattle.stage.specs.Says.{StepSays}
 use Rattle.stage.specs.Laws.OnTables.{Loaded, ready-stops, loaded-ranged, loaded-slow}
 use Rattle.stage.specs.Laws.OnTables.{rubbed-shown, rubbed-ranged, both-stops, both-fits, both-done}
 use Rattle.stage.proofs.worked.on_tables.Statement.{statement}
