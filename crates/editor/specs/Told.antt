@@ -11,9 +11,12 @@ use lib.Ieee.{Float}
 use Rattle.whole.specs.Flags.{cond-ind}
 use Rattle.rules.specs.Limits.{mostCells}
 use Rattle.rules.specs.Face.{Flux}
-use Rattle.rules.specs.Lent.{Lent, cellsOf, number, place, filled, crossed, Outcome, refused, accepted, stepOf}
+use Rattle.rules.specs.Refusals.{verdict, spot}
+use Rattle.rules.specs.Lent.{Lent, cellsOf, number, place, filled, crossed, Outcome, refused, accepted, outcome, stepOf}
 use Rattle.rules.specs.Sums.{misfitSums, Making, Question, unanswered, answered, keepingOf, sumsAfter}
 use Rattle.rules.specs.Laws.Within.{place-most}
+use Rattle.sill_rules.specs.Lent as sills
+use Rattle.sill_rules.specs.Laws.Within as sill-places
 use Rattle.reach.specs.declared.Given.{Given}
 use Rattle.speeds.specs.Given.{Perhaps}
 use Rattle.speeds.specs.Given as given
@@ -28,8 +31,8 @@ use Rattle.double.specs.declared.face.DoubleAnswer.the-variants as double
 use Rattle.root.proofs.Unique.{root-unique}
 use Rattle.double.proofs.face.Unique as doubles
 use Rattle.step.specs.Gives.{answer, leaves, code, placed, Gives}
-use Rattle.step.specs.declared.Answer.{Answer}
-use Rattle.step.specs.declared.Answer.the-variants.{Refused, Accepted}
+use Rattle.reach.specs.declared.answer.Answer.{Answer}
+use Rattle.reach.specs.declared.answer.Answer.the-variants.{Refused, Accepted}
 use Rattle.sums.specs.Gives.{madeCode, madeAnswer, madeLeaves, questionCode}
 
 -- ---- the step
@@ -44,6 +47,20 @@ pub record StepTold (o : Outcome) (r : ℕ) (old new volumes volumes′ : List �
   pub table : new ≡ leaves o old
   pub crossed : volumes′ ≡ volumesOf o volumes
   pub place : places′ ≡ set places 0 (placed (answer o))
+
+-- what is lent and given to one over a stepped bed
+abbrev pub sillLend : List ℤ → ℕ → List ℤ → List ℕ → ℕ → ℕ → ℕ → ℕ → ℕ → sills.Lent
+sillLend state room bed friction dx dt dry left right = record {
+  now = state;
+  room = room;
+  bed = bed;
+  friction = friction;
+  dx = dx;
+  dt = dt;
+  dry = dry;
+  left = left;
+  right = right;
+}
 
 -- ---- the sums
 -- of the step that keeps them: as of the step, and the sums
@@ -174,6 +191,13 @@ pub keeping-place : (l : Lent) (sums : ℕ) {a : Answer} → a ≡ answer (keepi
 unfolding answer keepingOf placed
 keeping-place l sums e = rw e (cond-ind (misfitSums sums (cellsOf l)) (refused 1 0) (stepOf l)
     (λ (o : Outcome). placed (answer o) ≤ mostCells) (λ b. omega arith) (λ b. step-place l refl))
+
+pub sill-place : (l : sills.Lent) {a : Answer} → a ≡ answer (sills.stepOf l) → placed a ≤ mostCells
+unfolding answer sills.stepOf outcome placed
+sill-place l {a} e = rw e (cond-ind (eqb (verdict (sills.allChecks l)) 0)
+    (accepted (sills.filled l) (sills.crossed l 0) (sills.crossed l (sills.cellsOf l)))
+    (refused (verdict (sills.allChecks l)) (spot (sills.allChecks l)))
+    (λ (o : Outcome). placed (answer o) ≤ mostCells) (λ b. omega arith) (λ b. sill-places.place-most l))
 
 -- the two counts of a question
 pub read-told : (q : Question) (w : ℤ) (c b : ℕ) (old : List ℤ) → answered (record { water = w; cells = c; blocks = b }) ≡ q

@@ -14,9 +14,10 @@ ghost use lib.ListN.{length};
 ghost use Rattle.rules.specs.Limits.{mostCells};
 ghost use Rattle.rules.specs.Lent.{stepOf};
 ghost use Rattle.rules.specs.Sums.{makingOf, betweenOf};
+ghost use Rattle.sill_rules.specs.Lent as sills;
 ghost use Rattle.face.specs.Given.{side, faceGiven};
 ghost use Rattle.step.specs.Gives.{end, lend, placed};
-ghost use Rattle.editor.specs.Told.{givenBy, AnswerTold, StepTold, KeepingTold, MakingTold, QuestionTold};
+ghost use Rattle.editor.specs.Told.{sillLend, givenBy, AnswerTold, StepTold, KeepingTold, MakingTold, QuestionTold};
 ghost use Rattle.editor.specs.Told.{FaceTold, DoubleTold, RootTold};
 
 // The numbers of a call, as the step takes them.
@@ -130,6 +131,38 @@ pub extern "C" fn bassoonsun_step_sums(
         volumes,
         place,
     )
+}
+
+// The same over a stepped bed: 0 when the step is accepted, else the refusal's number; `volumes`, V at face 0
+// and at face n, is written only when it is accepted, `place` in either case.
+#[no_mangle]
+pub extern "C" fn bassoonsun_sill_step(
+    state: &[i32],
+    next: &mut [i32],
+    bed: &[i32],
+    friction: &[u16],
+    dx: u32,
+    dt: u32,
+    dry: u32,
+    left: u32,
+    right: u32,
+    volumes: &mut [i64; 2],
+    place: &mut [u32; 1],
+) -> u32
+    ensures { λ r. ⌜ StepTold
+        (sills.stepOf (sillLend (now (state .entry)) (length (now (next .entry))) (now (bed .entry)) (now (friction .entry))
+        dx dt dry left right))
+        r (now (next .entry)) (now (next .exit)) (now (volumes .entry)) (now (volumes .exit))
+        (now (place .entry)) (now (place .exit)) ⌝ }
+{
+    let call = sill::Given {
+        dx,
+        dt,
+        dry,
+        left,
+        right,
+    };
+    tell(sill::step(state, next, bed, friction, call), volumes, place)
 }
 
 // 0 when all of the sums are filled, else the refusal's number; they are then as they were.

@@ -36,7 +36,7 @@ use Rattle.rules.specs.Sums.{wholeBlock, loneCell, reading, questionChecks, que
 use Rattle.rules.specs.Sums.{keepingOf, sumsAfter}
 use Rattle.rules.specs.Numbers.{oneCell}
 use Rattle.step.specs.Gives.{end, lend, volumes, answer, leaves}
-use Rattle.step.specs.declared.Answer.the-variants.{Accepted}
+use Rattle.reach.specs.declared.answer.Answer.the-variants.{Accepted}
 use Rattle.sums.specs.Gives.{madeCode, madeAnswer, madeLeaves}
 use Rattle.sums.specs.declared.Made.the-variants.{Done}
 use Rattle.promises.specs.Seen.{at, level, levelSlope, discharge, dischargeSlope, meanBed, bedSlope}

@@ -3,13 +3,16 @@
 use mathlib.Core.Path.{_≡_, sym, ap, subst}
 use mathlib.Core.Bool.{Bool, true, false, cond}
 use mathlib.Core.List.{List, [], _∷_}
+use mathlib.Core.Logic.{_⊎_, inl, inr}
 use Prim.Native.Nat.{ℕ, _<_}
 use native.Mathlib.Omega.{arith}
+use borrow.Author.Tests.{ne-eqb}
 use lib.Dec.{T, ltb, ltb→lt}
 use Rattle.whole.specs.Flags.{by, held}
 use Rattle.tables.specs.Some.{IsLowest, lowest-is, is-lowest, yes-some}
 use Rattle.rules.specs.Refusals.{Check, applies, lowestOf, verdict, spot}
 use Rattle.rules.specs.Found.{Found, at, found}
+use Rattle.rules.specs.Laws.Accept.{other}
 use Rattle.promises.specs.Seen.{FirstMet, here, later, FirstMetAt, here-at, later-at}
 
 -- the verdict is that number,
@@ -46,19 +49,31 @@ found-first k p (x ∷ xs) l e = by (applies x)
     (ap (λ (f : Found). f .no) d))
     (λ b. later-at x xs b (found-first k p xs l (rw b at e)))
 
+-- the first of a list is met, or the list after it
+pub first-split : {k p : ℕ} {x : Check} {xs : List Check} → FirstMetAt k p (x ∷ xs)
+    → ((IsLowest (x .at) (x .many) p) × (x .no ≡ k)) ⊎ ((applies x ≡ false) × FirstMetAt k p xs)
+first-split (here-at x xs l e) = inl (l, e)
+first-split (later-at x xs b f) = inr (b, f)
+
 -- ---- its number is one of 1 to 8
 abbrev pub listed : List Check → Bool
 listed [] = true
 listed (x ∷ xs) = cond (ltb 0 (x .no)) (cond (ltb (x .no) 9) (listed xs) false) false
 
+first-in : (m : ℕ) (r : Bool) → T (cond (ltb 0 m) (cond (ltb m 9) r false) false) → (0 < m) × (m < 9)
+first-in m r t = by (ltb 0 m)
+    (λ p. by (ltb m 9) (λ q. (ltb→lt 0 m (held (ltb 0 m) p), ltb→lt m 9 (held (ltb m 9) q))) (λ q. absurd (rw (p, q) at t)))
+    (λ p. absurd (rw p at t))
+
+rest-in : (m : ℕ) (r : Bool) → T (cond (ltb 0 m) (cond (ltb m 9) r false) false) → T r
+rest-in m r t = by (ltb 0 m) (λ p. by (ltb m 9) (λ q. rw (p, q) at t) (λ q. absurd (rw (p, q) at t))) (λ p. absurd (rw p at t))
+
 pub first-listed : (k : ℕ) {xs : List Check} → FirstMet k xs → T (listed xs) → (0 < k) × (k < 9)
-first-listed k (here x xs b e) t = subst (λ (m : ℕ). (0 < m) × (m < 9)) e (low (x .no) (listed xs) t)
-  where
-    low : (m : ℕ) (r : Bool) → T (cond (ltb 0 m) (cond (ltb m 9) r false) false) → (0 < m) × (m < 9)
-    low m r t = by (ltb 0 m)
-        (λ p. by (ltb m 9) (λ q. (ltb→lt 0 m (held (ltb 0 m) p), ltb→lt m 9 (held (ltb m 9) q))) (λ q. absurd (rw (p, q) at t)))
-        (λ p. absurd (rw p at t))
-first-listed k (later x xs b f) t = first-listed k f (rest (x .no) (listed xs) t)
-  where
-    rest : (m : ℕ) (r : Bool) → T (cond (ltb 0 m) (cond (ltb m 9) r false) false) → T r
-    rest m r t = by (ltb 0 m) (λ p. by (ltb m 9) (λ q. rw (p, q) at t) (λ q. absurd (rw (p, q) at t))) (λ p. absurd (rw p at t))
+first-listed k (here x xs b e) t = subst (λ (m : ℕ). (0 < m) × (m < 9)) e (first-in (x .no) (listed xs) t)
+first-listed k (later x xs b f) t = first-listed k f (rest-in (x .no) (listed xs) t)
+
+-- so none of it has the number 0
+pub listed-some : (xs : List Check) → T (listed xs) → T (other 0 xs)
+listed-some [] t = tt
+listed-some (x ∷ xs) t = let some = first-in (x .no) (listed xs) t .0 in
+    rw (ne-eqb (x .no) 0 (λ e. let z : ⊥ = omega arith in z)) (listed-some xs (rest-in (x .no) (listed xs) t))

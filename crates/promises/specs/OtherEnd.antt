@@ -26,8 +26,8 @@ use Rattle.stage.specs.Ranges.{Ranged}
 use Rattle.stage.specs.Laws.LentChecks.{grounds, ranged}
 use Rattle.stage.specs.Laws.CellSizes.{cell-sizes}
 use Rattle.step.specs.Gives.{volumes, both, Gives, answer, leaves}
-use Rattle.step.specs.declared.Answer.{Answer}
-use Rattle.step.specs.declared.Answer.the-variants.{Accepted}
+use Rattle.reach.specs.declared.answer.Answer.{Answer}
+use Rattle.reach.specs.declared.answer.Answer.the-variants.{Accepted}
 use Rattle.promises.specs.Seen.{Besides, lending, Called, lent, Calls, none, more, leastI32, FitsI32, NoneLeast, FromOtherEnd}
 use Rattle.promises.specs.Outcomes.{taken}
 

@@ -1,29 +1,28 @@
--- From what a caller sees to the rules: the outcome of a call by its answer, tables as states, calls as a run.
+-- From what a caller sees to the rules: a call by its checks, tables as states, an accepted call as a step, and calls as a chain of them.
 -- Assumes nothing.
 use mathlib.Core.Path.{_≡_, refl, sym, _∙_, ap, subst}
-use mathlib.Core.Bool.{Bool, true, false}
+use mathlib.Core.Bool.{Bool, true, false, cond}
 use mathlib.Core.List.{List, [], _∷_}
 use mathlib.Core.Logic.{_⊎_, inl, inr, ⊎-elim}
 use Prim.Native.Nat.{ℕ, zero, suc, _*_, _≤_, _<_}
 use native.Mathlib.Omega.{arith}
-use borrow.Author.Tests.{eqb-false}
-use lib.Dec.{eqb, eqb→eq}
+use lib.Dec.{T, eqb}
 use lib.ListN.{length, getD}
-use lib.IntN.{ℤ, pos, _+ℤ_}
+use lib.IntN.{ℤ, pos, _+ℤ_, _-ℤ_}
 use lib.Signed.{_≤ℤ_}
-use Rattle.whole.specs.Flags.{by, held}
+use Rattle.whole.specs.Flags.{by}
 use Rattle.whole.specs.Parts.{le-of}
 use Rattle.whole.specs.Choice.{sizeZ}
-use Rattle.tables.specs.Cells.{Cell, cellIn, tableOf, length-table, cellIn-table}
+use Rattle.tables.specs.Cells.{Cell, cellIn, tableOf, length-table, cellIn-table, table-is, table-cells}
 use Rattle.rules.specs.Face.{face}
 use Rattle.rules.specs.Reach.{Reach, Call, State, under, bedAt, z0, z1, h0, h1, hl, hr}
-use Rattle.rules.specs.Step.{carry, joined, next}
+use Rattle.rules.specs.Step.{stageOne, carry, joined, next}
 use Rattle.rules.specs.Ends.{End, inflowKind}
 use Rattle.tables.specs.Some.{some, lowest}
 use Rattle.rules.specs.Refusals.{badEnd, badCall, badBed, badRough, offCell, off, ofCall, each, applies, verdict, spot}
 use Rattle.rules.specs.Refusals.{stageChecks, early, checks, refusal, refusedAt}
 use Rattle.rules.specs.Lent.{Lent, reachOf, callOf, stateOf, cellsOf, misfits, number, place, filled, crossed}
-use Rattle.rules.specs.Lent.{Outcome, stepOf}
+use Rattle.rules.specs.Lent.{Outcome, refused, accepted, outcome, stepOf}
 use Rattle.rules.specs.AtRest.{Dry, Flat, AtRest}
 use Rattle.rules.specs.Laws.Agree.{Same}
 use Rattle.rules.specs.Laws.DryDepth.{finished-calm}
@@ -31,105 +30,78 @@ use Rattle.rules.specs.Laws.Accept.{passed}
 use Rattle.rules.specs.Found.{Found, found, foundOf}
 use Rattle.rules.specs.Laws.Verdicts.{went-past}
 use Rattle.rules.specs.Laws.StillChecks.{input, worked, two-parts, seven-alone}
-use Rattle.rules.specs.Laws.Lengths.{fitted, first-number, later-number, fits, unrefused, accepts, refuses}
+use Rattle.rules.specs.Laws.Lengths.{fitted, first-number, later-number, fits, unrefused}
 use Rattle.rules.specs.Laws.Written.{written-in-range}
-use Rattle.rules.specs.Laws.Within.{spot-whole}
-use Rattle.rules.specs.Laws.Positive.{Nonneg, Wet}
+use Rattle.rules.specs.Laws.Within.{Within, checks-within, oneOnly}
+use Rattle.rules.specs.Laws.Positive.{Nonneg, Wet, wet-same}
+use Rattle.rules.specs.Laws.Telescope.{sum}
 use Rattle.rules.specs.Laws.Balance as balance
 use Rattle.rules.specs.Laws.Face.{lawful}
 use Rattle.rules.specs.Laws.EndChecks.{kind-in, inflow-in, inflow-only}
 use Rattle.rules.specs.Laws.EndVolumes.{left-shut, left-brought, left-most}
-use Rattle.rules.specs.Laws.Runs.{Run, stop, step, accepted as accepted-call, accepted-ends, Depths, depths, TooLarge, Large}
-use Rattle.step.specs.Gives.{code, placed, volumes, absent, both, Gives, answer, leaves}
-use Rattle.step.specs.declared.Answer.{Answer}
-use Rattle.step.specs.declared.Answer.the-variants.{Refused, Accepted}
+use Rattle.rules.specs.Laws.Runs.{accepted as accepted-call, accepted-ends, Depths, depths, accepted-depths, accepted-rest}
+use Rattle.rules.specs.Laws.Runs.{TooLarge, Large}
+use Rattle.rules.specs.Laws.Rest as rest
+use Rattle.rules.specs.Laws.Chain.{Chain, stop, step}
+use Rattle.step.specs.Gives.{code, placed, volumes, both, Gives}
+use Rattle.reach.specs.declared.answer.Answer.{Answer}
 use Rattle.promises.specs.Seen.{at, level, levelSlope, discharge, dischargeSlope, meanBed, bedSlope, meanDepth, leftDepth}
 use Rattle.promises.specs.Seen.{rightDepth, NoneBelow, Excess, total, water, Listed, mostPassed, brought, Lake}
-use Rattle.promises.specs.Seen.{allChecks, checkFive, Called, lent, Calls, none, more}
+use Rattle.promises.specs.Seen.{allChecks, checkFive, Called, lent, Calls, none, more, NoInflow}
+use Rattle.promises.specs.First.{listed}
+use Rattle.promises.specs.ByChecks as call
+use Rattle.promises.specs.ByChecks.{ByChecks}
 
--- ---- an outcome by its number
+-- ---- a call by its checks
 module _ (l : Lent) where
-  pub found-is : foundOf l ≡ found (allChecks l)
+  found-is : foundOf l ≡ found (allChecks l)
   unfolding number place refusal refusedAt allChecks verdict spot some lowest
   found-is = by (misfits l) (λ e. rw e) (λ e. rw e)
 
-  pub number-is : number l ≡ verdict (allChecks l)
+  number-is : number l ≡ verdict (allChecks l)
   number-is = ap (λ (f : Found). f .no) found-is
 
-  -- the place of a 1 or a 2
-  pub whole-place : (k : ℕ) → k ≤ 2 → 0 < k → number l ≡ k → place l ≡ 0
+  step-is : stepOf l ≡ outcome (allChecks l) (filled l) (crossed l 0) (crossed l (cellsOf l))
+  unfolding stepOf outcome
+  step-is = let took = accepted (filled l) (crossed l 0) (crossed l (cellsOf l)) in
+      ap (λ (f : Found). cond (eqb (f .no) 0) took (refused (f .no) (f .place))) found-is
+
+  pub by-checks : {a : Answer} {old new : List ℤ} → Gives (stepOf l) a old new
+      → ByChecks (allChecks l) (filled l) (crossed l 0) (crossed l (cellsOf l)) a old new
+  by-checks {a} {old} {new} g = record { gave = subst (λ (o : Outcome). Gives o a old new) step-is g }
+
+  -- their numbers, and their places
+  pub all-listed : T (listed (allChecks l))
   unfolding allChecks checks early stageChecks
-  whole-place k m s e = ap (λ (f : Found). f .place) found-is ∙ go k m s (sym number-is ∙ e)
-    where
-      go : (k : ℕ) → k ≤ 2 → 0 < k → verdict (allChecks l) ≡ k → spot (allChecks l) ≡ 0
-      go zero m s e = let z : ⊥ = omega arith in absurd z
-      go (suc zero) m s e = spot-whole 1 (allChecks l) tt e
-      go (suc (suc zero)) m s e = spot-whole 2 (allChecks l) tt e
-      go (suc (suc (suc k))) m s e = let z : ⊥ = omega arith in absurd z
+  all-listed = tt
 
-  -- ---- and by the number of its answer
+  pub ones-whole : T (oneOnly 1 (allChecks l))
+  unfolding allChecks checks early stageChecks
+  ones-whole = tt
+
+  pub twos-whole : T (oneOnly 2 (allChecks l))
+  unfolding allChecks checks early stageChecks
+  twos-whole = tt
+
+  pub all-within : Within (cellsOf l) (allChecks l)
+  unfolding allChecks
+  all-within = (omega arith, checks-within (reachOf l) (callOf l) (stateOf l))
+
+  -- ---- by the number of its answer
   module _ {a : Answer} {old new : List ℤ} (g : Gives (stepOf l) a old new) where
-    abbrev stopped : Answer
-    stopped = Refused (number l) (place l)
-
-    abbrev took : Answer
-    took = Accepted (crossed l 0) (crossed l (cellsOf l))
-
-    -- the answer,
-    refused-is : (number l ≡ 0 → ⊥) → a ≡ stopped
-    unfolding answer
-    refused-is f = g .says ∙ ap answer (refuses l f)
-
-    accepted-is : number l ≡ 0 → a ≡ took
-    unfolding answer
-    accepted-is e = g .says ∙ ap answer (accepts l e)
-
-    -- its number,
     pub coded : code a ≡ number l
-    unfolding code
-    coded = by (eqb (number l) 0)
-        (λ b. let e = eqb→eq (number l) 0 (held (eqb (number l) 0) b) in ap code (accepted-is e) ∙ sym e)
-        (λ b. ap code (refused-is (eqb-false (number l) 0 b)))
+    coded = call.coded (by-checks g) ∙ sym number-is
 
-    some-number : 0 < code a → number l ≡ 0 → ⊥
-    some-number p e = omega (arith, coded)
-
-    -- and of a refusal its place, that it has no volumes, and the table
     pub refused-place : 0 < code a → placed a ≡ place l
-    unfolding placed
-    refused-place p = ap placed (refused-is (some-number p))
-
-    pub refused-volumes : 0 < code a → volumes a ≡ absent
-    unfolding volumes
-    refused-volumes p = ap volumes (refused-is (some-number p))
-
-    pub refused-table : 0 < code a → new ≡ old
-    unfolding leaves
-    refused-table p = g .table ∙ ap (λ (o : Outcome). leaves o old) (refuses l (some-number p))
+    refused-place some = call.refused-place (by-checks g) some ∙ sym (ap (λ (f : Found). f .place) found-is)
 
     pub refused-later : code a ≡ 8 → refusal (reachOf l) (callOf l) (stateOf l) ≡ 8
     refused-later e = by (misfits l)
         (λ b. let z = first-number l b in let w : ⊥ = omega (arith, coded) in absurd w)
         (λ b. sym (later-number l b) ∙ sym coded ∙ e)
 
-    -- of an accepted call its place, its volumes and the table
-    pub accepted-place : code a ≡ 0 → placed a ≡ 0
-    unfolding placed
-    accepted-place e = ap placed (accepted-is (sym coded ∙ e))
-
-    pub accepted-volumes : code a ≡ 0 → volumes a ≡ both (crossed l 0) (crossed l (cellsOf l))
-    unfolding volumes
-    accepted-volumes e = ap volumes (accepted-is (sym coded ∙ e))
-
     pub accepted-table : code a ≡ 0 → new ≡ filled l
-    unfolding leaves
-    accepted-table e = g .table ∙ ap (λ (o : Outcome). leaves o old) (accepts l (sym coded ∙ e))
-
--- an answer with volumes has the number 0
-pub volumes-code : (a : Answer) (w v : ℤ) → volumes a ≡ both w v → code a ≡ 0
-unfolding volumes code
-volumes-code (Refused k p) w v e = let z : _≡_ {A = ℕ} 0 1 = cc in let f : ⊥ = omega arith in absurd f
-volumes-code (Accepted x y) w v e = refl
+    accepted-table e = call.accepted-table (by-checks g) e
 
 -- an accepted call: its number, its volumes and its table
 pub record Taken (l : Lent) (w v : ℤ) (new : List ℤ) : Type 0 where
@@ -139,9 +111,8 @@ pub record Taken (l : Lent) (w v : ℤ) (new : List ℤ) : Type 0 where
   pub table : new ≡ filled l
 
 pub taken : (l : Lent) (a : Answer) (w v : ℤ) (old new : List ℤ) → volumes a ≡ both w v → Gives (stepOf l) a old new → Taken l w v new
-taken l a w v old new e g =
-    let z = volumes-code a w v e in let p : both w v ≡ both (crossed l 0) (crossed l (cellsOf l)) = sym e ∙ accepted-volumes l g z in
-    record { number = sym (coded l g) ∙ z; left = cc; right = cc; table = accepted-table l g z }
+taken l a w v old new e g = let t = call.taken (by-checks l g) w v e in
+    record { number = number-is l ∙ t .number; left = t .left; right = t .right; table = t .table }
 
 -- ---- tables as states
 abbrev pub reachAt : List ℤ → ℕ → ℕ → Reach
@@ -152,15 +123,11 @@ module _ (bed t : List ℤ) (dx : ℕ) where
   unfolding meanDepth leftDepth rightDepth meanBed bedSlope h0 h1 hl hr z0 z1
   none-below n d = record { mean = d .mean; left = λ i l. d .faces i l .left; right = λ i l. d .faces i l .right }
 
-  pub wet : (n : ℕ) → NoneBelow bed t n → Wet (reachAt bed n dx) (cellIn n t)
-  unfolding meanDepth leftDepth rightDepth meanBed bedSlope h0 h1 hl hr z0 z1
-  wet n d i l = record { left = d .left i l; right = d .right i l }
-
   pub water-is : (n : ℕ) → water bed t n ≡ balance.water (reachAt bed n dx) (cellIn n t)
-  unfolding balance.water water total balance.sum meanDepth meanBed h0 z0
+  unfolding balance.water water total sum meanDepth meanBed h0 z0
   water-is n = go n
     where
-      go : (m : ℕ) → total (meanDepth bed t n) m ≡ balance.sum (λ i. h0 (under (reachAt bed n dx) i) (cellIn n t i)) m
+      go : (m : ℕ) → total (meanDepth bed t n) m ≡ sum (λ i. h0 (under (reachAt bed n dx) i) (cellIn n t i)) m
       go zero = refl
       go (suc m) = ap (λ (x : ℤ). x +ℤ meanDepth bed t n m) (go m)
 
@@ -263,13 +230,51 @@ one bed n dx s a w v old m e c = subst (λ (k : ℕ). One bed k dx (callOf (lent
           right = t .right;
         }
 
--- ---- calls as a run
-pub run : (bed : List ℤ) (n dx : ℕ) {s t : List ℤ} {a b : ℤ} → Calls bed n dx s t a b
-    → Run (reachAt bed n dx) (cellIn n s) (cellIn n t) a b
-run bed n dx (none t) = stop (cellIn n t)
-run bed n dx (more s m t old x w v a b e c k) =
-    let o = one bed n dx s x w v old m e c in
-    rw (o .left, o .right) (step (callOf (lent c)) (cellIn n s) (cellIn n m) (cellIn n t) a b (o .unstopped) (o .same) (run bed n dx k))
+-- what such a step does, as a caller sees it
+module _ (bed : List ℤ) (n dx : ℕ) (c : Call) (s m : List ℤ) (w v : ℤ) (o : One bed n dx c s m w v) where
+  abbrev reach : Reach
+  reach = reachAt bed n dx
+
+  pub one-balanced : water bed m n ≡ water bed s n +ℤ w -ℤ v
+  one-balanced =
+      let x = cellIn n s in
+      water-is bed m dx n ∙ balance.water-same reach (next reach c x) (cellIn n m) (o .same) ∙ balance.balanced reach c x
+      ∙ (λ i. sym (water-is bed s dx n) i +ℤ sym (o .left) i -ℤ sym (o .right) i)
+
+  abbrev reached : (Depths reach (cellIn n s)) × (Depths reach (stageOne reach c (cellIn n s))) × (Depths reach (next reach c (cellIn n s)))
+  reached = accepted-depths reach lawful c (cellIn n s) (o .unstopped)
+
+  pub one-now : NoneBelow bed s n
+  one-now = none-below bed s dx n (reached .0)
+
+  pub one-written : NoneBelow bed m n
+  one-written = none-below bed m dx n
+      (depths reach (cellIn n m) (wet-same reach (next reach c (cellIn n s)) (cellIn n m) (o .same) (reached .2 .faces)))
+
+  pub one-rests : rest.NoInflow c → Lake bed s n → (m ≡ s) × (w ≡ pos 0) × (v ≡ pos 0)
+  one-rests shut lake =
+      let z = accepted-rest reach lawful (o .some) c (cellIn n s) (o .unstopped) shut (at-rest bed s dx n lake) in (
+        table-is n m (cellIn n s) (o .size) (λ i l. o .same i l ∙ z .0 i l) ∙ table-cells n s (o .now),
+        o .left ∙ z .1,
+        o .right ∙ z .2,
+      )
+
+-- ---- calls as a chain of steps, and of steps that bring no water in
+module _ (bed : List ℤ) (n dx : ℕ) where
+  abbrev pub AStep : List ℤ → List ℤ → ℤ → ℤ → Type 0
+  AStep s m w v = (c : Call) × One bed n dx c s m w v
+
+  abbrev pub ShutStep : List ℤ → List ℤ → ℤ → ℤ → Type 0
+  ShutStep s m w v = (c : Call) × (rest.NoInflow c) × One bed n dx c s m w v
+
+  pub chain : {s t : List ℤ} {a b : ℤ} → Calls bed n dx s t a b → Chain AStep s t a b
+  chain (none t) = stop t
+  chain (more s m t old x w v a b e c k) = step s m t w v a b (callOf (lent c), one bed n dx s x w v old m e c) (chain k)
+
+  pub shut-chain : {s t : List ℤ} {a b : ℤ} (k : Calls bed n dx s t a b) → NoInflow k → Chain ShutStep s t a b
+  shut-chain (none t) d = stop t
+  shut-chain (more s m t old x w v a b e c k) d =
+      step s m t w v a b (callOf (lent c), record { left = d .0; right = d .1 }, one bed n dx s x w v old m e c) (shut-chain k (d .2))
 
 -- ---- a lake at rest: a number over 5 is a 7
 pub lake-number : (l : Lent) → Lake (l .bed) (l .now) (cellsOf l) → l .left .q ≡ 0 → l .right .q ≡ 0 → 5 < number l → number l ≡ 7

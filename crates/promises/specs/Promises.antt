@@ -7,13 +7,11 @@
 -- keeps every lake and every depth. But `Called` holds the contract, `Gives (stepOf ..)`, which leaves one answer and one table
 -- (`step-answer`, `step-table`): those of the rules' two stages. So what follows is said of that step, and of no other.
 -- Assumes nothing.
-use mathlib.Core.Path.{_≡_, refl, sym, _∙_, ap, ap₂, subst}
+use mathlib.Core.Path.{_≡_, refl, sym, _∙_, ap, subst}
 use mathlib.Core.Bool.{Bool, false}
 use mathlib.Core.List.{List, [], _∷_, _++_}
 use mathlib.Core.Logic.{_⊎_, inl, inr, ⊎-elim}
 use Prim.Native.Nat.{ℕ, suc, _-_, _≤_, _<_}
-use native.Mathlib.Omega.{arith}
-use native.Mathlib.Decide.{decLt}
 use lib.ListN.{length}
 use lib.IntN.{ℤ, pos, negℤ, negℤ-negℤ, _+ℤ_, _-ℤ_}
 use lib.Signed.{_≤ℤ_}
@@ -22,21 +20,21 @@ use Rattle.whole.specs.Flags.{clash}
 use Rattle.whole.specs.Parts.{abs-neg}
 use Rattle.whole.specs.Choice.{sizeZ}
 use Rattle.rules.specs.Face.{Side}
-use Rattle.tables.specs.Cells.{Cell, cellIn, tableOf, cellIn-table, table-is, table-cells}
+use Rattle.tables.specs.Cells.{Cell, cellIn, tableOf, cellIn-table}
 use Rattle.rules.specs.Reach.{State}
 use Rattle.rules.specs.Laws.Lengths.{fitted}
-use Rattle.rules.specs.Laws.Within.{place-within}
 use Rattle.rules.specs.Step.{stageOne, next}
 use Rattle.rules.specs.Refusals.{off, each, applies, Clear, stageChecks, early, checks}
 use Rattle.rules.specs.Lent.{Lent, cellsOf, reachOf, callOf, stateOf, misfits, place, filled, crossed, stepOf}
-use Rattle.rules.specs.Found.{Found, at, foundOf}
-use Rattle.rules.specs.Laws.Verdicts.{cleared, none-stops}
+use Rattle.rules.specs.Found.{foundOf}
+use Rattle.rules.specs.Laws.Chain.{chain-balanced, chain-keeps, chain-still}
 use Rattle.rules.specs.Laws.Face.{lawful}
-use Rattle.rules.specs.Laws.Runs.{reached-one, reached-end, Large, eight, depths, accepted-depths, run-balanced, run-wet, accepted-rest}
+use Rattle.rules.specs.Laws.Runs.{reached-one, reached-end, Large, eight}
 use Rattle.survey.specs.Turned.{turnedCell, turnedTable, turnedCall}
 use Rattle.survey.specs.Laws.Twice.{call-twice}
 use Rattle.survey.specs.Laws.Lent.{number-turned}
 use Rattle.speeds.specs.Given.{speedGiven, waveGiven, cubeGiven}
+use Rattle.friction.specs.Given.{strengthGiven, slowedGiven}
 use Rattle.face.specs.Given.{faceGiven}
 use Rattle.face.specs.Answers.{flux}
 use Rattle.speeds.specs.Answers.{valueOf}
@@ -49,6 +47,7 @@ use Rattle.digits.specs.declared.Rooted.{Rooted}
 use Rattle.root.specs.declared.RootAnswer.{RootAnswer}
 use Rattle.double.specs.declared.face.DoubleAnswer.{DoubleAnswer}
 use Rattle.speeds.proofs.Unique.{speed-unique, wave-unique, cube-unique}
+use Rattle.friction.proofs.Unique.{strength-unique, slowed-unique}
 use Rattle.face.proofs.Unique.{face-unique}
 use Rattle.digits.proofs.Unique.{digits-unique}
 use Rattle.root.proofs.Unique.{root-unique}
@@ -61,18 +60,17 @@ use Rattle.stage.specs.Worked.{WorkedSays}
 use Rattle.stage.specs.Laws.OneAnswer.{one-said}
 use Rattle.stage.specs.declared.worked.Worked.{Worked}
 use Rattle.step.specs.Gives.{code, placed, volumes, absent, both, Gives, one-answer, one-table}
-use Rattle.step.specs.declared.Answer.{Answer}
-use Rattle.step.specs.declared.Answer.the-variants.{Accepted}
+use Rattle.reach.specs.declared.answer.Answer.{Answer}
+use Rattle.reach.specs.declared.answer.Answer.the-variants.{Accepted}
 use Rattle.promises.specs.Seen.{allChecks, toStageOne, toEnd, checkFive, FirstMet, FirstMetAt}
 use Rattle.promises.specs.Seen.{level, levelSlope, discharge, dischargeSlope, meanDepth, NoneBelow, Excess, stageTable}
 use Rattle.promises.specs.Seen.{water, Listed, mostPassed, brought, Lake}
-use Rattle.promises.specs.Seen.{Called, lent, Calls, none, more, NoInflow, FitsI32, NoneLeast, FromOtherEnd}
-use Rattle.promises.specs.First.{first-verdict, verdict-first, first-listed, first-of, first-found, found-first}
-use Rattle.promises.specs.Outcomes.{found-is, number-is, whole-place, coded, refused-place, refused-volumes, refused-table}
-use Rattle.promises.specs.Outcomes.{refused-later, accepted-place, accepted-volumes, accepted-table, volumes-code, Taken, taken}
-use Rattle.promises.specs.Outcomes.{reachAt, none-below, wet, water-is, at-rest, none-below-table, excess-table}
-use Rattle.promises.specs.Outcomes.{written-calm, both-listed, wall-left, inflow-left, passed-left, one, run, lake-number}
-use Rattle.promises.specs.Outcomes.{again-in-range, five-applies}
+use Rattle.promises.specs.Seen.{Called, lent, Calls, NoInflow, FitsI32, NoneLeast, FromOtherEnd}
+use Rattle.promises.specs.ByChecks as call
+use Rattle.promises.specs.Outcomes.{by-checks, all-listed, ones-whole, twos-whole, all-within, coded, refused-place, refused-later}
+use Rattle.promises.specs.Outcomes.{accepted-table, Taken, taken, none-below-table, excess-table, written-calm, both-listed}
+use Rattle.promises.specs.Outcomes.{wall-left, inflow-left, passed-left, one, one-balanced, one-now, one-written, one-rests}
+use Rattle.promises.specs.Outcomes.{AStep, ShutStep, chain, shut-chain, lake-number, again-in-range, five-applies}
 use Rattle.promises.specs.OtherEnd.{other-gives, other-run, turned-fits, accepted-none-least}
 
 -- ---- demand 1: one answer, one content of the table
@@ -100,6 +98,12 @@ wave-one h a b x y = wave-unique h a b x y
 pub cube-one : (h : ℤ) (a b : Whole) → valueOf a ≡ cubeGiven h → valueOf b ≡ cubeGiven h → a ≡ b
 cube-one h a b x y = cube-unique h a b x y
 
+pub strength-one : (dt f h u : ℤ) (a b : Whole) → valueOf a ≡ strengthGiven dt f h u → valueOf b ≡ strengthGiven dt f h u → a ≡ b
+strength-one dt f h u a b x y = strength-unique dt f h u a b x y
+
+pub slowed-one : (x q : ℤ) (a b : Whole) → valueOf a ≡ slowedGiven x q → valueOf b ≡ slowedGiven x q → a ≡ b
+slowed-one x q a b p r = slowed-unique x q a b p r
+
 pub face-one : (l r : Side) (a b : Carried) → flux a ≡ faceGiven l r → flux b ≡ faceGiven l r → a ≡ b
 face-one l r a b x y = face-unique l r a b x y
 
@@ -116,66 +120,47 @@ double-one hl ul hr ur a b x y = doubles.face-unique hl ul hr ur a b x y
 module _ (l : Lent) (a : Answer) (old new : List ℤ) (g : Gives (stepOf l) a old new) where
   -- a call is refused with k exactly when a check numbered k is the first one met,
   pub refused-first : 0 < code a → FirstMet (code a) (allChecks l)
-  refused-first some = verdict-first (code a) (allChecks l) some (sym (coded l g ∙ number-is l))
+  refused-first some = call.refused-first (by-checks l g) some
 
   pub first-refused : (k : ℕ) → FirstMet k (allChecks l) → code a ≡ k
-  first-refused k f = coded l g ∙ number-is l ∙ first-verdict k f
+  first-refused k f = call.first-refused (by-checks l g) k f
 
   -- a number from 1 to 8; the table is then what it was, and there are no volumes
   pub refused-listed : code a < 9
-  unfolding allChecks checks early stageChecks
-  refused-listed = listed (decLt 0 (code a))
-    where
-      listed : Dec (0 < code a) → code a < 9
-      listed (yes some) = first-listed (code a) (refused-first some) tt .1
-      listed (no nought) = omega (arith, nought)
+  refused-listed = call.refused-listed (by-checks l g) (all-listed l)
 
   pub refused-untouched : 0 < code a → (new ≡ old) × (volumes a ≡ absent)
-  refused-untouched some = (refused-table l g some, refused-volumes l g some)
+  refused-untouched some = call.refused-untouched (by-checks l g) some
 
   -- and at p exactly when p is below the number of places that this check has (bed values, cells, faces, or one for the call as a whole),
   -- its condition holds there, and at no lower one;
   pub refused-at : 0 < code a → FirstMetAt (code a) (placed a) (allChecks l)
-  refused-at some = found-first (code a) (placed a) (allChecks l) some
-      (sym ((λ i. at (coded l g i) (refused-place l g some i)) ∙ found-is l))
+  refused-at some = call.refused-at (by-checks l g) some
 
   pub at-refused : (k p : ℕ) → FirstMetAt k p (allChecks l) → (code a ≡ k) × (placed a ≡ p)
-  unfolding allChecks checks early stageChecks
-  at-refused k p f =
-      let first = first-of k p f in let is = first-refused k first in
-      let some = subst (λ (m : ℕ). 0 < m) (sym is) (first-listed k first tt .0) in
-      (is, refused-place l g some ∙ ap (λ (x : Found). x .place) (found-is l ∙ first-found k p f))
+  at-refused k p f = call.at-refused (by-checks l g) (all-listed l) k p f
 
   -- for a 1 or a 2 that is 0, as it is when the call is accepted, and for none does it lie past the last face
   pub refused-whole : code a ≤ 2 → placed a ≡ 0
-  refused-whole few = whole (decLt 0 (code a))
-    where
-      whole : Dec (0 < code a) → placed a ≡ 0
-      whole (yes some) = refused-place l g some ∙ whole-place l (code a) few some (sym (coded l g))
-      whole (no nought) = accepted-place l g (omega (arith, nought))
+  refused-whole few = call.refused-whole (by-checks l g) (ones-whole l) (twos-whole l) few
 
   pub refused-within : placed a ≤ cellsOf l
-  refused-within = within (decLt 0 (code a))
-    where
-      within : Dec (0 < code a) → placed a ≤ cellsOf l
-      within (yes some) = subst (λ (m : ℕ). m ≤ cellsOf l) (sym (refused-place l g some)) (place-within l)
-      within (no nought) = let e = accepted-place l g (omega (arith, nought)) in omega arith
+  refused-within = call.refused-within (by-checks l g) (cellsOf l) (all-within l)
 
   -- it is accepted exactly when none is met
   pub accepted-clear : code a ≡ 0 → Clear (allChecks l)
-  unfolding allChecks checks early stageChecks
-  accepted-clear e = cleared (allChecks l) tt (sym e ∙ coded l g ∙ number-is l)
+  accepted-clear e = call.accepted-clear (by-checks l g) (all-listed l) e
 
   pub clear-accepted : Clear (allChecks l) → code a ≡ 0
-  clear-accepted k = coded l g ∙ number-is l ∙ sym (ap (λ (x : Found). x .no) (none-stops (allChecks l) k))
+  clear-accepted k = call.clear-accepted (by-checks l g) k
 
   -- ---- demand 2: an accepted call's table and volumes are those of the rules' two stages, number for number
   pub accepted-rules : code a ≡ 0 → (new ≡ filled l) × (volumes a ≡ both (crossed l 0) (crossed l (cellsOf l)))
-  accepted-rules e = (accepted-table l g e, accepted-volumes l g e)
+  accepted-rules e = (call.accepted-table (by-checks l g) e, call.accepted-volumes (by-checks l g) e)
 
 -- an answer with volumes is that of an accepted call
 pub volumes-accepted : (a : Answer) (w v : ℤ) → volumes a ≡ both w v → code a ≡ 0
-volumes-accepted a w v e = volumes-code a w v e
+volumes-accepted a w v e = call.volumes-code a w v e
 
 -- ---- the dry depth is each call's own: what an accepted one writes has no discharge where it is no deeper
 pub shallow-calm : (l : Lent) (a : Answer) (old new : List ℤ) → Gives (stepOf l) a old new → code a ≡ 0 → (i : ℕ) → i < cellsOf l
@@ -264,21 +249,20 @@ module _ (l : Lent) (a : Answer) (old new : List ℤ) (g : Gives (stepOf l) a ol
 module _ (bed : List ℤ) (n dx : ℕ) where
   -- the water balances with what the ends bring and take, to the unit
   pub water-balances : {s t : List ℤ} {a b : ℤ} → Calls bed n dx s t a b → water bed t n ≡ water bed s n +ℤ a -ℤ b
-  water-balances {s} {t} {a} {b} k =
-      water-is bed t dx n ∙ run-balanced (reachAt bed n dx) (run bed n dx k) ∙ ap (λ (x : ℤ). x +ℤ a -ℤ b) (sym (water-is bed s dx n))
+  water-balances k =
+      chain-balanced (AStep bed n dx) (λ t. water bed t n) (λ s m w v o. one-balanced bed n dx (o .0) s m w v (o .1)) (chain bed n dx k)
 
   -- no depth falls below nought: in the state that an accepted call is lent none is, nor in the state that it or a later one writes,
   pub none-below-next : {s t : List ℤ} {a b : ℤ} → Calls bed n dx s t a b → NoneBelow bed s n → NoneBelow bed t n
-  none-below-next {s} {t} k d =
-      none-below bed t dx n (depths (reachAt bed n dx) (cellIn n t) (run-wet (reachAt bed n dx) lawful (run bed n dx k) (wet bed s dx n d)))
+  none-below-next k d = chain-keeps (AStep bed n dx) (λ t. NoneBelow bed t n)
+      (λ s m w v o ok. one-written bed n dx (o .0) s m w v (o .1)) (chain bed n dx k) d
 
   module _ (s : List ℤ) (a : Answer) (w v : ℤ) (old m : List ℤ) (e : volumes a ≡ both w v) (c : Called bed n dx s a old m) where
     pub none-below-now : NoneBelow bed s n
-    none-below-now = none-below bed s dx n
-        (accepted-depths (reachAt bed n dx) lawful (callOf (lent c)) (cellIn n s) (one bed n dx s a w v old m e c .unstopped) .0)
+    none-below-now = one-now bed n dx (callOf (lent c)) s m w v (one bed n dx s a w v old m e c)
 
     pub none-below-written : NoneBelow bed m n
-    none-below-written = none-below-next (more s m m old a w v (pos 0) (pos 0) e c (none m)) none-below-now
+    none-below-written = one-written bed n dx (callOf (lent c)) s m w v (one bed n dx s a w v old m e c)
 
   abbrev Over : List ℤ → ℕ → Type 0
   Over t k = NoneBelow bed t k × Excess bed t k
@@ -300,14 +284,8 @@ module _ (bed : List ℤ) (n dx : ℕ) where
   -- a lake at rest into which no water is brought keeps every number of its table, and nothing crosses its ends
   pub lake-rests : {s t : List ℤ} {a b : ℤ} (k : Calls bed n dx s t a b) → NoInflow k → Lake bed s n
       → (t ≡ s) × (a ≡ pos 0) × (b ≡ pos 0)
-  lake-rests (none s) d k = (refl, refl, refl)
-  lake-rests (more s m t old x w v a b e c q) d k =
-      let o = one bed n dx s x w v old m e c in let r = reachAt bed n dx in
-      let z = accepted-rest r lawful (o .some) (callOf (lent c)) (cellIn n s) (o .unstopped) (record { left = d .0; right = d .1 })
-      (at-rest bed s dx n k) in
-      let same : m ≡ s = table-is n m (cellIn n s) (o .size) (λ i l. o .same i l ∙ z .0 i l) ∙ table-cells n s (o .now) in
-      let rest = lake-rests q (d .2) (subst (λ (y : List ℤ). Lake bed y n) (sym same) k) in
-      (rest .0 ∙ same, ap₂ _+ℤ_ (o .left ∙ z .1) (rest .1), ap₂ _+ℤ_ (o .right ∙ z .2) (rest .2))
+  lake-rests k d lake = chain-still (ShutStep bed n dx) (λ t. Lake bed t n)
+      (λ s m w v o. one-rests bed n dx (o .0) s m w v (o .2) (o .1)) (shut-chain bed n dx k d) lake
 
 -- ---- E9: the same reach, surveyed from the other end
 -- a call turned round has its cells, bed and friction from the last to the first, its level slopes and discharge means with their signs

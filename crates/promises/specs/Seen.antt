@@ -18,7 +18,7 @@ use Rattle.rules.specs.Refusals.{Check, each, ofCall, applies, off, stageChecks
 use Rattle.rules.specs.Lent.{Lent, cellsOf, reachOf, callOf, stateOf, misfits, stepOf}
 use Rattle.survey.specs.Turned.{turnedTable, turnedCall}
 use Rattle.step.specs.Gives.{lend, volumes, both, Gives}
-use Rattle.step.specs.declared.Answer.{Answer}
+use Rattle.reach.specs.declared.answer.Answer.{Answer}
 use Rattle.editor.specs.Told.{StepTold}
 
 -- entry j of a table

@@ -7,7 +7,7 @@ use lib.IntN.{ℤ, pos, _+ℤ_}
 use Rattle.rules.specs.Lent.{Lent}
 use Rattle.rules.specs.Sums.{Reading, makingOf, answered}
 use Rattle.step.specs.Gives.{code, volumes, both}
-use Rattle.step.specs.declared.Answer.{Answer}
+use Rattle.reach.specs.declared.answer.Answer.{Answer}
 use Rattle.sums.specs.Gives.{madeCode, MakingGives, asked, KeepingGives}
 use Rattle.sums.specs.declared.Made.{Made}
 use Rattle.sums.specs.declared.Amount.{Amount}

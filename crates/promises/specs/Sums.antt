@@ -27,7 +27,7 @@ use Rattle.rules.specs.Laws.Sums.{length-sums, between-water as rules-water}
 use Rattle.rules.specs.Laws.Questions.{sums-misfit, sums-fit, as-many, making-first, making-later, disordered, all-answered}
 use Rattle.rules.specs.Laws.Questions.{making-verdict, by-number, question-verdict, by-refusal, unkept, kept-step}
 use Rattle.step.specs.Gives.{code, placed, Gives, answer, leaves}
-use Rattle.step.specs.declared.Answer.{Answer}
+use Rattle.reach.specs.declared.answer.Answer.{Answer}
 use Rattle.sums.specs.Gives.{madeCode, asked, questionCode, madeAnswer, madeLeaves, MakingGives, KeepingGives}
 use Rattle.sums.specs.Gives.{one-making, one-amount, one-keeping}
 use Rattle.sums.specs.Answered.{asked-few}
@@ -37,7 +37,8 @@ use Rattle.promises.specs.Seen.{FirstMet, meanBed, meanDepth, total, wat
 use Rattle.promises.specs.SeenSums.{waterBetween, MadeFrom, by-making, by-step, Answers}
 use Rattle.promises.specs.SeenSums.{CallsKeeping, none-kept, more-kept}
 use Rattle.promises.specs.First.{first-verdict, verdict-first}
-use Rattle.promises.specs.Outcomes.{coded, volumes-code, accepted-table}
+use Rattle.promises.specs.ByChecks.{volumes-code}
+use Rattle.promises.specs.Outcomes.{coded, accepted-table}
 use Rattle.promises.specs.Promises as page
 
 -- ---- demand 1: one answer, and one content of each table

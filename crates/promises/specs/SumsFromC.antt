@@ -16,7 +16,7 @@ use Rattle.rules.specs.Sums.{blocksOf, sumsOf, Making, makingOf, makingChecks, 
 use Rattle.rules.specs.Sums.{questionChecks, keepingOf}
 use Rattle.rules.specs.Laws.Questions.{sums-fit, kept-step}
 use Rattle.step.specs.Gives.{code, volumes, both, answer}
-use Rattle.step.specs.declared.Answer.{Answer}
+use Rattle.reach.specs.declared.answer.Answer.{Answer}
 use Rattle.sums.specs.Gives.{madeCode, madeAnswer, MakingGives, asked, questionCode, KeepingGives}
 use Rattle.sums.specs.declared.Made.{Made}
 use Rattle.sums.specs.declared.Amount.{Amount}

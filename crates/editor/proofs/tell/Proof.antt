@@ -6,7 +6,7 @@ use borrow.Author.Needs.{needs}
 use Rattle.whole.specs.Machine.{back}
 use Rattle.rules.specs.Limits.{mostCells}
 use Rattle.step.specs.Gives.{placed}
-use Rattle.step.specs.declared.Answer.{Answer}
+use Rattle.reach.specs.declared.answer.Answer.{Answer}
 use Rattle.editor.specs.Told.{refused-told, accepted-told}
 use Rattle.editor.proofs.tell.Statement.{statement}
 use Rattle.editor.proofs.tell.Tie as tie
