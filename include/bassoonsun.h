@@ -1,5 +1,5 @@
-/* One step of shallow flow along a straight reach of equal cells, the water between two of its faces, and the flux
- * at one face.
+/* One step of shallow flow along a straight reach of equal cells, over a continuous bed or over one
+ * that steps up and down between them; the water between two faces; and the flux at one face.
  *
  * Built by `make` as target/libbassoonsun.a (x86-64, System V calling convention); it needs nothing
  * of the C library but memcpy and memset. examples/leat.c shows its use, and
@@ -37,8 +37,8 @@ extern "C" {
  * third with all else. */
 #define BASSOONSUN_VERSION_MAJOR 0
 #define BASSOONSUN_VERSION_MINOR 1
-#define BASSOONSUN_VERSION_PATCH 1
-#define BASSOONSUN_VERSION "0.1.1"
+#define BASSOONSUN_VERSION_PATCH 2
+#define BASSOONSUN_VERSION "0.1.2"
 
 /* So many units are one metre, second, m/s or m2/s, and so many cells a reach has at most. */
 #define BASSOONSUN_UNIT 4096
@@ -53,16 +53,17 @@ extern "C" {
 enum bassoonsun_end {
     BASSOONSUN_WALL = 0,
     BASSOONSUN_OPEN = 1, /* the water outside is as deep and as fast as that at the end face */
-    BASSOONSUN_INFLOW = 2 /* a given discharge comes in */
+    BASSOONSUN_INFLOW = 2 /* a given discharge comes in; not of bassoonsun_sill_step */
 };
 
-/* What a step answers, or a call of the sums: that it is accepted, or why it is refused. bassoonsun_step says more of
- * each, below, and bassoonsun_between of the last. The faces and the root answer with numbers of their own. */
+/* What a step answers, or a call of the sums: that it is accepted, or why it is refused. bassoonsun_step and
+ * bassoonsun_sill_step say more of each, below, and bassoonsun_between of the last. The faces and the root answer with
+ * numbers of their own. */
 enum bassoonsun_refusal {
     BASSOONSUN_ACCEPTED = 0,
     BASSOONSUN_TABLES_MISFIT = 1,
     BASSOONSUN_NUMBER_OUT_OF_RANGE = 2,
-    BASSOONSUN_BED_OUT_OF_RANGE = 3, /* or odd */
+    BASSOONSUN_BED_OUT_OF_RANGE = 3, /* or odd, which a stepped bed may be */
     BASSOONSUN_FRICTION_OUT_OF_RANGE = 4,
     BASSOONSUN_STATE_OUT_OF_RANGE = 5,
     BASSOONSUN_WATER_TOO_FAST = 6,
@@ -78,7 +79,7 @@ static inline const char *bassoonsun_refusal_text(uint32_t refusal)
     case BASSOONSUN_ACCEPTED: return "accepted";
     case BASSOONSUN_TABLES_MISFIT: return "the tables do not fit each other";
     case BASSOONSUN_NUMBER_OUT_OF_RANGE: return "dx, dt, J, the dry depth, an end's kind or its Q is out of range";
-    case BASSOONSUN_BED_OUT_OF_RANGE: return "the bed is out of range or odd";
+    case BASSOONSUN_BED_OUT_OF_RANGE: return "the bed is out of range, or odd where it is continuous";
     case BASSOONSUN_FRICTION_OUT_OF_RANGE: return "the friction value is over 200";
     case BASSOONSUN_STATE_OUT_OF_RANGE: return "a depth or a discharge of the present state is out of range";
     case BASSOONSUN_WATER_TOO_FAST: return "the water is faster than 32 m/s";
@@ -281,6 +282,80 @@ static inline uint32_t bassoonsun_step_sums_call(const int32_t *now, size_t now_
     return bassoonsun_step_sums(now, now_len, next, next_len, bed, bed_len, friction, friction_len, sums, sums_len,
                                 call.dx, call.dt, call.jump, call.dry, call.left, call.right, call.left_q, call.right_q,
                                 volumes, place);
+}
+
+/* A STEPPED BED. The wall of a weir and the sill of a lock stand upright. The bed of bassoonsun_step does so nowhere:
+ * it is continuous, sloping through each cell and running on into the next. Here a cell has one bed value, one level
+ * and one discharge, and between two cells the bed steps up or down by whatever their values differ. At a face the
+ * higher of the two beds counts: a cell shows there the depth of its level over that bed, and none where the level is
+ * lower; its speed is that of its own depth. So water that is lower than a sill beside it stays behind it, and what
+ * crosses the sill is what stands over it. The scheme is of first order, in one stage, and smears a wave more than
+ * bassoonsun_step does over the same cells.
+ *
+ * One step of it. Gives BASSOONSUN_ACCEPTED, 0, when the step is accepted, else the number of its refusal. The number
+ * of cells n is friction_len, 1 to BASSOONSUN_MOST_CELLS, 1024. Cell i lies between faces i and i + 1.
+ *
+ *   now       2n numbers, the present state, in two columns of n: the levels, now[0] to now[n - 1], and the
+ *             discharges, from now[n] on. The depth of cell i is now[i] - bed[i]: 0 to 262144 (64 m). A discharge is
+ *             within 8388608 of nought (2048 m2/s)
+ *   next      2n numbers, where the new state goes, laid out like now
+ *   bed       n numbers, the bed of each cell: 0 to 1048576 (256 m), odd or even
+ *   friction  n Manning values in 1/1000, 0 to 200
+ *   dx        length of a cell, 1 to 1048576 (256 m)
+ *   dt        time step, 1 to 4096 (1 s): see HOW LONG A TIME STEP, above
+ *   dry       the dry depth, 1 to 64 (0.24 mm to 15.6 mm): water no deeper has no speed, is not slowed by friction, and
+ *             has no discharge at the end of the step. It may be another in each step
+ *   left      kind of the left end: BASSOONSUN_WALL, 0, or BASSOONSUN_OPEN, 1; there is no inflow. The cell shows all
+ *             of its depth there
+ *   right     kind of the right end, likewise
+ *   volumes   what crossed face 0 and what crossed face n, rightward positive, as depth over one cell: volumes[0] came
+ *             in at the left, volumes[1] went out at the right. At a wall it is 0
+ *   place     where a refused step was refused: see below. It is written by every call, with 0 when the step is
+ *             accepted
+ *
+ * When 0 is given, all of next and both volumes are written, and the sum of the n depths of next is that of
+ * now + volumes[0] - volumes[1], exactly. Where there is no discharge, and at each inner face both cells show one
+ * depth, next is now: so is a lake over sills and around islands, and so are pools of other levels that dry ground
+ * parts.
+ *
+ * After a refusal next and volumes hold what they held before. The checks are made in this order, each over the whole
+ * reach, and the first that applies is given; place is the lowest cell or face to which it applies, counted from 0:
+ *
+ *   1  the tables do not fit each other: friction_len is 0 or over 1024, or now_len or next_len is not 2n, or bed_len
+ *      is not n. Place 0
+ *   2  dx, dt, dry, left or right is outside its range; so is an end of kind 2. Place 0
+ *   3  a bed value is out of range; an odd one is not. Place: its cell, 0 to n - 1
+ *   4  a friction value is over 200. Place: its cell
+ *   5  the present state has a depth or a discharge out of range. Place: the cell
+ *   6  the water of a cell that is deeper than the dry depth is faster than 32 m/s, before friction. Place: the cell.
+ *      (After friction the speeds at the faces are held to the same, with the face as the place; but friction makes no
+ *      water faster, so none is refused there)
+ *   7  the time step is too long for the top speed S at some face: 2*dt*S is over 4096*dx. Halve dt, say, and make the
+ *      same call again. Place: the face, 0 to n
+ *   8  at the end of the step a depth or a discharge is too large. It is never a depth below nought, and not a
+ *      discharge that the dry depth takes away. Place: the cell
+ *
+ * Face i lies i*dx from the left end, and cell i begins there; so place*dx is where to look.
+ *
+ * Lend a worker thread that calls it with long reaches 512 KiB of stack here too. */
+uint32_t bassoonsun_sill_step(const int32_t *now, size_t now_len, int32_t *next, size_t next_len,
+                              const int32_t *bed, size_t bed_len, const uint16_t *friction, size_t friction_len,
+                              uint32_t dx, uint32_t dt, uint32_t dry, uint32_t left, uint32_t right,
+                              int64_t volumes[2], uint32_t place[1]);
+
+/* The numbers of one such step, to be filled by name, as struct bassoonsun_call is. */
+struct bassoonsun_sill_call {
+    uint32_t dx, dt, dry, left, right;
+};
+
+/* bassoonsun_sill_step with its numbers from a struct; all that is said there holds. */
+static inline uint32_t bassoonsun_sill_step_call(const int32_t *now, size_t now_len, int32_t *next, size_t next_len,
+                                                 const int32_t *bed, size_t bed_len, const uint16_t *friction,
+                                                 size_t friction_len, struct bassoonsun_sill_call call,
+                                                 int64_t volumes[2], uint32_t place[1])
+{
+    return bassoonsun_sill_step(now, now_len, next, next_len, bed, bed_len, friction, friction_len, call.dx, call.dt,
+                                call.dry, call.left, call.right, volumes, place);
 }
 
 /* What crosses one face between water of depth hl and speed ul on its left and of depth hr and

@@ -5,7 +5,8 @@
  * an accepted one keeps the water, takes in what is given at an end of kind 2 and leaves the sums of the new
  * state. Every step is made with its numbers in a row and again with them filled by name, both without sums
  * and with them, and each with what is particular in it at one spot: the first index, the middle one, the
- * last. On the same tables sums are made and questions asked. The last line is 'N passed, M failed'. */
+ * last. On the same tables sums are made and questions asked. The step over a stepped bed is tried likewise, on
+ * tables of its own. The last line is 'N passed, M failed'. */
 #define _DEFAULT_SOURCE
 #include "fence.h"
 #include <bassoonsun.h>
@@ -32,6 +33,7 @@ typedef struct {
     const char *what;
     uint32_t due;
     enum place place;
+    int stepped;                            /* whether the bed is, with a value a cell: there are then two columns */
     int now_more, next_more, bed_more;      /* elements over what fits n */
     int sums_more;                          /* the same of the sums: the call is then made with sums only */
     uint32_t dx, dt, jump, dry, left, right, left_q, right_q;
@@ -49,13 +51,18 @@ typedef struct {
     size_t spot_cell, spot_face;
 } Lent;
 
-/* Number i of a state: level means, level slopes, discharge means, discharge slopes. */
+/* How many columns a state has, and how many values the bed of n cells. */
+static size_t columns(const Call *c) { return c->stepped ? 2 : 4; }
+
+static size_t bed_values(const Call *c, size_t n) { return c->stepped ? n : n + 1; }
+
+/* Number i of a state: level means, level slopes, discharge means, discharge slopes; over a stepped bed no slopes. */
 static int32_t number(size_t i, const Lent *t, const Call *c)
 {
     const int32_t spot[] = {c->spot_level, c->spot_level_slope, c->spot_discharge, c->spot_discharge_slope};
     size_t column = i / t->n, cell = i % t->n;
-    if (column < 4 && cell == t->spot_cell)
-        return spot[column];
+    if (column < columns(c) && cell == t->spot_cell)
+        return spot[c->stepped ? 2 * column : column];
     return column > 0 ? 0 : cell < 4 ? 3 * METRE / 2 : 5 * METRE / 4;
 }
 
@@ -88,8 +95,9 @@ static size_t spot_of(size_t count, int spot)
 
 static Lent lend(const Call *c, size_t n, int spot, int at_end)
 {
-    Lent t = {.n = n, .spot_cell = spot_of(n, spot), .spot_face = spot_of(n + 1, spot)};
-    t.now_len = 4 * n + c->now_more, t.next_len = 4 * n + c->next_more, t.bed_len = n + 1 + c->bed_more;
+    Lent t = {.n = n, .spot_cell = spot_of(n, spot), .spot_face = spot_of(bed_values(c, n), spot)};
+    t.now_len = columns(c) * n + c->now_more, t.next_len = columns(c) * n + c->next_more;
+    t.bed_len = bed_values(c, n) + c->bed_more;
     t.sums_len = BASSOONSUN_SUMS(n) + c->sums_more;
     t.now = fence(t.now_len * sizeof(int32_t), at_end);
     t.next = fence(t.next_len * sizeof(int32_t), at_end);
@@ -174,8 +182,21 @@ static uint32_t make_step_with_sums(const Lent *t, const Call *c, struct bassoon
                                 c->left, c->right, c->left_q, c->right_q, t->volumes.first, t->place.first);
 }
 
+static uint32_t make_sill_step(const Lent *t, const Call *c, int by_name)
+{
+    struct bassoonsun_sill_call call = {.dx = c->dx, .dt = c->dt, .dry = c->dry, .left = c->left, .right = c->right};
+    if (by_name)
+        return bassoonsun_sill_step_call(t->now.first, t->now_len, t->next.first, t->next_len, t->bed.first, t->bed_len,
+                                         t->friction.first, t->n, call, t->volumes.first, t->place.first);
+    return bassoonsun_sill_step(t->now.first, t->now_len, t->next.first, t->next_len, t->bed.first, t->bed_len,
+                                t->friction.first, t->n, c->dx, c->dt, c->dry, c->left, c->right,
+                                t->volumes.first, t->place.first);
+}
+
 static uint32_t make_step(const Lent *t, const Call *c, int by_name, int with_sums)
 {
+    if (c->stepped)
+        return make_sill_step(t, c, by_name);
     struct bassoonsun_call call = {.dx = c->dx, .dt = c->dt, .jump = c->jump, .dry = c->dry, .left = c->left,
                                    .right = c->right, .left_q = c->left_q, .right_q = c->right_q};
     if (with_sums)
@@ -257,12 +278,14 @@ static void try_sums(const Call *c, size_t n, int spot, int at_end)
     give_back(&t);
 }
 
+/* There are no sums of a reach with a stepped bed. */
 static void try_call_at(const Call *c, size_t n, int spot, int at_end)
 {
     for (int by_name = 0; by_name <= 1; by_name++)
-        for (int with_sums = c->sums_more != 0; with_sums <= 1; with_sums++)
+        for (int with_sums = c->sums_more != 0; with_sums <= !c->stepped; with_sums++)
             try_step(c, n, spot, at_end, by_name, with_sums);
-    try_sums(c, n, spot, at_end);
+    if (!c->stepped)
+        try_sums(c, n, spot, at_end);
 }
 
 static void try_call(const Call *c, size_t n, int at_end)
@@ -363,6 +386,53 @@ static const Call calls[] = {
      .right = BASSOONSUN_INFLOW, .right_q = 100000},
 };
 
+/* Over a stepped bed: what of the list above is said of it too, with one kind of end less; and a bed that is odd, or
+ * stands out of the water. */
+#define SILL GOOD, .stepped = 1
+
+static const Call sills[] = {
+    {SILL, .what = "sill: accepted", .due = BASSOONSUN_ACCEPTED},
+    {SILL, .what = "sill: accepted, ends the other way", .due = BASSOONSUN_ACCEPTED, .left = BASSOONSUN_OPEN,
+     .right = BASSOONSUN_WALL},
+    {SILL, .what = "sill: accepted, dry depth 1", .due = BASSOONSUN_ACCEPTED, .dry = 1},
+    {SILL, .what = "sill: accepted, dry depth 64", .due = BASSOONSUN_ACCEPTED, .dry = 64},
+    {SILL, .what = "sill: accepted, odd bed", .due = BASSOONSUN_ACCEPTED, .spot_bed = 127},
+    {SILL, .what = "sill: accepted, an island", .due = BASSOONSUN_ACCEPTED, .spot_bed = 1048575, .spot_level = 1048575},
+    {SILL, .what = "sill: accepted, dry ground with the greatest discharge", .due = BASSOONSUN_ACCEPTED,
+     .spot_bed = 1048576, .spot_level = 1048576, .spot_discharge = 8388608},
+    {SILL, .what = "sill: now too long", .due = BASSOONSUN_TABLES_MISFIT, .now_more = 1},
+    {SILL, .what = "sill: now too short", .due = BASSOONSUN_TABLES_MISFIT, .now_more = -1},
+    {SILL, .what = "sill: next too long", .due = BASSOONSUN_TABLES_MISFIT, .next_more = 1},
+    {SILL, .what = "sill: next too short", .due = BASSOONSUN_TABLES_MISFIT, .next_more = -1},
+    {SILL, .what = "sill: bed too long", .due = BASSOONSUN_TABLES_MISFIT, .bed_more = 1},
+    {SILL, .what = "sill: bed too short", .due = BASSOONSUN_TABLES_MISFIT, .bed_more = -1},
+    {SILL, .what = "sill: dx 0", .due = BASSOONSUN_NUMBER_OUT_OF_RANGE, .dx = 0},
+    {SILL, .what = "sill: dx too large", .due = BASSOONSUN_NUMBER_OUT_OF_RANGE, .dx = 1048577},
+    {SILL, .what = "sill: dt 0", .due = BASSOONSUN_NUMBER_OUT_OF_RANGE, .dt = 0},
+    {SILL, .what = "sill: dt too large", .due = BASSOONSUN_NUMBER_OUT_OF_RANGE, .dt = 4097},
+    {SILL, .what = "sill: dry depth 0", .due = BASSOONSUN_NUMBER_OUT_OF_RANGE, .dry = 0},
+    {SILL, .what = "sill: dry depth 65", .due = BASSOONSUN_NUMBER_OUT_OF_RANGE, .dry = 65},
+    {SILL, .what = "sill: dry depth 4294967295", .due = BASSOONSUN_NUMBER_OUT_OF_RANGE, .dry = UINT32_MAX},
+    {SILL, .what = "sill: left end 2", .due = BASSOONSUN_NUMBER_OUT_OF_RANGE, .left = BASSOONSUN_INFLOW},
+    {SILL, .what = "sill: right end 2", .due = BASSOONSUN_NUMBER_OUT_OF_RANGE, .right = BASSOONSUN_INFLOW},
+    {SILL, .what = "sill: left end 4294967295", .due = BASSOONSUN_NUMBER_OUT_OF_RANGE, .left = UINT32_MAX},
+    {SILL, .what = "sill: bed below nought", .due = BASSOONSUN_BED_OUT_OF_RANGE, .place = AT_BED, .spot_bed = -1},
+    {SILL, .what = "sill: bed too high", .due = BASSOONSUN_BED_OUT_OF_RANGE, .place = AT_BED, .spot_bed = 1048577},
+    {SILL, .what = "sill: friction 201", .due = BASSOONSUN_FRICTION_OUT_OF_RANGE, .place = AT_CELL,
+     .spot_friction = 201},
+    {SILL, .what = "sill: level below the bed", .due = BASSOONSUN_STATE_OUT_OF_RANGE, .place = AT_CELL,
+     .spot_level = 127},
+    {SILL, .what = "sill: level too high", .due = BASSOONSUN_STATE_OUT_OF_RANGE, .place = AT_CELL,
+     .spot_level = 128 + 262145},
+    {SILL, .what = "sill: discharge too large", .due = BASSOONSUN_STATE_OUT_OF_RANGE, .place = AT_CELL,
+     .spot_discharge = 8388609},
+    {SILL, .what = "sill: water too fast", .due = BASSOONSUN_WATER_TOO_FAST, .place = AT_CELL,
+     .spot_discharge = 8388608},
+    {SILL, .what = "sill: time step too long", .due = BASSOONSUN_TIME_STEP_TOO_LONG, .place = AT_0, .dt = 4096},
+    {SILL, .what = "sill: time step too long at the spot", .due = BASSOONSUN_TIME_STEP_TOO_LONG, .place = AT_CELL,
+     .spot_discharge = 60000},
+};
+
 /* The faces and the root. Their tables are fenced too, and change only where 0 is given. */
 static void try_faces(int at_end)
 {
@@ -390,12 +460,18 @@ int main(void)
 {
     static const size_t cells[] = {1, 2, 16, 17, BASSOONSUN_MOST_CELLS};
     static const Call good = {GOOD, .what = "too many cells or none", .due = BASSOONSUN_TABLES_MISFIT};
+    static const Call sill = {SILL, .what = "sill: too many cells or none", .due = BASSOONSUN_TABLES_MISFIT};
     for (int at_end = 0; at_end <= 1; at_end++) {
-        for (size_t k = 0; k < sizeof cells / sizeof *cells; k++)
+        for (size_t k = 0; k < sizeof cells / sizeof *cells; k++) {
             for (size_t c = 0; c < sizeof calls / sizeof *calls; c++)
                 try_call(&calls[c], cells[k], at_end);
+            for (size_t c = 0; c < sizeof sills / sizeof *sills; c++)
+                try_call(&sills[c], cells[k], at_end);
+        }
         try_call(&good, 0, at_end);
         try_call(&good, BASSOONSUN_MOST_CELLS + 1, at_end);
+        try_call(&sill, 0, at_end);
+        try_call(&sill, BASSOONSUN_MOST_CELLS + 1, at_end);
         try_faces(at_end);
     }
     printf("%d passed, %d failed\n", passed, failed);

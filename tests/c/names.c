@@ -23,6 +23,7 @@ static void check(int good, const char *what)
 typedef struct {
     size_t cells;
     struct bassoonsun_call call;
+    struct bassoonsun_sill_call sill;
     int32_t now[4 * ROOM], next[4 * ROOM], bed[ROOM + 1], sums[BASSOONSUN_SUMS(ROOM)];
     uint16_t friction[ROOM];
     int64_t volumes[2], answer[3];
@@ -95,6 +96,36 @@ static uint32_t ask(uint32_t a, uint32_t b, size_t more)
     size_t n = lent.cells;
     return bassoonsun_between(lent.now, 4 * n, lent.bed, n + 1, lent.sums, BASSOONSUN_SUMS(n) + more, a, b,
                               lent.answer);
+}
+
+/* The same water over a stepped bed, a sill of a quarter of a metre in its middle, and the step there in both ways. */
+static void make_good_sill(size_t cells)
+{
+    make_good(cells);
+    for (size_t i = 0; i < cells; i++) {
+        lent.now[cells + i] = BASSOONSUN_UNIT / 10;
+        lent.now[2 * cells + i] = 0;
+    }
+    lent.bed[cells / 2] = BASSOONSUN_UNIT / 4;
+    lent.sill.dx = lent.call.dx;
+    lent.sill.dt = lent.call.dt;
+    lent.sill.dry = lent.call.dry;
+    lent.sill.left = lent.sill.right = BASSOONSUN_WALL;
+}
+
+static uint32_t sill_step(void)
+{
+    size_t n = lent.cells;
+    return bassoonsun_sill_step_call(lent.now, 2 * n, lent.next, 2 * n, lent.bed, n, lent.friction, n, lent.sill,
+                                     lent.volumes, &lent.place);
+}
+
+static uint32_t sill_step_in_a_row(void)
+{
+    size_t n = lent.cells;
+    const struct bassoonsun_sill_call *c = &lent.sill;
+    return bassoonsun_sill_step(lent.now, 2 * n, lent.next, 2 * n, lent.bed, n, lent.friction, n, c->dx, c->dt, c->dry,
+                                c->left, c->right, lent.volumes, &lent.place);
 }
 
 /* How many sums there are of any number of cells, and where a block ends. */
@@ -217,6 +248,60 @@ static void check_refusals(void)
     }
 }
 
+/* The same over a stepped bed. An odd one is in order there, and an inflow is not. */
+static void spoil_sill(uint32_t refusal)
+{
+    make_good_sill(refusal == BASSOONSUN_TABLES_MISFIT ? 0 : CELLS);
+    switch (refusal) {
+    case BASSOONSUN_ACCEPTED: lent.bed[2] = 1; break;
+    case BASSOONSUN_NUMBER_OUT_OF_RANGE: lent.sill.left = BASSOONSUN_INFLOW; break;
+    case BASSOONSUN_BED_OUT_OF_RANGE: lent.bed[2] = 256 * BASSOONSUN_UNIT + 1; break;
+    case BASSOONSUN_FRICTION_OUT_OF_RANGE: lent.friction[2] = 201; break;
+    case BASSOONSUN_STATE_OUT_OF_RANGE: lent.now[2] = lent.bed[2] - 1; break;
+    case BASSOONSUN_WATER_TOO_FAST: lent.now[CELLS + 2] = 40 * BASSOONSUN_UNIT; break;
+    case BASSOONSUN_TIME_STEP_TOO_LONG: lent.sill.dt = BASSOONSUN_UNIT; break;
+    case BASSOONSUN_RESULT_TOO_LARGE: /* 64 m of water in one cell, and the one beside it runs there */
+        for (int i = 0; i < CELLS; i++) {
+            lent.now[i] = 64 * BASSOONSUN_UNIT;
+            lent.now[CELLS + i] = i == 1 ? 16 * BASSOONSUN_UNIT : 0;
+            lent.bed[i] = i == 2 ? 0 : BASSOONSUN_UNIT;
+        }
+        lent.sill.dt = BASSOONSUN_UNIT / 100;
+        break;
+    default: break;
+    }
+}
+
+/* What of a refusal is written over a stepped bed: its place alone, which is the cell that was spoilt. */
+static int told_of_sill(uint32_t refusal)
+{
+    int of_a_cell = refusal >= BASSOONSUN_BED_OUT_OF_RANGE && refusal != BASSOONSUN_TIME_STEP_TOO_LONG;
+    return lent.place == (of_a_cell ? 2u : 0u) && (refusal == BASSOONSUN_ACCEPTED) == (lent.volumes[0] != MARK);
+}
+
+static void check_sills(void)
+{
+    for (uint32_t refusal = BASSOONSUN_ACCEPTED; refusal <= BASSOONSUN_RESULT_TOO_LARGE; refusal++) {
+        spoil_sill(refusal);
+        check(sill_step() == refusal, bassoonsun_refusal_text(refusal));
+        check(told_of_sill(refusal), "what is written over a stepped bed");
+        spoil_sill(refusal);
+        check(sill_step_in_a_row() == refusal, bassoonsun_refusal_text(refusal));
+        check(told_of_sill(refusal), "what is written over a stepped bed, its numbers in a row");
+    }
+    make_good_sill(BASSOONSUN_MOST_CELLS);
+    check(sill_step() == BASSOONSUN_ACCEPTED, "the most cells are accepted over a stepped bed");
+    make_good_sill(BASSOONSUN_MOST_CELLS + 1);
+    check(sill_step() == BASSOONSUN_TABLES_MISFIT, "one cell more is refused over a stepped bed");
+    make_good_sill(CELLS);
+    check(sill_step() == BASSOONSUN_ACCEPTED && lent.volumes[0] == 0 && lent.volumes[1] == 0,
+          "nothing crosses a wall over a stepped bed");
+    make_good_sill(CELLS);
+    lent.sill.right = BASSOONSUN_OPEN;
+    check(sill_step() == BASSOONSUN_ACCEPTED && lent.volumes[0] == 0 && lent.volumes[1] > 0,
+          "water leaves by an open end over a stepped bed");
+}
+
 /* Of every number that a call answers a text of its own, and one for all others, of which the first is 9. */
 static void check_texts(void)
 {
@@ -248,6 +333,7 @@ int main(void)
     check_unit();
     check_ends();
     check_refusals();
+    check_sills();
     check_texts();
     check_version();
     printf("%d passed, %d failed\n", passed, failed);

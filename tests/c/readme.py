@@ -130,9 +130,10 @@ def plain(code):
 def declarations_hold():
     """Each declaration that README shows, in the header or in the crates."""
     declared, header = plain(fenced(FROM_C, "c")[1]).split(";")[:-1], plain(text_of("include", "bassoonsun.h"))
-    case(len(declared) == 5 and all(each.strip() + ";" in header for each in declared),
+    case(len(declared) == 6 and all(each.strip() + ";" in header for each in declared),
          "README: declarations of the header")
-    code = plain(text_of("crates", "step", "src", "lib.rt")) + plain(text_of("crates", "reach", "src", "lib.rt"))
+    sources = (("step", "lib.rt"), ("reach", "lib.rt"), ("reach", "answer.rt"))
+    code = "".join(plain(text_of("crates", crate, "src", file)) for crate, file in sources)
     items = plain(fenced(section("Calling it from Rattle"), "rust")[0])
     loose = [re.sub(r"[\s,]", "", each) for each in re.split(r" (?=pub (?:enum|struct|fn) )", items)]
     case(len(loose) == 4 and all(each in re.sub(r"[\s,]", "", code) for each in loose), "README: declarations of the crates")

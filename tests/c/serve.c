@@ -1,6 +1,6 @@
 /* Makes the calls that compare.py asks for, and tells it what they gave:
  *
- *     serve step|step_sums|sums|between|face|double|root end|start <calls >answers
+ *     serve step|step_sums|sums|between|sill_step|face|double|root end|start <calls >answers
  *
  * All numbers are little-endian, as the library's x86-64 has them. A call of
  *
@@ -9,6 +9,8 @@
  *   step_sums  is the same, with the length of sums as a thirteenth u32
  *   sums       is three u32: the lengths of state, bed and sums; then the numbers of state and bed
  *   between    is five u32: the lengths of state, bed and sums, then a and b; then the numbers of all three
+ *   sill_step  is nine u32: the lengths of now, next, bed and friction, then dx, dt, dry, left and right;
+ *              then the numbers of now, bed and friction
  *   face       is four i64: the depth and the speed on the left, then those on the right
  *   double     is four doubles, likewise
  *   root       is one double
@@ -145,6 +147,30 @@ static void serve_questions(int at_end)
     }
 }
 
+static void serve_sill_steps(int at_end)
+{
+    struct {
+        uint32_t now_len, next_len, bed_len, friction_len, dx, dt, dry, left, right;
+    } c;
+    while (take(&c, sizeof c)) {
+        Fenced now = lent(c.now_len * sizeof(int32_t), at_end);
+        Fenced bed = lent(c.bed_len * sizeof(int32_t), at_end);
+        Fenced friction = lent(c.friction_len * sizeof(uint16_t), at_end);
+        Fenced next = marked(c.next_len * sizeof(int32_t), at_end);
+        Fenced volumes = marked(2 * sizeof(int64_t), at_end);
+        Fenced place = marked(sizeof(uint32_t), at_end);
+        uint32_t answer = bassoonsun_sill_step(now.first, c.now_len, next.first, c.next_len,
+                                               bed.first, c.bed_len, friction.first, c.friction_len,
+                                               c.dx, c.dt, c.dry, c.left, c.right, volumes.first, place.first);
+        give(&answer, sizeof answer);
+        give(place.first, sizeof(uint32_t));
+        give(next.first, c.next_len * sizeof(int32_t));
+        give(volumes.first, 2 * sizeof(int64_t));
+        fflush(stdout);
+        unfence(now), unfence(bed), unfence(friction), unfence(next), unfence(volumes), unfence(place);
+    }
+}
+
 static void serve_faces(int at_end)
 {
     Fenced flux = fence(4 * sizeof(int64_t), at_end);
@@ -192,6 +218,7 @@ static const struct {
     {"step_sums", serve_steps_with_sums},
     {"sums", serve_sums},
     {"between", serve_questions},
+    {"sill_step", serve_sill_steps},
     {"face", serve_faces},
     {"double", serve_double_faces},
     {"root", serve_roots},
@@ -206,6 +233,6 @@ int main(int count, char **words)
                 kinds[k].serve(at_end);
                 return fflush(stdout) != 0;
             }
-    fprintf(stderr, "usage: serve step|step_sums|sums|between|face|double|root end|start <calls >answers\n");
+    fprintf(stderr, "usage: serve step|step_sums|sums|between|sill_step|face|double|root end|start <calls >answers\n");
     return 2;
 }

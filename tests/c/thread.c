@@ -1,9 +1,9 @@
-/* Measures the stack that a step takes, without sums and with them, of a short reach and of the longest, and what
- * making the sums and a question take, on threads of 512 KiB as an editor's worker thread has. What a thread library
- * keeps on a stack differs, so it is not the smallest stack that is sought: what lies below the frame of the function
- * that makes the call is filled with a pattern beforehand, and after the call all is counted from the lowest word that
- * has changed up to that frame. A call that takes more than the whole stack runs into an untouchable page and ends the
- * program. The last line is 'N passed, M failed'. */
+/* Measures the stack that a step takes, without sums, with them and over a stepped bed, of a short reach and of the
+ * longest, and what making the sums and a question take, on threads of 512 KiB as an editor's worker thread has. What a
+ * thread library keeps on a stack differs, so it is not the smallest stack that is sought: what lies below the frame of
+ * the function that makes the call is filled with a pattern beforehand, and after the call all is counted from the
+ * lowest word that has changed up to that frame. A call that takes more than the whole stack runs into an untouchable
+ * page and ends the program. The last line is 'N passed, M failed'. */
 #define _DEFAULT_SOURCE
 #include "fence.h"
 #include <bassoonsun.h>
@@ -37,6 +37,13 @@ static uint32_t step_with_sums(size_t n)
 {
     return bassoonsun_step_sums(now, 4 * n, next, 4 * n, bed, n + 1, friction, n, sums, BASSOONSUN_SUMS(n), 4096, 204,
                                 64, 4, BASSOONSUN_INFLOW, BASSOONSUN_OPEN, 4096, 0, volumes, place);
+}
+
+/* The levels are the first column of either state, and the second is 0. */
+static uint32_t sill_step(size_t n)
+{
+    return bassoonsun_sill_step(now, 2 * n, next, 2 * n, bed, n, friction, n, 4096, 204, 4, BASSOONSUN_WALL,
+                                BASSOONSUN_OPEN, volumes, place);
 }
 
 static uint32_t make_sums(size_t n)
@@ -107,6 +114,8 @@ static const struct {
     {"a step", step, MOST_CELLS, STACK},
     {"a step with sums", step_with_sums, SHORT_CELLS, SHORT_MOST},
     {"a step with sums", step_with_sums, MOST_CELLS, STACK},
+    {"a step over a stepped bed", sill_step, SHORT_CELLS, SHORT_MOST},
+    {"a step over a stepped bed", sill_step, MOST_CELLS, STACK},
     {"the sums", make_sums, MOST_CELLS, NO_TABLES_MOST},
     {"a question", ask, MOST_CELLS, NO_TABLES_MOST},
 };
@@ -121,9 +130,9 @@ static int try_call(size_t k)
     if (trial.call != ask)
         sums[0] = 0;
     run_thread(&trial);
-    int steps = trial.call == step || trial.call == step_with_sums;
-    int written = trial.call == ask ? answer[2] != 0
-                                    : (!steps || next[0] != 0) && (trial.call == step || sums[0] != 0);
+    int steps = trial.call == step || trial.call == step_with_sums || trial.call == sill_step;
+    int keeps = trial.call == step_with_sums || trial.call == make_sums;
+    int written = trial.call == ask ? answer[2] != 0 : (!steps || next[0] != 0) && (!keeps || sums[0] != 0);
     int passed = trial.refusal == BASSOONSUN_ACCEPTED && written && trial.taken < tried[k].most;
     printf("%s  %s of %zu cells, answer %u: %.1f KiB of stack, under %zu wanted\n", passed ? "passed" : "FAILED",
            tried[k].what, trial.cells, (unsigned)trial.refusal, (double)trial.taken / KIB, tried[k].most / KIB);

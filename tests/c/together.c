@@ -1,7 +1,8 @@
 /* Two threads step two reaches at the same time, a short one and one that is worked on the long tables, with refusals
  * among the steps, and ask after each for the water between two faces. In half of the turns the step keeps the sums,
- * else they are made anew. Each thread must get, call for call, what it gets when the same calls are made one after
- * another. The last line is 'N passed, M failed'. */
+ * else they are made anew. In every turn a reach of as many cells over a stepped bed is stepped too. Each thread must
+ * get, call for call, what it gets when the same calls are made one after another. The last line is
+ * 'N passed, M failed'. */
 #define _DEFAULT_SOURCE
 #include <bassoonsun.h>
 #include <pthread.h>
@@ -12,16 +13,18 @@
 enum { METRE = BASSOONSUN_UNIT, ROUNDS = 8, REACHES = 2, MOST_CALLS = 2000, MOST_CELLS = 200, EVERY = 5 };
 
 /* What one turn gave: the step's number, its place, its volumes and a number that tells one table from another; the
- * same for the table of sums, with what making them answered where they were; and what the question answered. */
+ * same for the table of sums, with what making them answered where they were; what the question answered; and of the
+ * step over the stepped bed the same as of the other. */
 typedef struct {
-    uint32_t refusal, place, made, asked;
-    int64_t volumes[2], answer[3];
-    uint64_t next, sums;
+    uint32_t refusal, place, made, asked, sill_refusal, sill_place;
+    int64_t volumes[2], answer[3], sill_volumes[2];
+    uint64_t next, sums, sill_next;
 } Told;
 
 typedef struct {
     size_t cells, calls; /* so many calls that both reaches take about the same time */
     int32_t now[4 * MOST_CELLS], next[4 * MOST_CELLS], bed[MOST_CELLS + 1], sums[BASSOONSUN_SUMS(MOST_CELLS)];
+    int32_t sill_now[2 * MOST_CELLS], sill_next[2 * MOST_CELLS], sill_bed[MOST_CELLS];
     uint16_t friction[MOST_CELLS];
     Told told[MOST_CALLS];
 } Reach;
@@ -34,11 +37,15 @@ static void fill(Reach *r)
     memset(r->now, 0, sizeof r->now);
     memset(r->next, 0, sizeof r->next);
     memset(r->sums, 0, sizeof r->sums);
+    memset(r->sill_now, 0, sizeof r->sill_now);
+    memset(r->sill_next, 0, sizeof r->sill_next);
     for (size_t i = 0; i <= n; i++)
         r->bed[i] = (int32_t)(i * 37 % 64) * 2;
     for (size_t i = 0; i < n; i++) {
         r->now[i] = METRE + (i < n / 2 ? (int32_t)n : 0);
         r->friction[i] = (uint16_t)(20 + i % 20);
+        r->sill_bed[i] = (int32_t)(i % 6 == 3 ? METRE / 2 : i * 37 % 64); /* low sills */
+        r->sill_now[i] = r->now[i];
     }
 }
 
@@ -62,6 +69,31 @@ static void ask(Reach *r, size_t turn)
     uint32_t a = (uint32_t)(turn * 5 % (n + 1)), b = (uint32_t)(n - turn % (n / 3));
     Told *told = &r->told[turn];
     told->asked = bassoonsun_between(r->now, 4 * n, r->bed, n + 1, r->sums, BASSOONSUN_SUMS(n), a, b, told->answer);
+}
+
+/* A step over the stepped bed, of which the same is spoilt as in the other one of the turn. */
+static void make_sill_call(Reach *r, size_t turn)
+{
+    size_t n = r->cells;
+    enum spoilt spoilt = spoilt_in(turn);
+    Told *told = &r->told[turn];
+    struct bassoonsun_sill_call call = {
+        .dx = METRE, .dt = spoilt == TIME_STEP ? METRE : METRE / 20 - (uint32_t)(turn % 5), .dry = 4,
+        .left = BASSOONSUN_WALL, .right = spoilt == END_KIND ? BASSOONSUN_INFLOW : BASSOONSUN_WALL,
+    };
+    int32_t bed = r->sill_bed[n - 1], level = r->sill_now[n - 1];
+    r->sill_now[n + turn % n] += METRE / 20; /* as nothing comes in, it would come to rest */
+    if (spoilt == BED)
+        r->sill_bed[n - 1] = -1;
+    if (spoilt == STATE)
+        r->sill_now[n - 1] = bed - 1;
+    told->sill_refusal = bassoonsun_sill_step_call(r->sill_now, 2 * n, r->sill_next, 2 * n, r->sill_bed, n, r->friction,
+                                                   n, call, told->sill_volumes, &told->sill_place);
+    r->sill_bed[n - 1] = bed;
+    r->sill_now[n - 1] = level;
+    told->sill_next = sum_of(r->sill_next, 2 * n);
+    if (told->sill_refusal == BASSOONSUN_ACCEPTED)
+        memcpy(r->sill_now, r->sill_next, sizeof r->sill_now);
 }
 
 static void make_call(Reach *r, size_t turn)
@@ -96,8 +128,10 @@ static void make_call(Reach *r, size_t turn)
 static void *run(void *given)
 {
     Reach *r = given;
-    for (size_t turn = 0; turn < r->calls; turn++)
+    for (size_t turn = 0; turn < r->calls; turn++) {
         make_call(r, turn);
+        make_sill_call(r, turn);
+    }
     return NULL;
 }
 
@@ -130,6 +164,21 @@ static size_t answered(const Reach *r, uint32_t refusal)
     return count;
 }
 
+/* How many turns the step over the stepped bed answered as the other did. */
+static size_t alike(const Reach *r)
+{
+    size_t count = 0;
+    for (size_t turn = 0; turn < r->calls; turn++)
+        count += r->told[turn].sill_refusal == r->told[turn].refusal;
+    return count;
+}
+
+/* Whether it still moves in the last turns. */
+static int runs_on(const Reach *r)
+{
+    return r->told[r->calls - 2].sill_next != r->told[r->calls - 1].sill_next;
+}
+
 /* How many questions were answered, none of them after sums that were refused. */
 static size_t asked(const Reach *r)
 {
@@ -151,17 +200,19 @@ static int try_mixture(const Reach *r)
         if (count < least)
             least = count;
     }
-    int good = sum == r->calls && least >= r->calls / (5 * EVERY) && 5 * asked(r) >= 2 * r->calls;
+    int good = sum == r->calls && least >= r->calls / (5 * EVERY) && 5 * asked(r) >= 2 * r->calls &&
+               alike(r) == r->calls && runs_on(r);
     printf("%s  %zu cells, %zu calls alone: %zu accepted, the others refused with 2, 3, 5, 7, at least %zu with each; "
-           "%zu questions answered\n", good ? "passed" : "FAILED", r->cells, r->calls, answered(r, BASSOONSUN_ACCEPTED),
-           least, asked(r));
+           "as many over a stepped bed (%zu alike); %zu questions answered\n", good ? "passed" : "FAILED", r->cells,
+           r->calls, answered(r, BASSOONSUN_ACCEPTED), least, alike(r), asked(r));
     return good;
 }
 
 static int try_same(const Reach *alone, const Reach *together, int round)
 {
     int good = memcmp(alone->told, together->told, sizeof alone->told) == 0 &&
-               memcmp(alone->now, together->now, sizeof alone->now) == 0;
+               memcmp(alone->now, together->now, sizeof alone->now) == 0 &&
+               memcmp(alone->sill_now, together->sill_now, sizeof alone->sill_now) == 0;
     printf("%s  %zu cells, round %d beside the other thread: every answer as when made alone\n",
            good ? "passed" : "FAILED", alone->cells, round + 1);
     return good;

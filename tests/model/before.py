@@ -16,14 +16,14 @@ import model as m
 
 
 @contextlib.contextmanager
-def replaced(**rules):
-    """The model with other functions of these names."""
-    kept = {name: getattr(m, name) for name in rules}
-    vars(m).update(rules)
+def replaced(of=m, **rules):
+    """The model, or the module that is given, with other functions of these names."""
+    kept = {name: getattr(of, name) for name in rules}
+    vars(of).update(rules)
     try:
         yield
     finally:
-        vars(m).update(kept)
+        vars(of).update(kept)
 
 
 # ---- E2

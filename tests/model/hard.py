@@ -345,8 +345,16 @@ def lengths_and_times(rnd, now, bed, friction, dry, ends):
 
 
 def drawn_lengths_and_times(rnd, now, bed, friction, dry, ends):
-    dt = rnd.choice((1, rnd.randint(1, 60), rnd.randint(1, 700), rnd.randint(1, m.LONGEST_DT), m.LONGEST_DT))
-    S = greatest_S(now, bed, friction, dt, dry, ends)
+    dt = times(rnd)
+    return beside_S(rnd, dt, greatest_S(now, bed, friction, dt, dry, ends))
+
+
+def times(rnd):
+    return rnd.choice((1, rnd.randint(1, 60), rnd.randint(1, 700), rnd.randint(1, m.LONGEST_DT), m.LONGEST_DT))
+
+
+def beside_S(rnd, dt, S):
+    """dx and dt where the greatest S at that dt is so much, or unknown."""
     how = rnd.randrange(20)
     if how == 0 or not S:
         return rnd.choice((1, rnd.randint(1, 99), rnd.randint(1, m.LONGEST_DX), m.LONGEST_DX)), dt
