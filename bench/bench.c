@@ -1,11 +1,13 @@
 /* Times the library beside two plain writings of the same step in C, its step that keeps the sums beside the one that
- * does not, and questions of the water between two faces beside a sum over the cells.
+ * does not, its step over a stepped bed (E10) beside two plain writings of that one, and questions of the water between
+ * two faces beside a sum over the cells.
  *
  *     bench                        compares the answers, then times; exit status 1 where any differ
- *     bench count WHO CASE N RUNS  only runs WHO (0 library, 1 plain, 2 plain with the processor's
- *                                  root, 3 library with sums) RUNS times, for counting instructions from outside
+ *     bench count WHO CASE N RUNS  only runs WHO (0 library, 1 plain, 2 plain with the processor's root, 3 library
+ *                                  with sums) RUNS times on CASE (wave or lake; sill-wave or sill-lake, over a stepped
+ *                                  bed, where there is no 3), for counting instructions from outside
  *
- * What is timed is first run by all four and compared step for step. */
+ * What is timed is first run by all and compared step for step. */
 #define _POSIX_C_SOURCE 200809L /* clock_gettime */
 #include "plain.h"
 
@@ -22,6 +24,7 @@ enum {
     MOST_DRY = 64,
     INFLOW = 2, /* the kind of an end that is given a discharge */
     MOST_DISCHARGE = 8388608,
+    DEEPEST = 262144,
     STEPS = 200, /* of one run, always from the same start */
     ROUNDS = 21, /* in each, all are timed one after the other */
     RANDOM_CALLS = 20000,
@@ -50,13 +53,21 @@ static uint32_t step_with_sums(const int32_t *now, size_t now_len, int32_t *next
 enum { LIBRARY, PLAIN, PLAIN_ROOT, WITH_SUMS, WRITINGS };
 static Step *const writings[WRITINGS] = {bassoonsun_step, plain_step, plain_root_step, step_with_sums};
 
+typedef uint32_t SillStep(const int32_t *, size_t, int32_t *, size_t, const int32_t *, size_t, const uint16_t *, size_t,
+                          uint32_t, uint32_t, uint32_t, uint32_t, uint32_t, int64_t *, uint32_t *);
+
+enum { SILL_WRITINGS = 3 }; /* the first three: none keeps sums over a stepped bed */
+static SillStep *const sill_writings[SILL_WRITINGS] = {bassoonsun_sill_step, plain_sill_step, plain_root_sill_step};
+
 typedef uint32_t Question(const int32_t *, size_t, const int32_t *, size_t, const int32_t *, size_t, uint32_t, uint32_t,
                           int64_t *);
 
 enum { BY_SUMS, BY_CELLS, WAYS };
 static Question *const ways[WAYS] = {bassoonsun_between, plain_between};
 
+/* Over a stepped bed there is a bed value for each cell, a column of levels and one of discharges; no J and no Q. */
 typedef struct {
+    int stepped;
     size_t n;
     uint32_t dx, dt, jump, dry, left, right, left_q, right_q;
     int32_t bed[MOST_CELLS + 1];
@@ -69,6 +80,13 @@ typedef struct {
     int64_t volumes[2];
     int32_t next[4 * MOST_CELLS];
 } Given;
+
+static int writings_of(const Case *c) { return c->stepped ? SILL_WRITINGS : WRITINGS; }
+
+/* The numbers of a state, and where in it the (mean) discharges begin. */
+static size_t state_of(const Case *c) { return c->stepped ? 2 * c->n : 4 * c->n; }
+
+static size_t flows_of(const Case *c) { return state_of(c) / 2; }
 
 /* Level mean and slope, discharge mean and slope of cell i: a number in each column of the start. */
 static void put_cell(Case *c, size_t i, int32_t e0, int32_t e1, int32_t q0, int32_t q1)
@@ -111,27 +129,53 @@ static void fill_wave(Case *c, size_t n)
     }
 }
 
-enum { CASES = 2, LENGTHS = 4 };
-static void (*const fills[CASES])(Case *, size_t) = {fill_wave, fill_lake};
-static const char *const case_names[CASES] = {"wave", "lake"};
+/* The lake over a stepped bed: upright sills 0.5 m high and 8 cells long, as far apart. */
+static void fill_sill_lake(Case *c, size_t n)
+{
+    *c = (Case){.stepped = 1, .n = n, .dx = METRE, .dt = METRE / 20, .dry = DRY};
+    for (size_t i = 0; i < n; i++) {
+        c->bed[i] = METRE / 4 + (i / 8 % 2 != 0 ? METRE / 2 + 1 : 0); /* odd, which only a stepped bed may be */
+        c->friction[i] = 30;
+        c->start[i] = METRE * 5 / 4;
+        c->start[n + i] = 0;
+    }
+}
+
+/* The same with the wave. */
+static void fill_sill_wave(Case *c, size_t n)
+{
+    fill_sill_lake(c, n);
+    for (size_t i = 0; i < n / 2; i++) {
+        int32_t rise = (hill((int64_t)i, 0, (int64_t)n / 2) + hill((int64_t)i + 1, 0, (int64_t)n / 2)) / 4;
+        c->start[i] += rise;
+        c->start[n + i] = 3 * rise;
+    }
+}
+
+enum { CASES = 4, LENGTHS = 4 }; /* two cases of each reach */
+static void (*const fills[CASES])(Case *, size_t) = {fill_wave, fill_lake, fill_sill_wave, fill_sill_lake};
+static const char *const case_names[CASES] = {"wave", "lake", "sill-wave", "sill-lake"};
 static const size_t lengths[LENGTHS] = {16, 64, 128, 1024}; /* in cells */
 
 /* ---- Comparing answers */
 
-static uint32_t call(Step *step, const Case *c, const int32_t *now, int32_t *next, int64_t *volumes, uint32_t *place)
+static uint32_t call(int who, const Case *c, const int32_t *now, int32_t *next, int64_t *volumes, uint32_t *place)
 {
-    return step(now, 4 * c->n, next, 4 * c->n, c->bed, c->n + 1, c->friction, c->n, c->dx, c->dt, c->jump,
-                c->dry, c->left, c->right, c->left_q, c->right_q, volumes, place);
+    if (c->stepped)
+        return sill_writings[who](now, 2 * c->n, next, 2 * c->n, c->bed, c->n, c->friction, c->n, c->dx, c->dt, c->dry,
+                                  c->left, c->right, volumes, place);
+    return writings[who](now, 4 * c->n, next, 4 * c->n, c->bed, c->n + 1, c->friction, c->n, c->dx, c->dt, c->jump,
+                         c->dry, c->left, c->right, c->left_q, c->right_q, volumes, place);
 }
 
 /* The place counts, and all of next and both volumes, written or not: a refusal must leave these alone. */
 static int same(const Case *c, const int32_t *now, Given *given)
 {
-    for (int k = 0; k < WRITINGS; k++) {
+    for (int k = 0; k < writings_of(c); k++) {
         memset(&given[k], 0x5a, sizeof given[k]);
-        given[k].refusal = call(writings[k], c, now, given[k].next, given[k].volumes, &given[k].place);
+        given[k].refusal = call(k, c, now, given[k].next, given[k].volumes, &given[k].place);
     }
-    for (int k = 1; k < WRITINGS; k++)
+    for (int k = 1; k < writings_of(c); k++)
         if (memcmp(&given[0], &given[k], sizeof given[0]) != 0)
             return 0;
     return 1;
@@ -150,8 +194,11 @@ static size_t middle_from(size_t n) { return n / 4 + 3; }
 
 static size_t middle_to(size_t n) { return n - n / 4 - 3; }
 
+/* Of a stepped bed none is asked. */
 static int same_water(const Case *c, const int32_t *state)
 {
+    if (c->stepped)
+        return 1;
     size_t a = middle_from(c->n), b = middle_to(c->n);
     return asked(ways[BY_SUMS], c, state, 0, c->n) == asked(ways[BY_CELLS], c, state, 0, c->n) &&
            asked(ways[BY_SUMS], c, state, a, b) == asked(ways[BY_CELLS], c, state, a, b) &&
@@ -171,7 +218,7 @@ static int64_t drawn(int64_t least, int64_t most)
 /* Most depths are those of ditches, some are about the dry depth or thinner, or the deepest there are. */
 static int32_t drawn_depth(const Case *c, int64_t kind)
 {
-    return (int32_t)(kind == 0 ? drawn(0, c->dry + 8) : kind == 1 ? drawn(0, 262144) : drawn(200, 20000));
+    return (int32_t)(kind == 0 ? drawn(0, c->dry + 8) : kind == 1 ? drawn(0, DEEPEST) : drawn(200, 20000));
 }
 
 static void draw_cell(Case *c, size_t i, int64_t kind)
@@ -198,12 +245,12 @@ static void spoil(Case *c)
     size_t i = (size_t)drawn(0, (int64_t)c->n - 1);
     switch (drawn(0, 15)) {
     case 0: c->dt = (uint32_t)drawn(0, 5000); break;
-    case 1: c->bed[i] = (int32_t)drawn(-3, 1048579); break;
+    case 1: c->bed[i] = (int32_t)(c->stepped ? drawn(0, 1) * 1048578 - 1 : drawn(-3, 1048579)); break;
     case 2: c->friction[i] = (uint16_t)drawn(190, 65535); break;
-    case 3: c->start[2 * c->n + i] = (int32_t)drawn(INT32_MIN, INT32_MAX); break;
+    case 3: c->start[flows_of(c) + i] = (int32_t)drawn(INT32_MIN, INT32_MAX); break;
     case 4: c->start[i] += (int32_t)drawn(-300, 262144); break;
-    case 5: c->start[2 * c->n + i] = (int32_t)drawn(-8388608, 8388608); break;
-    case 6: c->right = 3; break;
+    case 5: c->start[flows_of(c) + i] = (int32_t)drawn(-8388608, 8388608); break;
+    case 6: c->right = c->stepped ? INFLOW : 3; break; /* the first kind that is none */
     case 7: c->n = (size_t)drawn(0, 1) * 1025; break;
     case 8: c->dry = (uint32_t)drawn(0, 1) * (MOST_DRY + 1); break;
     case 9: c->left_q = (uint32_t)drawn(MOST_DISCHARGE, MOST_DISCHARGE + 1); break;
@@ -231,19 +278,37 @@ static void draw(Case *c)
     spoil(c);
 }
 
+/* Steps of the bed from none to several times as high as the water is deep. In some calls all cells are full, or nearly,
+ * so that one may become too deep. */
+static void draw_stepped(Case *c)
+{
+    size_t n = (size_t)(drawn(0, 199) == 0 ? drawn(900, 1024) : drawn(1, 24));
+    *c = (Case){.stepped = 1, .n = n, .dx = (uint32_t)drawn(500, 80000), .dt = (uint32_t)drawn(1, 300),
+                .dry = (uint32_t)drawn(1, MOST_DRY), .left = (uint32_t)drawn(0, 1), .right = (uint32_t)drawn(0, 1)};
+    int64_t steep = drawn(0, 2) * 20000, full = drawn(0, 15) == 0;
+    for (size_t i = 0; i < n; i++) {
+        int64_t kind = drawn(0, 5), quick = kind == 0 ? 40 : 3 * METRE;
+        c->bed[i] = (int32_t)drawn(50000 - steep, 50000 + steep);
+        c->friction[i] = (uint16_t)(drawn(0, 1) * drawn(0, 200));
+        c->start[i] = c->bed[i] + (full ? DEEPEST - (int32_t)drawn(0, 200) : drawn_depth(c, kind));
+        c->start[n + i] = (int32_t)drawn(-quick, quick);
+    }
+    spoil(c);
+}
+
 /* The lengths lent are those of the case, except that 0 and 1025 cells are refused by them alone. */
-static int compare_random(void)
+static int compare_random(void (*draws)(Case *), const char *bed)
 {
     static Case c;
     static Given given[WRITINGS];
     long counts[9] = {0};
     for (int k = 0; k < RANDOM_CALLS; k++) {
-        draw(&c);
+        draws(&c);
         if (!same(&c, c.start, given))
-            return fprintf(stderr, "bench: random call %d is answered in two ways\n", k), 0;
+            return fprintf(stderr, "bench: %s bed, random call %d is answered in two ways\n", bed, k), 0;
         counts[given[0].refusal]++;
     }
-    printf("%d random calls, answers 0 to 8 alike:", RANDOM_CALLS);
+    printf("%d random calls over a %s bed, answers 0 to 8 alike:", RANDOM_CALLS, bed);
     for (int k = 0; k < 9; k++)
         printf(" %ld", counts[k]);
     putchar('\n');
@@ -259,7 +324,7 @@ static int compare_case(const Case *c, const char *name)
         if (!same(c, now, given) || given[0].refusal != 0)
             return fprintf(stderr, "bench: %s, %zu cells: step %d differs or is refused with %u\n", name, c->n,
                            k + 1, (unsigned)given[0].refusal), 0;
-        memcpy(now, given[0].next, 4 * c->n * sizeof now[0]);
+        memcpy(now, given[0].next, state_of(c) * sizeof now[0]);
         if (!same_water(c, now))
             return fprintf(stderr, "bench: %s, %zu cells: after step %d the water is answered in two ways\n", name,
                            c->n, k + 1), 0;
@@ -270,14 +335,14 @@ static int compare_case(const Case *c, const char *name)
 /* ---- Timing */
 
 /* One run of all steps; gives a number that depends on the last state, so that none is left out. */
-static int64_t run(Step *step, const Case *c)
+static int64_t run(int who, const Case *c)
 {
     static int32_t tables[2][4 * MOST_CELLS];
     int64_t volumes[2] = {0, 0};
     uint32_t refusals = 0, place;
-    memcpy(tables[0], c->start, 4 * c->n * sizeof tables[0][0]);
+    memcpy(tables[0], c->start, state_of(c) * sizeof tables[0][0]);
     for (int k = 0; k < STEPS; k++)
-        refusals |= call(step, c, tables[k % 2], tables[(k + 1) % 2], volumes, &place);
+        refusals |= call(who, c, tables[k % 2], tables[(k + 1) % 2], volumes, &place);
     return tables[STEPS % 2][0] + volumes[0] + refusals;
 }
 
@@ -289,13 +354,13 @@ static double seconds(void)
 }
 
 /* Seconds of one step. */
-static double timed(Step *step, const Case *c)
+static double timed(int who, const Case *c)
 {
     static volatile int64_t sink;
     int runs = 1 + CELL_STEPS / STEPS / (int)c->n;
     double before = seconds();
     for (int k = 0; k < runs; k++)
-        sink = run(step, c);
+        sink = run(who, c);
     (void)sink;
     return (seconds() - before) / runs / STEPS;
 }
@@ -312,26 +377,27 @@ static double sorted_median(double *values)
     return values[ROUNDS / 2];
 }
 
-/* Which writings are held against each other. */
+/* Which writings are held against each other; the last where there are sums. */
 enum { RATIOS = 3 };
 static const int ratio_of[RATIOS][2] = {{LIBRARY, PLAIN}, {LIBRARY, PLAIN_ROOT}, {WITH_SUMS, LIBRARY}};
 
 static void time_case(const Case *c, const char *name)
 {
+    int many = writings_of(c), shown = c->stepped ? RATIOS - 1 : RATIOS;
     double times[WRITINGS][ROUNDS], ratios[RATIOS][ROUNDS];
     for (int round = 0; round < ROUNDS; round++) {
-        for (int k = 0; k < WRITINGS; k++)
-            times[k][round] = timed(writings[k], c);
-        for (int k = 0; k < RATIOS; k++)
+        for (int k = 0; k < many; k++)
+            times[k][round] = timed(k, c);
+        for (int k = 0; k < shown; k++)
             ratios[k][round] = times[ratio_of[k][0]][round] / times[ratio_of[k][1]][round];
     }
     printf("| %s | %zu |", name, c->n);
-    for (int k = 0; k < WRITINGS; k++)
+    for (int k = 0; k < many; k++)
         times[k][0] = sorted_median(times[k]);
     for (int k = LIBRARY; k <= PLAIN_ROOT; k++)
         printf(" %.0f |", 1 / times[k][0]);
     printf(" %.1f |", 1e9 * times[LIBRARY][0] / (double)c->n);
-    for (int k = 0; k < RATIOS; k++) {
+    for (int k = 0; k < shown; k++) {
         double middle = sorted_median(ratios[k]);
         printf(" %.2f (%.2f\u2013%.2f) |", middle, ratios[k][0], ratios[k][ROUNDS - 1]);
     }
@@ -381,34 +447,52 @@ static int time_questions(void)
     return 1;
 }
 
-static int compare_and_time(void)
+/* The cases from `first` up to `last`. Gives 0 where the writings differ. */
+static int time_cases(size_t first, size_t last)
 {
     static Case c;
-    if (!compare_random())
-        return 1;
-    puts("| case | cells | library (steps/s) | plain C | plain C, processor's root | library (ns a cell a step) "
-         "| library / plain C | library / plain C, processor's root | with sums / without |\n"
-         "|---|---|---|---|---|---|---|---|---|");
-    for (size_t name = 0; name < CASES; name++)
+    for (size_t name = first; name < last; name++)
         for (size_t k = 0; k < LENGTHS; k++) {
             fills[name](&c, lengths[k]);
             if (!compare_case(&c, case_names[name]))
-                return 1;
+                return 0;
             time_case(&c, case_names[name]);
         }
+    return 1;
+}
+
+#define HEADS "| case | cells | library (steps/s) | plain C | plain C, processor's root | library (ns a cell a step) " \
+              "| library / plain C | library / plain C, processor's root |"
+#define RULE "\n|---|---|---|---|---|---|---|---|"
+
+static int compare_and_time(void)
+{
+    if (!compare_random(draw, "continuous") || !compare_random(draw_stepped, "stepped"))
+        return 1;
+    puts(HEADS " with sums / without |" RULE "---|");
+    if (!time_cases(0, CASES / 2))
+        return 1;
+    puts("\n" HEADS RULE);
+    if (!time_cases(CASES / 2, CASES))
+        return 1;
     return time_questions() ? 0 : 1;
 }
 
 static int count(char **words)
 {
     static Case c;
-    size_t who = strtoul(words[0], NULL, 10), name = strcmp(words[1], "lake") == 0, n = strtoul(words[2], NULL, 10);
+    int who = atoi(words[0]);
+    size_t name = 0, n = strtoul(words[2], NULL, 10);
     long runs = strtol(words[3], NULL, 10);
-    if (who >= WRITINGS || n < 1 || n > MOST_CELLS)
+    while (name < CASES && strcmp(words[1], case_names[name]) != 0)
+        name++;
+    if (name == CASES || n < 1 || n > MOST_CELLS)
         return 2;
     fills[name](&c, n);
+    if (who < 0 || who >= writings_of(&c))
+        return 2;
     for (long k = 0; k < runs; k++)
-        run(writings[who], &c);
+        run(who, &c);
     return 0;
 }
 

@@ -1,8 +1,9 @@
-/* The step as the scope document ("01") and its amendments have it, written plainly in C to be timed beside the library.
+/* The step as the scope document ("01") and its amendments have it, and that over a stepped bed (E10), written plainly
+ * in C to be timed beside the library.
  *
  * All numbers are worked in 64 bits, as unfinished slopes pass 32. C's "/" is 01's: it truncates
  * toward nought. It is built twice: in plain_root.c PROCESSOR_ROOT is defined, the wave speed takes
- * the processor's square root, and the step is called plain_root_step. */
+ * the processor's square root, and the steps are called plain_root_step and plain_root_sill_step. */
 #include "plain.h"
 
 #include <math.h>
@@ -11,8 +12,10 @@
 
 #ifdef PROCESSOR_ROOT
 #define STEP plain_root_step
+#define SILL_STEP plain_root_sill_step
 #else
 #define STEP plain_step
+#define SILL_STEP plain_sill_step
 #endif
 
 enum {
@@ -176,14 +179,21 @@ static int64_t cube_root(int64_t h)
     return c;
 }
 
+/* x of cell i, of which a discharge keeps (65536 + x)/(65536 + 2x); h is over the dry depth. */
+static int64_t rubbing(const Reach *r, size_t i, int64_t q, int64_t h)
+{
+    int64_t f = r->friction[i];
+    return 256 * 981 * r->dt * f * f * llabs(speed(r, q, h)) / (390625 * h * cube_root(h));
+}
+
 static void rub(const Reach *r, Cell *cells)
 {
     for (size_t i = 0; i < r->n; i++) {
         Cell *c = &cells[i];
-        int64_t h = c->e0 - bed_mean(r, i), f = r->friction[i];
+        int64_t h = c->e0 - bed_mean(r, i);
         if (h <= r->dry)
             continue;
-        int64_t x = 256 * 981 * r->dt * f * f * llabs(speed(r, c->q0, h)) / (390625 * h * cube_root(h));
+        int64_t x = rubbing(r, i, c->q0, h);
         c->q0 = c->q0 * (65536 + x) / (65536 + 2 * x);
         c->q1 = c->q1 * (65536 + x) / (65536 + 2 * x);
     }
@@ -498,4 +508,133 @@ uint32_t STEP(const int32_t *now, size_t now_len, int32_t *next, size_t next_len
     if (refusal == 0)
         store(cells, n, next);
     return refusal;
+}
+
+/* ---- The same over a stepped bed (E10): a bed value, a level and a discharge for each cell, no slopes, one stage */
+
+typedef struct {
+    int64_t e, q, u;
+} Tread;
+
+/* The bed that counts at face k: the higher of the two beside it, at an end the only one. */
+static int64_t sill(const Reach *r, size_t k)
+{
+    return greatest(r->bed[k == 0 ? 0 : k - 1], r->bed[k == r->n ? k - 1 : k]);
+}
+
+/* The depth that is left of a cell's water over a face's bed. */
+static int64_t depth_over(const Tread *c, int64_t bed) { return greatest(0, c->e - bed); }
+
+static bool sill_bed_in_order(const Reach *r, uint32_t *place)
+{
+    for (size_t i = 0; i < r->n; i++)
+        if (r->bed[i] < 0 || r->bed[i] > HIGHEST_BED)
+            return stopped(i, place);
+    return true;
+}
+
+static bool sill_in_range(const Reach *r, const Tread *cells, uint32_t *place)
+{
+    for (size_t i = 0; i < r->n; i++) {
+        int64_t h = cells[i].e - r->bed[i];
+        if (h < 0 || h > DEEPEST || !within(cells[i].q, MOST_DISCHARGE))
+            return stopped(i, place);
+    }
+    return true;
+}
+
+/* Fills in the speeds; gives false where one is too great. */
+static bool sill_slow_enough(const Reach *r, Tread *cells, uint32_t *place)
+{
+    for (size_t i = 0; i < r->n; i++) {
+        cells[i].u = speed(r, cells[i].q, cells[i].e - r->bed[i]);
+        if (!within(cells[i].u, FASTEST))
+            return stopped(i, place);
+    }
+    return true;
+}
+
+/* Leaves the speeds after friction. Both sides of a face have that of their cell, and friction makes none greater, so
+ * they are not checked again. */
+static void sill_rub(const Reach *r, Tread *cells)
+{
+    for (size_t i = 0; i < r->n; i++) {
+        Tread *c = &cells[i];
+        int64_t h = c->e - r->bed[i];
+        if (h <= r->dry)
+            continue;
+        int64_t x = rubbing(r, i, c->q, h);
+        c->q = c->q * (65536 + x) / (65536 + 2 * x);
+        c->u = speed(r, c->q, h);
+    }
+}
+
+/* Gives false where the time step is too long for some face. */
+static bool sill_cross(const Reach *r, const Tread *cells, Flux *flux, uint32_t *place)
+{
+    size_t n = r->n;
+    const Tread *first = &cells[0], *last = &cells[n - 1];
+    flux[0] = left_end(r, first->e - r->bed[0], first->u);
+    for (size_t k = 1; k < n; k++) {
+        int64_t z = sill(r, k);
+        flux[k] = face(depth_over(&cells[k - 1], z), cells[k - 1].u, depth_over(&cells[k], z), cells[k].u);
+    }
+    flux[n] = right_end(r, last->e - r->bed[n - 1], last->u);
+    for (size_t k = 0; k <= n; k++)
+        if (2 * r->dt * flux[k].S > UNIT * r->dx)
+            return stopped(k, place);
+    return true;
+}
+
+/* The new state, over the old one. */
+static void sill_update(const Reach *r, const Flux *flux, Tread *cells)
+{
+    int64_t dt = r->dt, dx = r->dx;
+    for (size_t i = 0; i < r->n; i++) {
+        Tread *c = &cells[i];
+        const Flux *left = &flux[i], *right = &flux[i + 1];
+        int64_t hl = depth_over(c, sill(r, i)), hr = depth_over(c, sill(r, i + 1));
+        int64_t E = (left->K - hl * hl) - (right->K - hr * hr);
+        c->e += left->F * dt / dx - right->F * dt / dx;
+        c->q += (left->A - right->A) * dt / dx + 981 * E * dt / (819200 * dx);
+        if (c->e - r->bed[i] <= r->dry)
+            c->q = 0;
+    }
+}
+
+uint32_t SILL_STEP(const int32_t *now, size_t now_len, int32_t *next, size_t next_len, const int32_t *bed,
+                   size_t bed_len, const uint16_t *friction, size_t n, uint32_t dx, uint32_t dt, uint32_t dry,
+                   uint32_t left, uint32_t right, int64_t volumes[2], uint32_t place[1])
+{
+    place[0] = 0;
+    if (n < 1 || n > MOST_CELLS || now_len != 2 * n || next_len != 2 * n || bed_len != n)
+        return 1;
+    if (dx < 1 || dx > LONGEST_DX || dt < 1 || dt > LONGEST_DT || dry < 1 || dry > MOST_DRY || left > OPEN || right > OPEN)
+        return 2;
+    Reach r = {n, bed, friction, dx, dt, 0, dry, left, right, 0, 0};
+    Tread cells[MOST_CELLS];
+    Flux flux[MOST_CELLS + 1];
+    if (!sill_bed_in_order(&r, place))
+        return 3;
+    if (!friction_in_order(&r, place))
+        return 4;
+    for (size_t i = 0; i < n; i++)
+        cells[i] = (Tread){now[i], now[n + i], 0};
+    if (!sill_in_range(&r, cells, place))
+        return 5;
+    if (!sill_slow_enough(&r, cells, place))
+        return 6;
+    sill_rub(&r, cells);
+    if (!sill_cross(&r, cells, flux, place))
+        return 7;
+    sill_update(&r, flux, cells);
+    if (!sill_in_range(&r, cells, place))
+        return 8;
+    for (size_t i = 0; i < n; i++) {
+        next[i] = (int32_t)cells[i].e;
+        next[n + i] = (int32_t)cells[i].q;
+    }
+    volumes[0] = flux[0].F * r.dt / r.dx;
+    volumes[1] = flux[n].F * r.dt / r.dx;
+    return 0;
 }

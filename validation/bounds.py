@@ -79,6 +79,26 @@ BOUNDS = {
     "dry depth 16: 0.3 m of water came (m)": Bound(110, 160, "120; 140 with less rounding"),
     "dry depth 4: left on the slope (mm)": most(11, "9.8: what rounding holds"),
     "dry depth 4: left on the slope, 16 times as deep (mm)": most(1.2, "1.0"),
+
+    "sills, lake: steps that changed a number": most(0, "none, as is proved of every such lake at rest"),
+
+    "sills, dam break, 64 cells: mean error (m)": most(0.032, "0.0291: four times that of two stages"),
+    "sills, dam break, 256 cells: mean error (m)": most(0.0125, "0.0112"),
+    "sills, dam break, 16 times as large, 1,024 cells: mean error / 16 (m)": most(0.0042, "0.0037: no rounding to speak of"),
+    "sills, dam break, 16 times as large: order, 64 to 1,024 cells": least(0.7, "0.75, as first order has it at kinks"),
+
+    "weir, 120 cells: head / Bernoulli's": Bound(1.14, 1.18, "1.165"),
+    "weir, 16 times as large, 480 cells: head / Bernoulli's": Bound(1.14, 1.17, "1.159, what an upright side costs"),
+    "weir, 16 times as large, 480 cells: depth on the crest / critical": Bound(0.97, 1.02, "0.988"),
+    "weir: discharge through a face, farthest off (% of Q)": most(0.05, "none: the flow is steady"),
+    "weir, staircase of 4 m, 480 cells: head / Bernoulli's": Bound(0.995, 1.015, "1.010"),
+    "weir, staircase of 4 m: order, 60 to 480 cells": least(0.7, "0.80; first order"),
+    "weir: head over a drowned crest / over a free one": Bound(1.55, 1.7, "1.62; the tail water decides"),
+
+    "sills, slope, 80 cells: depth error (%)": Bound(0, 3.3, "2.87, two thirds of it the scheme's"),
+    "sills, slope, 320 cells: depth error (%)": Bound(0, 5.2, "4.49, nearly all of it rounding"),
+    "sills, slope, 8 times as deep, 320 cells: depth error (%)": Bound(0, 0.75, "0.63"),
+    "sills, slope, 8 times as deep: order, 40 to 320 cells": least(0.8, "0.90; first order"),
 }
 
 

@@ -6,7 +6,7 @@ The library's unit stays 1/4096 m, so in the large case rounding counts 16 times
 """
 
 from picture import BLACK, BLUE, ORANGE, Picture
-from reach import DITCH_DRY, UNIT, WALL, Reach, stepped
+from reach import DITCH_DRY, UNIT, WALL, Reach, Sills, stepped
 from stoker import DamBreak
 from tables import count_text, order_text, orders, overall_order, table
 
@@ -17,13 +17,18 @@ COUNTS = (64, 128, 256, 512, 1024)
 EXACT = DamBreak(HIGH, LOW)
 
 
-def broken(command, n, size, pace):
-    """The levels after the run, in metres of the ditch; size and pace are 1, 1 or 16, 4."""
+def broken(command, n, size, pace, sills=False):
+    """The levels after the run, in metres of the ditch; size and pace are 1, 1 or 16, 4.  With `sills` the reach is
+    that of E10, in first order."""
     dx = LENGTH * size * UNIT // n
     dt = dx // (COURANT * pace)
     steps = SECONDS * pace * UNIT // dt
-    cells = [((HIGH if i < n // 2 else LOW) * size * UNIT, 0, 0, 0) for i in range(n)]
-    reach = Reach(dx, dt, JUMP * size, DITCH_DRY, WALL, WALL, [0] * (n + 1), [0] * n, cells)
+    levels = [(HIGH if i < n // 2 else LOW) * size * UNIT for i in range(n)]
+    if sills:
+        reach = Sills(dx, dt, DITCH_DRY, WALL, WALL, [0] * n, [0] * n, [(level, 0) for level in levels])
+    else:
+        cells = [(level, 0, 0, 0) for level in levels]
+        reach = Reach(dx, dt, JUMP * size, DITCH_DRY, WALL, WALL, [0] * (n + 1), [0] * n, cells)
     last = stepped(command, reach, steps, steps)[-1]
     return [cell[0] / UNIT / size for cell in last.cells]
 

@@ -16,6 +16,9 @@ DITCH_DRY = 4           # the dry depth of an ordinary ditch, about 1 mm
 # inflows: for each step the Q of the left end and that of the right, the last pair for all later steps too
 Reach = namedtuple("Reach", "dx dt jump dry left right bed friction cells inflows", defaults=([(0, 0)],))
 
+# A reach with a stepped bed (E10).  bed: n numbers, one a cell; cells: n times (level, discharge); no inflows
+Sills = namedtuple("Sills", "dx dt dry left right bed friction cells")
+
 # What crossed the two ends since the start, and the cells, after some number of steps.
 State = namedtuple("State", "crossed cells")
 
@@ -26,26 +29,27 @@ def units(metres):
 
 
 def table_of(cells):
-    """The library's table of a state: its four columns, one for each number of a cell."""
+    """The library's table of a state: its columns, one for each number of a cell."""
     return [number for column in zip(*cells) for number in column]
 
 
-def cells_of(table):
-    n = len(table) // 4
+def cells_of(table, columns=4):
+    n = len(table) // columns
     return [tuple(table[i::n]) for i in range(n)]
 
 
 def text_of(reach):
-    numbers = [len(reach.cells), reach.dx, reach.dt, reach.jump, reach.dry, reach.left, reach.right]
+    jump, inflows = (0, []) if isinstance(reach, Sills) else (reach.jump, reach.inflows)
+    numbers = [len(reach.cells), reach.dx, reach.dt, jump, reach.dry, reach.left, reach.right]
     numbers += reach.bed + reach.friction + table_of(reach.cells)
-    for pair in reach.inflows:
+    for pair in inflows:
         numbers += pair
     return " ".join(map(str, numbers)) + "\n"
 
 
 def run(command, reach, steps, every):
-    return subprocess.run(command + [str(steps), str(every)], input=text_of(reach),
-                          capture_output=True, text=True)
+    words = [str(steps), str(every)] + ["sills"] * isinstance(reach, Sills)
+    return subprocess.run(command + words, input=text_of(reach), capture_output=True, text=True)
 
 
 def lines_of(command, reach, steps, every):
@@ -60,7 +64,7 @@ def ended(command, reach, steps):
     """The last state and None, or None and the first refused step with its number."""
     done = run(command, reach, steps, steps)
     if done.returncode == 0:
-        return state_of(done.stdout.splitlines()[-1]), None
+        return state_of(done.stdout.splitlines()[-1], len(reach.cells[0])), None
     found = re.search(r"step (\d+) is refused with (\d+)", done.stderr)
     if found is None:
         raise SystemExit(done.stderr)
@@ -78,10 +82,10 @@ def refusal_of(command, reach, steps):
     return ended(command, reach, steps)[1]
 
 
-def state_of(line):
+def state_of(line, columns=4):
     first, last, *table = [int(word) for word in line.split()]
-    return State((first, last), cells_of(table))
+    return State((first, last), cells_of(table, columns))
 
 
 def stepped(command, reach, steps, every):
-    return [state_of(line) for line in lines_of(command, reach, steps, every)]
+    return [state_of(line, len(reach.cells[0])) for line in lines_of(command, reach, steps, every)]

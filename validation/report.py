@@ -24,12 +24,17 @@ import dam_break
 import ditch
 import dry_depth
 import lake
+import sill_dam_break
+import sill_lake
+import sill_slope
 import slope
 import standing_wave
+import weir
 
 DOCS = Path(__file__).resolve().parent.parent / "docs"
 PAGE = DOCS / "VALIDATION.md"
-SECTIONS = dam_break, lake, bank, standing_wave, basin, bump, ditch, slope, dry_depth
+SECTIONS = (dam_break, lake, bank, standing_wave, basin, bump, ditch, slope, dry_depth,
+            sill_lake, sill_dam_break, weir, sill_slope)
 
 
 def worked(command, k):

@@ -3,7 +3,7 @@
     worse.py COMPILER
 
 The schemes are bench/plain.c, which gives the library's own numbers, with a mistake in each.  It is linked with reach.c
-under the name of the library's call, by this machine's own compiler.  Each scheme is a case: plain.c as it stands must
+under the names of the library's calls, by this machine's own compiler.  Each scheme is a case: plain.c as it stands must
 break no bound, each of the others at least one.  The last line is 'N passed, M failed'.
 """
 
@@ -22,6 +22,9 @@ PLACE = ROOT / "target" / "worse"
 PUSH = "981 * E * dt / (819200 * dx),\n"
 LIMIT = "if (marked(r, unfinished, i) && !spared(r, unfinished, i))\n            limit(r, unfinished, i, &c);"
 VOLUME = "(one[i].F * r->dt / r->dx + two[i].F * r->dt / r->dx) / 2;"
+SILL_BED = "greatest(r->bed[k == 0 ? 0 : k - 1], r->bed[k == r->n ? k - 1 : k]);"
+SILL_FACE = "face(depth_over(&cells[k - 1], z), cells[k - 1].u, depth_over(&cells[k], z), cells[k].u);"
+SILL_E = "(left->K - hl * hl) - (right->K - hr * hr);"
 
 # Of each scheme its name, and what stands in plain.c with what is put in its place.
 SCHEMES = (
@@ -45,6 +48,22 @@ SCHEMES = (
     ("friction is 3 % too strong", [("/ (390625 * h * cube_root(h));", "* 103 / 100 / (390625 * h * cube_root(h));")]),
     ("friction acts in both stages", [("    refusal = stage(r, half, two, unfinished, place);",
                                        "    rub(r, half);\n    refusal = stage(r, half, two, unfinished, place);")]),
+    ("sills: the lower bed counts", [(SILL_BED, SILL_BED.replace("greatest", "least"))]),
+    ("sills: the left bed counts", [(SILL_BED, "r->bed[k == 0 ? 0 : k - 1];")]),
+    ("sills: a speed is that of the reconstructed depth", [
+        (SILL_FACE, "face(depth_over(&cells[k - 1], z), speed(r, cells[k - 1].q, depth_over(&cells[k - 1], z)),"
+                    " depth_over(&cells[k], z), speed(r, cells[k].q, depth_over(&cells[k], z)));")]),
+    ("sills: no speed before an upright side", [
+        (SILL_FACE, SILL_FACE.replace("cells[k - 1].u", "(z > r->bed[k - 1] ? 0 : cells[k - 1].u)")
+                             .replace("cells[k].u", "(z > r->bed[k] ? 0 : cells[k].u)"))]),
+    ("sills: E lacks the left square", [(SILL_E, SILL_E.replace(" - hl * hl", ""))]),
+    ("sills: E lacks the right square", [(SILL_E, SILL_E.replace(" - hr * hr", ""))]),
+    ("sills: E lacks both squares", [(SILL_E, "left->K - right->K;")]),
+    ("sills: the cell's own depth is squared", [(SILL_E, SILL_E.replace("hl", "(c->e - r->bed[i])"))]),
+    ("sills: nothing is carried along", [("(left->A - right->A) * dt / dx + 981 * E * dt / (819200 * dx);",
+                                          "981 * E * dt / (819200 * dx);")]),
+    ("sills: no friction", [("    sill_rub(&r, cells);\n", "")]),
+    ("sills: a time step of 99 %", [("friction, dx, dt, 0, dry,", "friction, dx, (99 * dt + 50) / 100, 0, dry,")]),
 )
 
 
@@ -57,8 +76,9 @@ def program_of(compiler, k, edits):
         text = text.replace(old, new)
     source, program = PLACE / ("%d.c" % k), PLACE / ("reach%d" % k)
     source.write_text(text, encoding="utf-8")
-    subprocess.run([compiler, "-std=c11", "-O2", "-I", ROOT / "include", "-I", ROOT / "bench", "-D",
-                    "plain_step=bassoonsun_step", ROOT / "validation" / "reach.c", source, "-o", program, "-lm"], check=True)
+    names = ["-D", "plain_step=bassoonsun_step", "-D", "plain_sill_step=bassoonsun_sill_step"]
+    subprocess.run([compiler, "-std=c11", "-O2", "-I", ROOT / "include", "-I", ROOT / "bench", *names,
+                    ROOT / "validation" / "reach.c", source, "-o", program, "-lm"], check=True)
     return [str(program)]
 
 
