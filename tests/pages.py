@@ -10,8 +10,8 @@
 - Each name of C that README.md has, as BASSOONSUN_WALL or bassoonsun_step, is in the header.
 - An edit that stands with its crate, as in "`a`, `b` crates/rules", is in that crate's must-fail. Every edit says in
   its first line what it tries, docs/PROMISES.md names it, and each text that it replaces stands in its file once.
-- docs/RULES.md names every public definition of the files of WHOLE, the rules and what else it takes whole.
-  Its limits are those of Limits.antt, and its twelve rows of numbers those that Numbers.antt proves.
+- docs/RULES.md names every public definition of the files of WHOLE, the rules of both reaches and what else it takes
+  whole. Its limits are those of Limits.antt, and its twelve rows of numbers those that Numbers.antt proves.
 - The files that docs/PROMISES.md lists as to be believed are those whose first line says so, and those that the
   promises and the contracts speak of (spoken.py).
 
@@ -34,7 +34,7 @@ from spoken import ROOT, there
 RULES, PROMISES, DECISIONS = "docs/RULES.md", "docs/PROMISES.md", "docs/DECISIONS.md"
 PAGES = ("README.md", RULES, PROMISES, DECISIONS, "docs/VALIDATION.md")
 RULES_FILES = "crates/rules/specs/"
-WHOLE = re.compile(r"crates/(rules/specs/\w+|survey/specs/Turned|double/specs/(Face|Constants)|root/specs/Root)\.antt")
+WHOLE = re.compile(r"crates/((sill_)?rules/specs/\w+|survey/specs/Turned|double/specs/(Face|Constants)|root/specs/Root)\.antt")
 BELIEVED = "## What has to be believed"
 PATTERNS = {"src/m.rt", "proofs/m/f/Proof.antt"}    # of PROMISES.md, for any module m and function f
 TOOLCHAINS = {"natAbs"}                             # stands in a row of names, but is the toolchain's

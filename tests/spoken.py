@@ -2,8 +2,9 @@
 
 The statements are the public laws of the pages PAGES, with the heads of the modules that they stand in, and what the
 public functions ensure. Of a law only what it states is followed, and of a definition all of it. A name is followed
-where the file's `use` lines say; names of the toolchain are not, nor what the source itself declares, its enums and
-records. A word that only sounds like an imported name is followed too, so the answer may have a file too many.
+where the file's `use` lines say, and through a file that hands it on; names of the toolchain are not, nor what the
+source itself declares, its enums and records. A word that only sounds like an imported name is followed too, so the
+answer may have a file too many.
 """
 
 import functools
@@ -11,9 +12,11 @@ import os
 import re
 
 ROOT = os.path.join(os.path.dirname(os.path.abspath(__file__)), "..")
-PAGES = ["crates/promises/specs/%s.antt" % name for name in ("Promises", "Sums", "FromC", "SumsFromC", "Changed", "Cases")] + ["crates/rules/specs/Numbers.antt"]
+NAMES = ("Promises", "Sums", "Sill", "FromC", "SumsFromC", "SillFromC", "Changed", "Cases")
+PROMISES = ["crates/promises/specs/%s.antt" % name for name in NAMES]
+PAGES = PROMISES + ["crates/rules/specs/Numbers.antt", "crates/sill_rules/specs/Numbers.antt"]
 
-USE = re.compile(r"^(?:ghost )?use Rattle·(\w+)(?:·specs|·proofs)?\.(\S+?)(?:\.\{([^}]*)\}| as (\S+?));?$", re.M)
+USE = re.compile(r"^(?:ghost |unfoldable )?(?:pub )?use Rattle·(\w+)(?:·specs|·proofs)?\.(\S+?)(?:\.\{([^}]*)\}| as (\S+?));?$", re.M)
 STARTS = re.compile(r"^ {0,4}(abbrev |unfoldable )?(pub )?(record |data )?([^\s(:]+) (?=.*:|$)")
 HEAD = re.compile(r"^ *module _ .*?where$", re.M | re.S)
 FUNCTION = re.compile(r"^pub (?:extern \"C\" )?fn .*?^\{", re.M | re.S)
@@ -85,9 +88,12 @@ def followed(path, text):
 
 
 def whole(path, name):
-    """What a definition speaks by; of a field or a case, what its record or data type does."""
+    """What a definition speaks by; of a field or a case, what its record or data type does; of a name that the file only
+    hands on, the name."""
     if name in definitions(path):
         return definitions(path)[name][1]
+    if name in imports(path)[0]:
+        return name
     return next((text for _, text in definitions(path).values() if re.search(r" %s :" % re.escape(name), text)), "")
 
 
@@ -107,7 +113,7 @@ def contracts():
 
 
 def files():
-    """The files of what is spoken of, without the pages."""
+    """The files of what is spoken of, without the promises' own pages."""
     texts = list(contracts())
     for page in PAGES:
         texts += [(page, text) for law, text in definitions(page).values() if law]
@@ -118,7 +124,7 @@ def files():
         if (path, name) not in seen and there(path):
             seen.add((path, name))
             found += followed(path, whole(path, name))
-    return {path for path, _ in seen} - set(PAGES[:-1])
+    return {path for path, _ in seen} - set(PROMISES)
 
 
 if __name__ == "__main__":
