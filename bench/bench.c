@@ -1,29 +1,34 @@
 /* Times the library beside two plain writings of the same step in C, its step that keeps the sums beside the one that
  * does not, its step over a stepped bed (E10) beside two plain writings of that one, and questions of the water between
- * two faces beside a sum over the cells; and by double.c its step in doubles (E1), with the face and the root of that.
+ * two faces beside a sum over the cells.
  *
  *     bench                        compares the answers, then times; exit status 1 where any differ
  *     bench count WHO CASE N RUNS  only runs WHO (0 library, 1 plain, 2 plain with the processor's root, 3 library
  *                                  with sums) RUNS times on CASE (wave or lake; sill-wave or sill-lake, over a stepped
- *                                  bed, and double-wave or double-lake, in doubles, where there is no 3), for counting
- *                                  instructions from outside
+ *                                  bed, where there is no 3), for counting instructions from outside
  *
  * What is timed is first run by all and compared step for step. */
-#include "bench.h"
+#define _POSIX_C_SOURCE 200809L /* clock_gettime */
 #include "plain.h"
 
 #include <bassoonsun.h>
 #include <stdio.h>
 #include <stdlib.h>
 #include <string.h>
+#include <time.h>
 
 enum {
     METRE = 4096,
+    MOST_CELLS = 1024,
     DRY = 4, /* the dry depth of what is timed */
     MOST_DRY = 64,
     INFLOW = 2, /* the kind of an end that is given a discharge */
     MOST_DISCHARGE = 8388608,
     DEEPEST = 262144,
+    STEPS = 200, /* of one run, always from the same start */
+    ROUNDS = 21, /* in each, all are timed one after the other */
+    RANDOM_CALLS = 20000,
+    CELL_STEPS = 300000, /* of one timing, so that short reaches are timed as long as long ones */
     QUESTIONS = 20000 /* of one timing */
 };
 
@@ -45,13 +50,14 @@ static uint32_t step_with_sums(const int32_t *now, size_t now_len, int32_t *next
                                 place);
 }
 
+enum { LIBRARY, PLAIN, PLAIN_ROOT, WITH_SUMS, WRITINGS };
 static Step *const writings[WRITINGS] = {bassoonsun_step, plain_step, plain_root_step, step_with_sums};
 
 typedef uint32_t SillStep(const int32_t *, size_t, int32_t *, size_t, const int32_t *, size_t, const uint16_t *, size_t,
                           uint32_t, uint32_t, uint32_t, uint32_t, uint32_t, int64_t *, uint32_t *);
 
-/* None keeps sums over a stepped bed. */
-static SillStep *const sill_writings[WITHOUT_SUMS] = {bassoonsun_sill_step, plain_sill_step, plain_root_sill_step};
+enum { SILL_WRITINGS = 3 }; /* the first three: none keeps sums over a stepped bed */
+static SillStep *const sill_writings[SILL_WRITINGS] = {bassoonsun_sill_step, plain_sill_step, plain_root_sill_step};
 
 typedef uint32_t Question(const int32_t *, size_t, const int32_t *, size_t, const int32_t *, size_t, uint32_t, uint32_t,
                           int64_t *);
@@ -75,7 +81,7 @@ typedef struct {
     int32_t next[4 * MOST_CELLS];
 } Given;
 
-static int writings_of(const Case *c) { return c->stepped ? WITHOUT_SUMS : WRITINGS; }
+static int writings_of(const Case *c) { return c->stepped ? SILL_WRITINGS : WRITINGS; }
 
 /* The numbers of a state, and where in it the (mean) discharges begin. */
 static size_t state_of(const Case *c) { return c->stepped ? 2 * c->n : 4 * c->n; }
@@ -146,9 +152,10 @@ static void fill_sill_wave(Case *c, size_t n)
     }
 }
 
-enum { CASES = 4 }; /* two of each reach */
+enum { CASES = 4, LENGTHS = 4 }; /* two cases of each reach */
 static void (*const fills[CASES])(Case *, size_t) = {fill_wave, fill_lake, fill_sill_wave, fill_sill_lake};
 static const char *const case_names[CASES] = {"wave", "lake", "sill-wave", "sill-lake"};
+static const size_t lengths[LENGTHS] = {16, 64, 128, 1024}; /* in cells */
 
 /* ---- Comparing answers */
 
@@ -196,6 +203,16 @@ static int same_water(const Case *c, const int32_t *state)
     return asked(ways[BY_SUMS], c, state, 0, c->n) == asked(ways[BY_CELLS], c, state, 0, c->n) &&
            asked(ways[BY_SUMS], c, state, a, b) == asked(ways[BY_CELLS], c, state, a, b) &&
            asked(ways[BY_SUMS], c, state, a, b) >= 0;
+}
+
+static uint64_t seed = 88172645463325252u;
+
+static int64_t drawn(int64_t least, int64_t most)
+{
+    seed ^= seed << 13;
+    seed ^= seed >> 7;
+    seed ^= seed << 17;
+    return least + (int64_t)(seed % (uint64_t)(most - least + 1));
 }
 
 /* Most depths are those of ditches, some are about the dry depth or thinner, or the deepest there are. */
@@ -317,16 +334,74 @@ static int compare_case(const Case *c, const char *name)
 
 /* ---- Timing */
 
-static int64_t run(int who, const void *a_case)
+/* One run of all steps; gives a number that depends on the last state, so that none is left out. */
+static int64_t run(int who, const Case *c)
 {
     static int32_t tables[2][4 * MOST_CELLS];
-    const Case *c = a_case;
     int64_t volumes[2] = {0, 0};
     uint32_t refusals = 0, place;
     memcpy(tables[0], c->start, state_of(c) * sizeof tables[0][0]);
     for (int k = 0; k < STEPS; k++)
         refusals |= call(who, c, tables[k % 2], tables[(k + 1) % 2], volumes, &place);
     return tables[STEPS % 2][0] + volumes[0] + refusals;
+}
+
+static double seconds(void)
+{
+    struct timespec t;
+    clock_gettime(CLOCK_PROCESS_CPUTIME_ID, &t);
+    return (double)t.tv_sec + 1e-9 * (double)t.tv_nsec;
+}
+
+/* Seconds of one step. */
+static double timed(int who, const Case *c)
+{
+    static volatile int64_t sink;
+    int runs = 1 + CELL_STEPS / STEPS / (int)c->n;
+    double before = seconds();
+    for (int k = 0; k < runs; k++)
+        sink = run(who, c);
+    (void)sink;
+    return (seconds() - before) / runs / STEPS;
+}
+
+static int by_size(const void *a, const void *b)
+{
+    double x = *(const double *)a, y = *(const double *)b;
+    return (x > y) - (x < y);
+}
+
+static double sorted_median(double *values)
+{
+    qsort(values, ROUNDS, sizeof values[0], by_size);
+    return values[ROUNDS / 2];
+}
+
+/* Which writings are held against each other; the last where there are sums. */
+enum { RATIOS = 3 };
+static const int ratio_of[RATIOS][2] = {{LIBRARY, PLAIN}, {LIBRARY, PLAIN_ROOT}, {WITH_SUMS, LIBRARY}};
+
+static void time_case(const Case *c, const char *name)
+{
+    int many = writings_of(c), shown = c->stepped ? RATIOS - 1 : RATIOS;
+    double times[WRITINGS][ROUNDS], ratios[RATIOS][ROUNDS];
+    for (int round = 0; round < ROUNDS; round++) {
+        for (int k = 0; k < many; k++)
+            times[k][round] = timed(k, c);
+        for (int k = 0; k < shown; k++)
+            ratios[k][round] = times[ratio_of[k][0]][round] / times[ratio_of[k][1]][round];
+    }
+    printf("| %s | %zu |", name, c->n);
+    for (int k = 0; k < many; k++)
+        times[k][0] = sorted_median(times[k]);
+    for (int k = LIBRARY; k <= PLAIN_ROOT; k++)
+        printf(" %.0f |", 1 / times[k][0]);
+    printf(" %.1f |", 1e9 * times[LIBRARY][0] / (double)c->n);
+    for (int k = 0; k < shown; k++) {
+        double middle = sorted_median(ratios[k]);
+        printf(" %.2f (%.2f\u2013%.2f) |", middle, ratios[k][0], ratios[k][ROUNDS - 1]);
+    }
+    putchar('\n');
 }
 
 /* ---- Questions */
@@ -381,23 +456,26 @@ static int time_cases(size_t first, size_t last)
             fills[name](&c, lengths[k]);
             if (!compare_case(&c, case_names[name]))
                 return 0;
-            time_case(case_names[name], c.n, writings_of(&c), run, &c, NULL);
+            time_case(&c, case_names[name]);
         }
     return 1;
 }
 
+#define HEADS "| case | cells | library (steps/s) | plain C | plain C, processor's root | library (ns a cell a step) " \
+              "| library / plain C | library / plain C, processor's root |"
+#define RULE "\n|---|---|---|---|---|---|---|---|"
+
 static int compare_and_time(void)
 {
-    if (!compare_random(draw, "continuous") || !compare_random(draw_stepped, "stepped") || !compare_random_doubles())
+    if (!compare_random(draw, "continuous") || !compare_random(draw_stepped, "stepped"))
         return 1;
-    write_heads(WRITINGS);
+    puts(HEADS " with sums / without |" RULE "---|");
     if (!time_cases(0, CASES / 2))
         return 1;
-    putchar('\n');
-    write_heads(WITHOUT_SUMS);
+    puts("\n" HEADS RULE);
     if (!time_cases(CASES / 2, CASES))
         return 1;
-    return time_questions() && time_doubles() ? 0 : 1;
+    return time_questions() ? 0 : 1;
 }
 
 static int count(char **words)
@@ -408,10 +486,8 @@ static int count(char **words)
     long runs = strtol(words[3], NULL, 10);
     while (name < CASES && strcmp(words[1], case_names[name]) != 0)
         name++;
-    if (n < 1 || n > MOST_CELLS)
+    if (name == CASES || n < 1 || n > MOST_CELLS)
         return 2;
-    if (name == CASES)
-        return count_doubles(who, words[1], n, runs);
     fills[name](&c, n);
     if (who < 0 || who >= writings_of(&c))
         return 2;

@@ -1,5 +1,4 @@
-/* The steps of bassoonsun.h written plainly in C: same arguments, same answers; its question: the same water; and its
- * face and its root of doubles. */
+/* The steps of bassoonsun.h written plainly in C: same arguments, same answers; and its question: the same water. */
 #ifndef PLAIN_H
 #define PLAIN_H
 
@@ -29,20 +28,6 @@ uint32_t plain_root_sill_step(const int32_t *now, size_t now_len, int32_t *next,
                               const int32_t *bed, size_t bed_len, const uint16_t *friction,
                               size_t friction_len, uint32_t dx, uint32_t dt, uint32_t dry, uint32_t left,
                               uint32_t right, int64_t volumes[2], uint32_t place[1]);
-
-/* The step in double precision (E1), with either root. */
-uint32_t plain_step_double(const double *now, size_t now_len, double *next, size_t next_len, const double *bed,
-                           size_t bed_len, const uint16_t *friction, size_t friction_len, double dx, double dt,
-                           double jump, uint32_t left, uint32_t right, double volumes[2], uint32_t place[1]);
-uint32_t plain_root_step_double(const double *now, size_t now_len, double *next, size_t next_len, const double *bed,
-                                size_t bed_len, const uint16_t *friction, size_t friction_len, double dx, double dt,
-                                double jump, uint32_t left, uint32_t right, double volumes[2], uint32_t place[1]);
-
-/* The double face with either root, and the two roots: one worked digit by digit, and the processor's. */
-uint32_t plain_face_double(double hl, double ul, double hr, double ur, double flux[4]);
-uint32_t plain_root_face_double(double hl, double ul, double hr, double ur, double flux[4]);
-uint32_t plain_digit_root(double x, double root[1]);
-uint32_t plain_processor_root(double x, double root[1]);
 
 /* bassoonsun_between without its sums: the water cell by cell. */
 uint32_t plain_between(const int32_t *state, size_t state_len, const int32_t *bed, size_t bed_len, const int32_t *sums,

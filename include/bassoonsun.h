@@ -7,7 +7,7 @@
  *
  * UNITS. One unit is 1/4096 of a metre, of a second, of a m/s or of a m2/s: a level of 6144 is 1.5 m,
  * a time step of 204 is about 1/20 s. Discharge is for one metre of width, rightward positive.
- * The three functions on doubles take and give plain metres and seconds.
+ * The two functions on doubles take and give plain metres and seconds.
  *
  * WHO OWNS WHAT. Every table is the caller's, before, during and after the call. The library
  * allocates nothing, keeps no pointer once it has returned, and has no state of its own, so calls
@@ -19,8 +19,7 @@
  * - a table that is written (next, sums, volumes, place, answer, flux, root) overlaps no other table
  *   of the call. now, state, bed and friction are only read, and sums by bassoonsun_between;
  * - the processor's floating point is as a program finds it: rounding to nearest, and tiny
- *   numbers not flushed to 0. Only the functions on doubles depend on it: bassoonsun_step_double,
- *   bassoonsun_face_double and bassoonsun_root.
+ *   numbers not flushed to 0. Only bassoonsun_face_double and bassoonsun_root depend on it.
  * Anything else may be lent: whatever the numbers and lengths are, what does not fit is refused.
  */
 #ifndef BASSOONSUN_H
@@ -38,8 +37,8 @@ extern "C" {
  * third with all else. */
 #define BASSOONSUN_VERSION_MAJOR 0
 #define BASSOONSUN_VERSION_MINOR 1
-#define BASSOONSUN_VERSION_PATCH 3
-#define BASSOONSUN_VERSION "0.1.3"
+#define BASSOONSUN_VERSION_PATCH 2
+#define BASSOONSUN_VERSION "0.1.2"
 
 /* So many units are one metre, second, m/s or m2/s, and so many cells a reach has at most. */
 #define BASSOONSUN_UNIT 4096
@@ -54,24 +53,23 @@ extern "C" {
 enum bassoonsun_end {
     BASSOONSUN_WALL = 0,
     BASSOONSUN_OPEN = 1, /* the water outside is as deep and as fast as that at the end face */
-    BASSOONSUN_INFLOW = 2 /* a given discharge comes in; of bassoonsun_step alone, and of the one that keeps sums */
+    BASSOONSUN_INFLOW = 2 /* a given discharge comes in; not of bassoonsun_sill_step */
 };
 
-/* What a step answers, or a call of the sums: that it is accepted, or why it is refused. bassoonsun_step,
- * bassoonsun_sill_step and bassoonsun_step_double say more of each, below, and bassoonsun_between of the last. The
- * faces and the root answer with numbers of their own. */
+/* What a step answers, or a call of the sums: that it is accepted, or why it is refused. bassoonsun_step and
+ * bassoonsun_sill_step say more of each, below, and bassoonsun_between of the last. The faces and the root answer with
+ * numbers of their own. */
 enum bassoonsun_refusal {
     BASSOONSUN_ACCEPTED = 0,
     BASSOONSUN_TABLES_MISFIT = 1,
     BASSOONSUN_NUMBER_OUT_OF_RANGE = 2,
-    BASSOONSUN_BED_OUT_OF_RANGE = 3, /* or odd, which a stepped bed and one in doubles may be */
+    BASSOONSUN_BED_OUT_OF_RANGE = 3, /* or odd, which a stepped bed may be */
     BASSOONSUN_FRICTION_OUT_OF_RANGE = 4,
     BASSOONSUN_STATE_OUT_OF_RANGE = 5,
     BASSOONSUN_WATER_TOO_FAST = 6,
     BASSOONSUN_TIME_STEP_TOO_LONG = 7,
     BASSOONSUN_RESULT_TOO_LARGE = 8,
-    BASSOONSUN_DEPTH_BELOW_NOUGHT = 9, /* of bassoonsun_step_double alone: doubles round */
-    BASSOONSUN_FACES_MISPLACED = 10 /* of a question */
+    BASSOONSUN_FACES_MISPLACED = 10 /* of a question; there is no 9 */
 };
 
 /* What such a call answered, in a few words to be shown to a user; also of a number that is none of those above. */
@@ -82,12 +80,11 @@ static inline const char *bassoonsun_refusal_text(uint32_t refusal)
     case BASSOONSUN_TABLES_MISFIT: return "the tables do not fit each other";
     case BASSOONSUN_NUMBER_OUT_OF_RANGE: return "dx, dt, J, the dry depth, an end's kind or its Q is out of range";
     case BASSOONSUN_BED_OUT_OF_RANGE: return "the bed is out of range, or odd where it is continuous";
-    case BASSOONSUN_FRICTION_OUT_OF_RANGE: return "the friction value is over 200, or not 0 in doubles";
+    case BASSOONSUN_FRICTION_OUT_OF_RANGE: return "the friction value is over 200";
     case BASSOONSUN_STATE_OUT_OF_RANGE: return "a depth or a discharge of the present state is out of range";
     case BASSOONSUN_WATER_TOO_FAST: return "the water is faster than 32 m/s";
     case BASSOONSUN_TIME_STEP_TOO_LONG: return "the time step is too long for these cells";
     case BASSOONSUN_RESULT_TOO_LARGE: return "a depth or a discharge has grown too large";
-    case BASSOONSUN_DEPTH_BELOW_NOUGHT: return "a mean depth has fallen below nought";
     case BASSOONSUN_FACES_MISPLACED: return "the two faces are in the wrong order or beyond the reach";
     default: return "no answer of a step";
     }
@@ -359,73 +356,6 @@ static inline uint32_t bassoonsun_sill_step_call(const int32_t *now, size_t now_
 {
     return bassoonsun_sill_step(now, now_len, next, next_len, bed, bed_len, friction, friction_len, call.dx, call.dt,
                                 call.dry, call.left, call.right, volumes, place);
-}
-
-/* IN DOUBLES. For plots beside bassoonsun_step, so that what comes of whole numbers of 1/4096 m can be told from what
- * comes of the scheme: the same two-stage scheme without friction, in metres, seconds, m/s and m2/s. Every operation and
- * how it is grouped is listed in docs/DOUBLE-STEP.md, and the answer is that list's, bit for bit. It is no better step to
- * run a job with: doubles round, so it promises neither that the water balances to the last bit, nor that a lake keeps
- * every number, nor that no depth falls below nought. A depth that does is told by a 9.
- *
- * It is the step as it was first written: a marked cell is limited whatever stands beside it, the dry depth is
- * 1/1024 m, an end is a wall or open, and a state goes cell by cell.
- *
- * One step. Gives BASSOONSUN_ACCEPTED, 0, when the step is accepted, else the number of its refusal. The number of cells
- * n is friction_len, 1 to BASSOONSUN_MOST_CELLS, 1024. Cell i lies between faces i and i + 1.
- *
- *   now       4n numbers, the present state, four a cell: cell i has the mean of its level, now[4i], the level's slope,
- *             the mean of its discharge, and the discharge's slope. It shows mean - slope at its left face and mean +
- *             slope at its right face. Face depths are 0 to 64, face discharges within 2048 of nought
- *   next      4n numbers, where the new state goes, laid out like now
- *   bed       n + 1 numbers, the bed at the faces: 0 to 256
- *   friction  n values, each 0: here they only say how many cells there are
- *   dx        length of a cell, 1/4096 to 256
- *   dt        time step, 1/4096 to 1. Here too a third of a cell a step: in a lake, steps of two fifths of a cell made a
- *             ripple grow out of the last bits until a step was refused
- *   jump      J, 0 to 64: at a face where the levels of two cells differ by more than J, the slopes of both are limited
- *   left      kind of the left end: BASSOONSUN_WALL, 0, or BASSOONSUN_OPEN, 1
- *   right     kind of the right end, likewise
- *   volumes   what crossed face 0 and what crossed face n, rightward positive, as depth over one cell
- *   place     where a refused step was refused: see below. It is written by every call, with 0 when the step is accepted
- *
- * After a refusal next and volumes hold what they held before. The checks are made in this order, each over the whole
- * reach, and the first that applies is given; place is the lowest bed value, cell or face to which it applies, counted
- * from 0. A NaN is outside every limit:
- *
- *   1  the tables do not fit each other: friction_len is 0 or over 1024, or now_len or next_len is not 4n, or bed_len is
- *      not n + 1. Place 0
- *   2  dx, dt, jump, left or right is outside its range. Place 0
- *   3  a bed value is out of range. Place: the bed value, 0 to n
- *   4  a friction value is not 0. Place: its cell, 0 to n - 1
- *   5  the present state has a number that is not finite, or a face depth or a face discharge out of range. Place: the cell
- *   6  the water is faster than 32 m/s: in a cell, at a face, or at a Gauss point. Place: the cell, then the face, 0 to n,
- *      then the cell of the Gauss point
- *   7  the time step is too long for the top speed S at some face: 2*dt*S is over dx. Place: the face
- *   9  after stage one, or at the end, a mean depth is below nought, before the slopes are limited and cut. Place: the cell
- *   8  after stage one, or at the end, a depth or a discharge is too large. Place: the cell
- *
- * 6 (at faces and Gauss points), 7, 9 and 8 are made for stage one and then again for stage two.
- *
- * The call works on the stack: in about 25 KiB for a reach of at most 128 cells, and in about 190 KiB for a longer one. */
-uint32_t bassoonsun_step_double(const double *now, size_t now_len, double *next, size_t next_len,
-                                const double *bed, size_t bed_len, const uint16_t *friction, size_t friction_len,
-                                double dx, double dt, double jump, uint32_t left, uint32_t right,
-                                double volumes[2], uint32_t place[1]);
-
-/* The numbers of one such step, to be filled by name, as struct bassoonsun_call is. */
-struct bassoonsun_double_call {
-    double dx, dt, jump;
-    uint32_t left, right;
-};
-
-/* bassoonsun_step_double with its numbers from a struct; all that is said there holds. */
-static inline uint32_t bassoonsun_step_double_call(const double *now, size_t now_len, double *next, size_t next_len,
-                                                   const double *bed, size_t bed_len, const uint16_t *friction,
-                                                   size_t friction_len, struct bassoonsun_double_call call,
-                                                   double volumes[2], uint32_t place[1])
-{
-    return bassoonsun_step_double(now, now_len, next, next_len, bed, bed_len, friction, friction_len, call.dx, call.dt,
-                                  call.jump, call.left, call.right, volumes, place);
 }
 
 /* What crosses one face between water of depth hl and speed ul on its left and of depth hr and

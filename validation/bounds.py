@@ -99,24 +99,6 @@ BOUNDS = {
     "sills, slope, 320 cells: depth error (%)": Bound(0, 5.2, "4.49, nearly all of it rounding"),
     "sills, slope, 8 times as deep, 320 cells: depth error (%)": Bound(0, 0.75, "0.63"),
     "sills, slope, 8 times as deep: order, 40 to 320 cells": least(0.8, "0.90; first order"),
-
-    "doubles, dam break, 64 cells: mean error (mm)": most(8, "7.5: the scheme's own"),
-    "doubles, dam break, 1,024 cells: mean error (mm)": most(0.7, "0.61, where the whole numbers have 2.35"),
-    "doubles, dam break: order, 64 to 1,024 cells": least(0.85, "0.91; a jump and two kinks allow 1"),
-    "doubles, dam break, 1,024 cells: bore late by (mm)": Bound(-12, 12, "7 early, a ninth of a cell"),
-    "doubles less whole, dam break, 64 cells: mean (mm)": most(0.9, "0.78: what rounding does"),
-    "doubles less whole, dam break, 1,024 cells: mean (mm)": most(2.8, "2.40: rounding, and it is the larger error"),
-
-    "doubles, standing wave, 64 cells: mean error (%)": most(0.08, "0.064, part of it the start's rounding"),
-    "doubles, standing wave, start not rounded, 64 cells: mean error (%)": most(0.06, "0.055: that of linear theory"),
-    "doubles less whole, standing wave, 64 cells: mean (%)": most(34, "31.8: rounding"),
-    "doubles, low standing wave: order, 4 to 256 cells": least(2.8, "2.96: that of the height which is lost"),
-    "doubles, low standing wave, a quarter later: order, 4 to 256 cells": least(2, "2.06: that of the period"),
-
-    "doubles, lake between walls: a level moved by (m)": most(1e-14, "2e-15: some last bits"),
-    "doubles, lake with open ends: a level moved by (m)": most(1e-9, "2e-10; nothing holds a level there"),
-    "doubles less whole, one step at the shore: farthest (mm)": Bound(45, 60, "54.6: E2 is not in the doubles"),
-    "doubles less whole before E2, one step at the shore: farthest (mm)": most(0.6, "0.46: two units, of rounding"),
 }
 
 

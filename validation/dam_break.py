@@ -17,22 +17,18 @@ COUNTS = (64, 128, 256, 512, 1024)
 EXACT = DamBreak(HIGH, LOW)
 
 
-def dam(n, size, pace, sills=False):
-    """The reach and how many steps it takes; size and pace are 1, 1 or 16, 4.  With `sills` it is that of E10, in
-    first order."""
+def broken(command, n, size, pace, sills=False):
+    """The levels after the run, in metres of the ditch; size and pace are 1, 1 or 16, 4.  With `sills` the reach is
+    that of E10, in first order."""
     dx = LENGTH * size * UNIT // n
     dt = dx // (COURANT * pace)
     steps = SECONDS * pace * UNIT // dt
     levels = [(HIGH if i < n // 2 else LOW) * size * UNIT for i in range(n)]
     if sills:
-        return Sills(dx, dt, DITCH_DRY, WALL, WALL, [0] * n, [0] * n, [(level, 0) for level in levels]), steps
-    cells = [(level, 0, 0, 0) for level in levels]
-    return Reach(dx, dt, JUMP * size, DITCH_DRY, WALL, WALL, [0] * (n + 1), [0] * n, cells), steps
-
-
-def broken(command, n, size, pace, sills=False):
-    """The levels after the run, in metres of the ditch."""
-    reach, steps = dam(n, size, pace, sills)
+        reach = Sills(dx, dt, DITCH_DRY, WALL, WALL, [0] * n, [0] * n, [(level, 0) for level in levels])
+    else:
+        cells = [(level, 0, 0, 0) for level in levels]
+        reach = Reach(dx, dt, JUMP * size, DITCH_DRY, WALL, WALL, [0] * (n + 1), [0] * n, cells)
     last = stepped(command, reach, steps, steps)[-1]
     return [cell[0] / UNIT / size for cell in last.cells]
 

@@ -3,7 +3,6 @@
  *     reach STEPS EVERY
  *     reach STEPS alike
  *     reach STEPS EVERY sills
- *     reach STEPS EVERY doubles
  *
  * Read, as whole numbers parted by blanks: n dx dt J dry left right, then n + 1 beds, n Manning values
  * and 4n numbers of the state, all in the library's units and in its order; then for each step left_q and
@@ -12,9 +11,7 @@
  * every cell is given the depth, the discharge and their slopes of the middle one before each step, so that this
  * one is in the middle of a reach without ends; the line is written when a step changes no number of it. If none
  * does within STEPS steps, the run has failed. With `sills` the bed is stepped (E10): it has n values, one a cell, and
- * the state 2n; J is read and not used, and there are no inflows. With `doubles` the step is that in double precision
- * (E1): dx, dt, J, the bed and the state are in metres and seconds, the state cell by cell; the dry depth is read and
- * not used, and there are no inflows. What is written are then doubles with all their digits.
+ * the state 2n; J is read and not used, and there are no inflows.
  *
  * The exit status is 0 when every step was accepted. */
 #include <bassoonsun.h>
@@ -34,16 +31,6 @@ typedef struct {
     int32_t now[4 * MOST_CELLS], next[4 * MOST_CELLS];
     int64_t crossed[2]; /* face 0 and face n, all steps together */
 } Reach;
-
-/* The same in doubles. */
-typedef struct {
-    size_t cells;
-    struct bassoonsun_double_call call;
-    double bed[MOST_CELLS + 1];
-    uint16_t friction[MOST_CELLS];
-    double now[4 * MOST_CELLS], next[4 * MOST_CELLS];
-    double crossed[2];
-} DoubleReach;
 
 /* The numbers of a state, and of a bed. */
 static size_t state_of(const Reach *reach) { return (reach->sills ? 2 : 4) * reach->cells; }
@@ -122,11 +109,6 @@ static uint32_t step(Reach *reach, uint32_t place[1])
     return 0;
 }
 
-static void say_refused(long k, uint32_t refusal, uint32_t place)
-{
-    fprintf(stderr, "reach: step %ld is refused with %" PRIu32 " at %" PRIu32 "\n", k, refusal, place);
-}
-
 /* Gives 1 and says why where step k is refused. */
 static int refused(Reach *reach, long k)
 {
@@ -134,7 +116,7 @@ static int refused(Reach *reach, long k)
     uint32_t place[1], refusal = step(reach, place);
     if (refusal == 0)
         return 0;
-    say_refused(k, refusal, place[0]);
+    fprintf(stderr, "reach: step %ld is refused with %" PRIu32 " at %" PRIu32 "\n", k, refusal, place[0]);
     return 1;
 }
 
@@ -179,76 +161,16 @@ static int write_alike(Reach *reach, long steps)
     return fprintf(stderr, "reach: it still moves after %ld steps\n", steps), 1;
 }
 
-/* ---- In doubles */
-
-static int read_doubles(double *table, size_t count)
-{
-    for (size_t i = 0; i < count; i++)
-        if (scanf("%lf", &table[i]) != 1)
-            return 0;
-    return 1;
-}
-
-static int read_double_reach(DoubleReach *reach)
-{
-    struct bassoonsun_double_call *call = &reach->call;
-    uint32_t dry;
-    if (scanf("%zu %lf %lf %lf %" SCNu32 " %" SCNu32 " %" SCNu32, &reach->cells, &call->dx, &call->dt, &call->jump,
-              &dry, &call->left, &call->right) != 7 || reach->cells > MOST_CELLS)
-        return 0;
-    return read_doubles(reach->bed, reach->cells + 1) && read_friction(reach->friction, reach->cells) &&
-           read_doubles(reach->now, 4 * reach->cells);
-}
-
-/* With 17 digits a double comes back as it was. */
-static void write_doubles(const DoubleReach *reach)
-{
-    printf("%.17g %.17g", reach->crossed[0], reach->crossed[1]);
-    for (size_t i = 0; i < 4 * reach->cells; i++)
-        printf(" %.17g", reach->now[i]);
-    putchar('\n');
-}
-
-/* Gives 1 and says why where step k is refused. */
-static int double_refused(DoubleReach *reach, long k)
-{
-    size_t n = reach->cells;
-    double volumes[2];
-    uint32_t place[1], refusal = bassoonsun_step_double_call(reach->now, 4 * n, reach->next, 4 * n, reach->bed, n + 1,
-                                                             reach->friction, n, reach->call, volumes, place);
-    if (refusal != 0)
-        return say_refused(k, refusal, place[0]), 1;
-    memcpy(reach->now, reach->next, 4 * n * sizeof reach->now[0]);
-    reach->crossed[0] += volumes[0];
-    reach->crossed[1] += volumes[1];
-    return 0;
-}
-
-static int write_doubles_every(DoubleReach *reach, long steps, long every)
-{
-    write_doubles(reach);
-    for (long k = 1; k <= steps; k++) {
-        if (double_refused(reach, k))
-            return 1;
-        if (k % every == 0)
-            write_doubles(reach);
-    }
-    return 0;
-}
-
 int main(int argc, char **argv)
 {
     static Reach reach;
-    static DoubleReach double_reach;
     reach.sills = argc == 4 && strcmp(argv[3], "sills") == 0;
-    int doubles = argc == 4 && strcmp(argv[3], "doubles") == 0, told = argc == 3 || reach.sills || doubles;
+    int told = argc == 3 || reach.sills;
     long steps = told ? atol(argv[1]) : 0, every = told ? atol(argv[2]) : 0;
     int alike = argc == 3 && strcmp(argv[2], "alike") == 0;
     if (steps < 1 || (every < 1 && !alike))
-        return fputs("use: reach STEPS EVERY|alike|EVERY sills|EVERY doubles <CASE\n", stderr), 2;
-    if (doubles ? !read_double_reach(&double_reach) : !read_reach(&reach) || (alike && reach.cells < LEAST_ALIKE))
+        return fputs("use: reach STEPS EVERY|alike|EVERY sills <CASE\n", stderr), 2;
+    if (!read_reach(&reach) || (alike && reach.cells < LEAST_ALIKE))
         return fputs("reach: the case is not as it should be\n", stderr), 2;
-    if (doubles)
-        return write_doubles_every(&double_reach, steps, every);
     return alike ? write_alike(&reach, steps) : write_every(&reach, steps, every);
 }

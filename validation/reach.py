@@ -1,7 +1,6 @@
 """A reach of the library, stepped by the C program reach.
 
-Metres and seconds become the library's whole numbers here and nowhere else, and cells its columns.  Its step in
-doubles takes metres and seconds as they are, and cells one after another.
+Metres and seconds become the library's whole numbers here and nowhere else, and cells its columns.
 """
 
 import re
@@ -19,9 +18,6 @@ Reach = namedtuple("Reach", "dx dt jump dry left right bed friction cells inflow
 
 # A reach with a stepped bed (E10).  bed: n numbers, one a cell; cells: n times (level, discharge); no inflows
 Sills = namedtuple("Sills", "dx dt dry left right bed friction cells")
-
-# A reach in doubles (E1), in metres and seconds, without friction.  bed: n + 1 numbers; cells as those of a Reach
-Doubles = namedtuple("Doubles", "dx dt jump left right bed cells")
 
 # What crossed the two ends since the start, and the cells, after some number of steps.
 State = namedtuple("State", "crossed cells")
@@ -42,30 +38,7 @@ def cells_of(table, columns=4):
     return [tuple(table[i::n]) for i in range(n)]
 
 
-def in_doubles(reach):
-    """The same reach for the step in doubles.  A unit is a power of two, so no number is rounded."""
-    if any(reach.friction) or reach.dry != DITCH_DRY or INFLOW in (reach.left, reach.right):
-        raise SystemExit("reach: the step in doubles has no friction, no inflow and one dry depth")
-    metres = [[number / UNIT for number in cell] for cell in reach.cells]
-    return Doubles(reach.dx / UNIT, reach.dt / UNIT, reach.jump / UNIT, reach.left, reach.right,
-                   [z / UNIT for z in reach.bed], metres)
-
-
-def in_metres(state):
-    """A state of whole numbers as one in doubles would have it."""
-    return State(tuple(w / UNIT for w in state.crossed), [tuple(x / UNIT for x in cell) for cell in state.cells])
-
-
-def text_of_doubles(reach):
-    n = len(reach.cells)
-    numbers = [n, reach.dx, reach.dt, reach.jump, 0, reach.left, reach.right] + reach.bed + [0] * n
-    numbers += [number for cell in reach.cells for number in cell]
-    return " ".join(map(str, numbers)) + "\n"
-
-
 def text_of(reach):
-    if isinstance(reach, Doubles):
-        return text_of_doubles(reach)
     jump, inflows = (0, []) if isinstance(reach, Sills) else (reach.jump, reach.inflows)
     numbers = [len(reach.cells), reach.dx, reach.dt, jump, reach.dry, reach.left, reach.right]
     numbers += reach.bed + reach.friction + table_of(reach.cells)
@@ -75,7 +48,7 @@ def text_of(reach):
 
 
 def run(command, reach, steps, every):
-    words = [str(steps), str(every)] + ["sills"] * isinstance(reach, Sills) + ["doubles"] * isinstance(reach, Doubles)
+    words = [str(steps), str(every)] + ["sills"] * isinstance(reach, Sills)
     return subprocess.run(command + words, input=text_of(reach), capture_output=True, text=True)
 
 
@@ -91,7 +64,7 @@ def ended(command, reach, steps):
     """The last state and None, or None and the first refused step with its number."""
     done = run(command, reach, steps, steps)
     if done.returncode == 0:
-        return state_in(reach, done.stdout.splitlines()[-1]), None
+        return state_of(done.stdout.splitlines()[-1], len(reach.cells[0])), None
     found = re.search(r"step (\d+) is refused with (\d+)", done.stderr)
     if found is None:
         raise SystemExit(done.stderr)
@@ -100,7 +73,7 @@ def ended(command, reach, steps):
 
 def stood(command, reach, most):
     """The middle cell of a reach without ends, of cells that are all alike, when a step changes it no more."""
-    cells = state_in(reach, lines_of(command, reach, most, "alike")[0]).cells
+    cells = state_of(lines_of(command, reach, most, "alike")[0]).cells
     return cells[len(cells) // 2]
 
 
@@ -109,14 +82,10 @@ def refusal_of(command, reach, steps):
     return ended(command, reach, steps)[1]
 
 
-def state_in(reach, line):
-    """A line that the program has written, of this reach."""
-    if isinstance(reach, Doubles):
-        first, last, *table = [float(word) for word in line.split()]
-        return State((first, last), [tuple(table[i:i + 4]) for i in range(0, len(table), 4)])
+def state_of(line, columns=4):
     first, last, *table = [int(word) for word in line.split()]
-    return State((first, last), cells_of(table, len(reach.cells[0])))
+    return State((first, last), cells_of(table, columns))
 
 
 def stepped(command, reach, steps, every):
-    return [state_in(reach, line) for line in lines_of(command, reach, steps, every)]
+    return [state_of(line, len(reach.cells[0])) for line in lines_of(command, reach, steps, every)]

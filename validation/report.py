@@ -22,9 +22,6 @@ import bounds
 import bump
 import dam_break
 import ditch
-import double_dam_break
-import double_shore
-import double_wave
 import dry_depth
 import lake
 import sill_dam_break
@@ -37,7 +34,7 @@ import weir
 DOCS = Path(__file__).resolve().parent.parent / "docs"
 PAGE = DOCS / "VALIDATION.md"
 SECTIONS = (dam_break, lake, bank, standing_wave, basin, bump, ditch, slope, dry_depth,
-            sill_lake, sill_dam_break, weir, sill_slope, double_dam_break, double_wave, double_shore)
+            sill_lake, sill_dam_break, weir, sill_slope)
 
 
 def worked(command, k):
@@ -48,11 +45,11 @@ def worked(command, k):
         return {}, {}, {}, ["%s stopped: %s" % (SECTIONS[k].__name__, str(stop).strip())]
 
 
-def made(command, workers=ProcessPoolExecutor, sections=range(len(SECTIONS))):
+def made(command, workers=ProcessPoolExecutor):
     """Tables, pictures and figures of all sections, and a line for each that stopped; they are worked beside each other."""
     tables, pictures, figures, stopped = {}, {}, {}, []
     with workers(os.cpu_count()) as pool:
-        for some_tables, some_pictures, some_figures, stop in pool.map(partial(worked, command), sections):
+        for some_tables, some_pictures, some_figures, stop in pool.map(partial(worked, command), range(len(SECTIONS))):
             tables.update(some_tables)
             pictures.update(some_pictures)
             figures.update(some_figures)

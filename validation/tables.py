@@ -1,15 +1,6 @@
-"""Markdown tables, how large a row of errors is, and the observed order of such rows."""
+"""Markdown tables, and the observed order of a row of errors."""
 
-from collections import namedtuple
-from math import log2, sqrt
-
-Sizes = namedtuple("Sizes", "mean rms greatest")
-
-
-def sizes(row, other):
-    """How far two rows of numbers are apart."""
-    apart = [abs(a - b) for a, b in zip(row, other)]
-    return Sizes(sum(apart) / len(apart), sqrt(sum(x * x for x in apart) / len(apart)), max(apart))
+from math import log2
 
 
 def table(heads, rows):

@@ -2,10 +2,9 @@
 
     worse.py COMPILER
 
-The schemes are bench/plain.c and, in doubles, bench/plain_double.c, which give the library's own numbers, with a mistake
-in each.  They are linked with reach.c under the names of the library's calls, by this machine's own compiler.  Each
-scheme is a case: as they stand they must break no bound, each of the others at least one.  The last line is
-'N passed, M failed'.
+The schemes are bench/plain.c, which gives the library's own numbers, with a mistake in each.  It is linked with reach.c
+under the names of the library's calls, by this machine's own compiler.  Each scheme is a case: plain.c as it stands must
+break no bound, each of the others at least one.  The last line is 'N passed, M failed'.
 """
 
 import subprocess
@@ -67,55 +66,19 @@ SCHEMES = (
     ("sills: a time step of 99 %", [("friction, dx, dt, 0, dry,", "friction, dx, (99 * dt + 50) / 100, 0, dry,")]),
 )
 
-DOUBLE_LIMIT = "if (marked(r, unfinished, i))\n            limit(r, unfinished, i, &c);"
-DOUBLE_SPARED = ("depth(r, i, &c) <= DRY || (i > 0 && depth(r, i - 1, &unfinished[i - 1]) <= DRY) ||"
-                 " (i + 1 < r->n && depth(r, i + 1, &unfinished[i + 1]) <= DRY)")
 
-# Those in doubles, and what stands in plain_double.c.
-DOUBLE_SCHEMES = (
-    ("stage two is handed out", [
-        ("cells[i].e1 = (c->e1 + cells[i].e1) / 2;", ""), ("cells[i].q0 = (c->q0 + cells[i].q0) / 2;", ""),
-        ("cells[i].q1 = (c->q1 + cells[i].q1) / 2;", ""),
-        ("(crossed(r, &one[i]) + crossed(r, &two[i])) / 2", "crossed(r, &two[i]) + 0 * crossed(r, &one[i])")]),
-    ("no cell has a slope", [(DOUBLE_LIMIT, "c.e1 = c.q1 = 0;")]),
-    ("every cell is limited", [("return size((left->e0 + left->e1) - (right->e0 - right->e1)) > r->jump;",
-                                "return (void)r, (void)left, (void)right, true;")]),
-    ("cells beside dry ground are spared (E2)", [(DOUBLE_LIMIT, DOUBLE_LIMIT.replace(
-        "marked(r, unfinished, i)", "marked(r, unfinished, i) && !(%s)" % DOUBLE_SPARED))]),
-    ("a time step of 99 %", [("Reach r = {n, bed, dx, dt,", "Reach r = {n, bed, dx, 0.99 * dt,")]),
-    ("levels are cut to 1/4096 m", [("cells[i].e0 = c->e0 + left - right;",
-                                     "cells[i].e0 = trunc(4096 * (c->e0 + left - right)) / 4096;")]),
-    ("the push is 1 % too strong", [("981 * E * dt", "991 * E * dt")]),
-    ("nothing is carried along", [("c->q0 + (left->A - right->A) * dt / dx + 981", "c->q0 + 981")]),
-    ("the level slope is not worked", [("c->e1 - 3 * (right->F + left->F - 2 * c->q0) * dt / dx,", "c->e1,")]),
-    ("the bed's slope is left out of the push", [(" - (s->hr + s->hl) * (r->bed[i + 1] - r->bed[i]);", ";")]),
-)
-DOUBLE_SECTIONS = [k for k, section in enumerate(report.SECTIONS) if section.__name__.startswith("double")]
-
-# The name of each, the edits of plain.c and of plain_double.c, and which sections tell.
-ALL = [(name, edits, [], range(len(report.SECTIONS))) for name, edits in SCHEMES]
-ALL += [("doubles: " + name, [], edits, DOUBLE_SECTIONS) for name, edits in DOUBLE_SCHEMES]
-
-
-def edited(name, edits):
-    """A file of bench; each text must stand in it once."""
-    text = (ROOT / "bench" / name).read_text(encoding="utf-8")
+def program_of(compiler, k, edits):
+    """reach with this scheme; each text must stand in plain.c once."""
+    text = (ROOT / "bench" / "plain.c").read_text(encoding="utf-8")
     for old, new in edits:
         if text.count(old) != 1:
-            raise SystemExit("worse: %d places in %s for %r" % (text.count(old), name, old))
+            raise SystemExit("worse: %d places in plain.c for %r" % (text.count(old), old))
         text = text.replace(old, new)
-    return text
-
-
-def program_of(compiler, k, edits, double_edits):
-    """reach with this scheme."""
-    whole, doubles, program = PLACE / ("%d.c" % k), PLACE / ("double%d.c" % k), PLACE / ("reach%d" % k)
-    whole.write_text(edited("plain.c", edits), encoding="utf-8")
-    doubles.write_text(edited("plain_double.c", double_edits), encoding="utf-8")
-    names = ["-Dplain_step=bassoonsun_step", "-Dplain_sill_step=bassoonsun_sill_step",
-             "-Dplain_step_double=bassoonsun_step_double"]
-    subprocess.run([compiler, "-std=c11", "-O2", "-ffp-contract=off", "-I", ROOT / "include", "-I", ROOT / "bench",
-                    *names, ROOT / "validation" / "reach.c", whole, doubles, "-o", program, "-lm"], check=True)
+    source, program = PLACE / ("%d.c" % k), PLACE / ("reach%d" % k)
+    source.write_text(text, encoding="utf-8")
+    names = ["-D", "plain_step=bassoonsun_step", "-D", "plain_sill_step=bassoonsun_sill_step"]
+    subprocess.run([compiler, "-std=c11", "-O2", "-I", ROOT / "include", "-I", ROOT / "bench", *names,
+                    ROOT / "validation" / "reach.c", source, "-o", program, "-lm"], check=True)
     return [str(program)]
 
 
@@ -136,14 +99,13 @@ def main(words):
     PLACE.mkdir(parents=True, exist_ok=True)
     bank.stepped_before_e2 = remembered(bank.stepped_before_e2)
     failed = 0
-    for k, (name, edits, double_edits, sections) in enumerate(ALL):
-        program = program_of(words[0], k, edits, double_edits)
-        _, _, figures, stopped = report.made(program, ThreadPoolExecutor, sections)
+    for k, (name, edits) in enumerate(SCHEMES):
+        _, _, figures, stopped = report.made(program_of(words[0], k, edits), ThreadPoolExecutor)
         broken = [line for line in bounds.broken(figures, bounds.BOUNDS) if not line.endswith("no figure")]
         print("%s: %d sections stopped, %d bounds broken in the others" % (name, len(stopped), len(broken)),
               *stopped, *broken, sep="\n    ", flush=True)
-        failed += bool(edits + double_edits) != bool(stopped + broken)
-    print("%d passed, %d failed" % (len(ALL) - failed, failed))
+        failed += bool(edits) != bool(stopped + broken)
+    print("%d passed, %d failed" % (len(SCHEMES) - failed, failed))
     return 1 if failed else 0
 
 

@@ -6,14 +6,11 @@
  * state. Every step is made with its numbers in a row and again with them filled by name, both without sums
  * and with them, and each with what is particular in it at one spot: the first index, the middle one, the
  * last. On the same tables sums are made and questions asked. The step over a stepped bed is tried likewise, on
- * tables of its own, and so is the step in doubles, with every number at its limits and a last place beyond them.
- * The last line is 'N passed, M failed'. */
+ * tables of its own. The last line is 'N passed, M failed'. */
 #define _DEFAULT_SOURCE
 #include "fence.h"
 #include <bassoonsun.h>
-#include <float.h>
 #include <math.h>
-#include <string.h>
 
 enum { METRE = BASSOONSUN_UNIT, DX = METRE, DT = METRE / 20, DRY = 4, MARK = -77 };
 
@@ -28,8 +25,8 @@ static void check(int good, const char *what, size_t n, int at_end)
 }
 
 /* The place that is due: 0, which a refusal of no index and an accepted call have too, the bed value or the cell of the
- * spot, that cell's right face, the last cell, or face n. A cell's left face has its index. */
-enum place { AT_0, AT_BED, AT_CELL, AT_RIGHT_FACE, AT_LAST, AT_N };
+ * spot, that cell's right face, or face n. A cell's left face has its index. */
+enum place { AT_0, AT_BED, AT_CELL, AT_RIGHT_FACE, AT_N };
 
 /* A call to be made: what differs from a good call on n cells, and the answer that is due. */
 typedef struct {
@@ -212,18 +209,13 @@ static uint32_t make_step(const Lent *t, const Call *c, int by_name, int with_su
                            c->left_q, c->right_q, t->volumes.first, t->place.first);
 }
 
-static size_t place_due(const Lent *t, enum place at)
-{
-    const size_t due[] = {[AT_0] = 0, [AT_BED] = t->spot_face, [AT_CELL] = t->spot_cell,
-                          [AT_RIGHT_FACE] = t->spot_cell + 1, [AT_LAST] = t->n - 1, [AT_N] = t->n};
-    return due[at];
-}
-
 /* The place is written in every call, so that one which still holds its mark is wrong. */
 static int placed(const Lent *t, const Call *c)
 {
+    const size_t due[] = {[AT_0] = 0, [AT_BED] = t->spot_face, [AT_CELL] = t->spot_cell,
+                          [AT_RIGHT_FACE] = t->spot_cell + 1, [AT_N] = t->n};
     const uint32_t *place = t->place.first;
-    return place[0] == place_due(t, c->place);
+    return place[0] == due[c->place];
 }
 
 static void try_step(const Call *c, size_t n, int spot, int at_end, int by_name, int with_sums)
@@ -441,247 +433,6 @@ static const Call sills[] = {
      .spot_discharge = 60000},
 };
 
-/* The step in doubles, of flat water all of one level and discharge over a flat bed but for one spot. */
-typedef struct {
-    const char *what;
-    uint32_t due;
-    enum place place;
-    int now_more, next_more, bed_more;
-    double dx, dt, jump;
-    uint32_t left, right;
-    double bed, level, discharge;      /* of every cell but that of the spot, */
-    double spot_bed, spot[4];          /* and what is added there, to one face and to the numbers of one cell */
-    uint16_t spot_friction;
-} DoubleCall;
-
-#define DOUBLE .dx = 1, .dt = 0.05, .jump = 0.25, .left = BASSOONSUN_WALL, .right = BASSOONSUN_OPEN, .bed = 0.5, \
-               .level = 2
-/* Water that takes nearly any step: it stands, and both ends are walls. */
-#define STILL .dx = 256, .dt = 1.0 / 4096, .jump = 1, .level = 1
-/* The doubles beside x, for the x that are here. */
-#define OVER(x) ((x) * (1 + 0x1p-52))
-#define UNDER(x) ((x) * (1 - 0x1p-53))
-
-static const DoubleCall doubles[] = {
-    {DOUBLE, .what = "double: accepted", .due = BASSOONSUN_ACCEPTED},
-    {DOUBLE, .what = "double: accepted, a wave", .due = BASSOONSUN_ACCEPTED, .spot = {0.25, 0.125, 0.25, -0.125}},
-    {DOUBLE, .what = "double: accepted, ends the other way", .due = BASSOONSUN_ACCEPTED, .left = BASSOONSUN_OPEN,
-     .right = BASSOONSUN_WALL, .spot = {0.25, 0.125, 0.25, -0.125}},
-    {DOUBLE, .what = "double: accepted, a bump of the bed", .due = BASSOONSUN_ACCEPTED, .spot_bed = 0.25},
-    {DOUBLE, .what = "double: now too long", .due = BASSOONSUN_TABLES_MISFIT, .now_more = 1},
-    {DOUBLE, .what = "double: now too short", .due = BASSOONSUN_TABLES_MISFIT, .now_more = -1},
-    {DOUBLE, .what = "double: next too long", .due = BASSOONSUN_TABLES_MISFIT, .next_more = 1},
-    {DOUBLE, .what = "double: next too short", .due = BASSOONSUN_TABLES_MISFIT, .next_more = -1},
-    {DOUBLE, .what = "double: bed too long", .due = BASSOONSUN_TABLES_MISFIT, .bed_more = 1},
-    {DOUBLE, .what = "double: bed too short", .due = BASSOONSUN_TABLES_MISFIT, .bed_more = -1},
-    {STILL, .what = "double: dx at its most", .due = BASSOONSUN_ACCEPTED, .dx = 256},
-    {STILL, .what = "double: dx over its most", .due = BASSOONSUN_NUMBER_OUT_OF_RANGE, .dx = OVER(256.0)},
-    {STILL, .what = "double: dx at its least", .due = BASSOONSUN_ACCEPTED, .dx = 1.0 / 4096, .level = 0.01},
-    {STILL, .what = "double: dx under its least", .due = BASSOONSUN_NUMBER_OUT_OF_RANGE, .dx = UNDER(1.0 / 4096)},
-    {STILL, .what = "double: dx NaN", .due = BASSOONSUN_NUMBER_OUT_OF_RANGE, .dx = NAN},
-    {STILL, .what = "double: dx infinite", .due = BASSOONSUN_NUMBER_OUT_OF_RANGE, .dx = INFINITY},
-    {STILL, .what = "double: dx of -0", .due = BASSOONSUN_NUMBER_OUT_OF_RANGE, .dx = -0.0},
-    {STILL, .what = "double: dt at its most", .due = BASSOONSUN_ACCEPTED, .dt = 1},
-    {STILL, .what = "double: dt over its most", .due = BASSOONSUN_NUMBER_OUT_OF_RANGE, .dt = OVER(1.0)},
-    {STILL, .what = "double: dt at its least", .due = BASSOONSUN_ACCEPTED, .dt = 1.0 / 4096},
-    {STILL, .what = "double: dt under its least", .due = BASSOONSUN_NUMBER_OUT_OF_RANGE, .dt = UNDER(1.0 / 4096)},
-    {STILL, .what = "double: dt NaN", .due = BASSOONSUN_NUMBER_OUT_OF_RANGE, .dt = NAN},
-    {STILL, .what = "double: J at its most", .due = BASSOONSUN_ACCEPTED, .jump = 64},
-    {STILL, .what = "double: J over its most", .due = BASSOONSUN_NUMBER_OUT_OF_RANGE, .jump = OVER(64.0)},
-    {STILL, .what = "double: J of 0", .due = BASSOONSUN_ACCEPTED, .jump = 0},
-    {STILL, .what = "double: J of -0", .due = BASSOONSUN_ACCEPTED, .jump = -0.0},
-    {STILL, .what = "double: J below 0", .due = BASSOONSUN_NUMBER_OUT_OF_RANGE, .jump = -DBL_TRUE_MIN},
-    {STILL, .what = "double: J NaN", .due = BASSOONSUN_NUMBER_OUT_OF_RANGE, .jump = NAN},
-    {STILL, .what = "double: left end 2", .due = BASSOONSUN_NUMBER_OUT_OF_RANGE, .left = BASSOONSUN_INFLOW},
-    {STILL, .what = "double: right end 2", .due = BASSOONSUN_NUMBER_OUT_OF_RANGE, .right = BASSOONSUN_INFLOW},
-    {STILL, .what = "double: left end 4294967295", .due = BASSOONSUN_NUMBER_OUT_OF_RANGE, .left = UINT32_MAX},
-    {STILL, .what = "double: right end 256", .due = BASSOONSUN_NUMBER_OUT_OF_RANGE, .right = 256},
-    {STILL, .what = "double: the highest bed", .due = BASSOONSUN_ACCEPTED, .bed = 256, .level = 257},
-    {STILL, .what = "double: bed over the highest", .due = BASSOONSUN_BED_OUT_OF_RANGE, .place = AT_BED, .bed = 256,
-     .level = 257, .spot_bed = 0x1p-44},
-    {STILL, .what = "double: bed of -0", .due = BASSOONSUN_ACCEPTED, .bed = -0.0, .spot_bed = -0.0},
-    {STILL, .what = "double: bed below 0", .due = BASSOONSUN_BED_OUT_OF_RANGE, .place = AT_BED,
-     .spot_bed = -DBL_TRUE_MIN},
-    {STILL, .what = "double: bed NaN", .due = BASSOONSUN_BED_OUT_OF_RANGE, .place = AT_BED, .spot_bed = NAN},
-    {STILL, .what = "double: bed infinite", .due = BASSOONSUN_BED_OUT_OF_RANGE, .place = AT_BED,
-     .spot_bed = INFINITY},
-    {STILL, .what = "double: friction 1", .due = BASSOONSUN_FRICTION_OUT_OF_RANGE, .place = AT_CELL,
-     .spot_friction = 1},
-    {STILL, .what = "double: friction 256", .due = BASSOONSUN_FRICTION_OUT_OF_RANGE, .place = AT_CELL,
-     .spot_friction = 256},
-    {STILL, .what = "double: dry ground", .due = BASSOONSUN_ACCEPTED, .level = 0},
-    {STILL, .what = "double: dry ground of -0", .due = BASSOONSUN_ACCEPTED, .level = -0.0,
-     .spot = {-0.0, -0.0, -0.0, -0.0}},
-    {STILL, .what = "double: a depth below 0", .due = BASSOONSUN_STATE_OUT_OF_RANGE, .place = AT_CELL, .level = 0,
-     .spot = {-DBL_TRUE_MIN}},
-    {STILL, .what = "double: the greatest depth", .due = BASSOONSUN_ACCEPTED, .level = 64},
-    {STILL, .what = "double: a depth over the greatest", .due = BASSOONSUN_STATE_OUT_OF_RANGE, .place = AT_CELL,
-     .level = 64, .spot = {0x1p-46}},
-    {STILL, .what = "double: the greatest depth at a face", .due = BASSOONSUN_ACCEPTED, .level = 32, .spot = {0, 32}},
-    {STILL, .what = "double: too steep to the right", .due = BASSOONSUN_STATE_OUT_OF_RANGE, .place = AT_CELL,
-     .level = 32, .spot = {0, OVER(32.0)}},
-    {STILL, .what = "double: too steep to the left", .due = BASSOONSUN_STATE_OUT_OF_RANGE, .place = AT_CELL,
-     .level = 32, .spot = {0, -OVER(32.0)}},
-    {STILL, .what = "double: the greatest discharge", .due = BASSOONSUN_ACCEPTED, .level = 64, .discharge = 2048,
-     .left = BASSOONSUN_OPEN, .right = BASSOONSUN_OPEN},
-    {STILL, .what = "double: a discharge over the greatest", .due = BASSOONSUN_STATE_OUT_OF_RANGE, .place = AT_CELL,
-     .level = 64, .discharge = 2048, .spot = {0, 0, 0x1p-41}, .left = BASSOONSUN_OPEN, .right = BASSOONSUN_OPEN},
-    {STILL, .what = "double: a discharge at a face over the greatest", .due = BASSOONSUN_STATE_OUT_OF_RANGE,
-     .place = AT_CELL, .level = 64, .discharge = 2048, .spot = {0, 0, 0, 0x1p-41}, .left = BASSOONSUN_OPEN,
-     .right = BASSOONSUN_OPEN},
-    {STILL, .what = "double: level NaN", .due = BASSOONSUN_STATE_OUT_OF_RANGE, .place = AT_CELL, .spot = {NAN}},
-    {STILL, .what = "double: level slope NaN", .due = BASSOONSUN_STATE_OUT_OF_RANGE, .place = AT_CELL,
-     .spot = {0, NAN}},
-    {STILL, .what = "double: discharge NaN", .due = BASSOONSUN_STATE_OUT_OF_RANGE, .place = AT_CELL,
-     .spot = {0, 0, NAN}},
-    {STILL, .what = "double: discharge slope NaN", .due = BASSOONSUN_STATE_OUT_OF_RANGE, .place = AT_CELL,
-     .spot = {0, 0, 0, NAN}},
-    {STILL, .what = "double: level infinite", .due = BASSOONSUN_STATE_OUT_OF_RANGE, .place = AT_CELL,
-     .spot = {INFINITY}},
-    {STILL, .what = "double: level slope infinite", .due = BASSOONSUN_STATE_OUT_OF_RANGE, .place = AT_CELL,
-     .spot = {0, -INFINITY}},
-    {STILL, .what = "double: discharge infinite", .due = BASSOONSUN_STATE_OUT_OF_RANGE, .place = AT_CELL,
-     .spot = {0, 0, -INFINITY}},
-    {STILL, .what = "double: discharge slope infinite", .due = BASSOONSUN_STATE_OUT_OF_RANGE, .place = AT_CELL,
-     .spot = {0, 0, 0, INFINITY}},
-    {STILL, .what = "double: the greatest speed", .due = BASSOONSUN_ACCEPTED, .discharge = 32,
-     .left = BASSOONSUN_OPEN, .right = BASSOONSUN_OPEN},
-    {STILL, .what = "double: the greatest speed leftward", .due = BASSOONSUN_ACCEPTED, .discharge = -32,
-     .left = BASSOONSUN_OPEN, .right = BASSOONSUN_OPEN},
-    {STILL, .what = "double: a speed over the greatest", .due = BASSOONSUN_WATER_TOO_FAST, .place = AT_CELL,
-     .discharge = 32, .spot = {0, 0, 0x1p-47}, .left = BASSOONSUN_OPEN, .right = BASSOONSUN_OPEN},
-    {STILL, .what = "double: too fast at the left face", .due = BASSOONSUN_WATER_TOO_FAST, .place = AT_CELL,
-     .spot = {0, 0, -16, 16.5}},
-    {STILL, .what = "double: too fast at the right face", .due = BASSOONSUN_WATER_TOO_FAST, .place = AT_RIGHT_FACE,
-     .spot = {0, 0, 16, 16.5}},
-    {STILL, .what = "double: too fast at a point", .due = BASSOONSUN_WATER_TOO_FAST, .place = AT_CELL,
-     .spot = {0, 1, 31}},
-    /* of a metre of still water S is the root of 9.81, and 2*dt is a power of two */
-    {STILL, .what = "double: the longest time step", .due = BASSOONSUN_ACCEPTED, .dt = 0.125,
-     .dx = 0.25 * 3.132091952673165},
-    {STILL, .what = "double: too long by a last place", .due = BASSOONSUN_TIME_STEP_TOO_LONG, .dt = 0.125,
-     .dx = UNDER(0.25 * 3.132091952673165)},
-    {STILL, .what = "double: too long", .due = BASSOONSUN_TIME_STEP_TOO_LONG, .dx = 1, .dt = 1},
-    {STILL, .what = "double: too deep at the end", .due = BASSOONSUN_RESULT_TOO_LARGE, .place = AT_LAST,
-     .level = 64, .discharge = 64, .left = BASSOONSUN_OPEN},
-};
-
-static double double_number(size_t i, const Lent *t, const DoubleCall *c)
-{
-    const double flat[] = {c->level, 0, c->discharge, 0};
-    return i / 4 == t->spot_cell ? flat[i % 4] + c->spot[i % 4] : flat[i % 4];
-}
-
-static Lent lend_doubles(const DoubleCall *c, size_t n, int spot, int at_end)
-{
-    Lent t = {.n = n, .spot_cell = spot_of(n, spot), .spot_face = spot_of(n + 1, spot)};
-    t.now_len = 4 * n + c->now_more, t.next_len = 4 * n + c->next_more, t.bed_len = n + 1 + c->bed_more;
-    t.now = fence(t.now_len * sizeof(double), at_end);
-    t.next = fence(t.next_len * sizeof(double), at_end);
-    t.bed = fence(t.bed_len * sizeof(double), at_end);
-    t.friction = fence(n * sizeof(uint16_t), at_end);
-    t.volumes = fence(2 * sizeof(double), at_end);
-    t.place = fence(sizeof(uint32_t), at_end);
-    double *now = t.now.first, *bed = t.bed.first;
-    uint16_t *friction = t.friction.first;
-    for (size_t i = 0; i < t.now_len; i++)
-        now[i] = double_number(i, &t, c);
-    for (size_t i = 0; i < t.bed_len; i++)
-        bed[i] = i == t.spot_face ? c->bed + c->spot_bed : c->bed;
-    for (size_t i = 0; i < n; i++)
-        friction[i] = i == t.spot_cell ? c->spot_friction : 0;
-    memset(t.next.first, MARK, t.next_len * sizeof(double));
-    memset(t.volumes.first, MARK, 2 * sizeof(double));
-    memset(t.place.first, MARK, sizeof(uint32_t));
-    only_read(t.now), only_read(t.bed), only_read(t.friction);
-    return t;
-}
-
-static void give_doubles_back(const Lent *t)
-{
-    unfence(t->now), unfence(t->next), unfence(t->bed), unfence(t->friction), unfence(t->volumes), unfence(t->place);
-}
-
-static int marked(Fenced table, size_t bytes)
-{
-    const char *each = table.first;
-    for (size_t i = 0; i < bytes; i++)
-        if (each[i] != (char)MARK)
-            return 0;
-    return 1;
-}
-
-/* Doubles round, so that the water is kept but for some last places; a number that was not written is far off. */
-static int keeps_water_nearly(const Lent *t)
-{
-    const double *now = t->now.first, *next = t->next.first, *volumes = t->volumes.first;
-    double sum = volumes[0] - volumes[1], all = 1;
-    for (size_t i = 0; i < 4 * t->n; i++) {
-        if (!(fabs(next[i]) <= 2048))
-            return 0;
-        if (i % 4 == 0)
-            sum += now[i] - next[i], all += fabs(now[i]);
-    }
-    return fabs(sum) <= 1e-13 * all;
-}
-
-static uint32_t make_double_step(const Lent *t, const DoubleCall *c, int by_name)
-{
-    struct bassoonsun_double_call call = {.dx = c->dx, .dt = c->dt, .jump = c->jump, .left = c->left,
-                                          .right = c->right};
-    if (by_name)
-        return bassoonsun_step_double_call(t->now.first, t->now_len, t->next.first, t->next_len, t->bed.first,
-                                           t->bed_len, t->friction.first, t->n, call, t->volumes.first, t->place.first);
-    return bassoonsun_step_double(t->now.first, t->now_len, t->next.first, t->next_len, t->bed.first, t->bed_len,
-                                  t->friction.first, t->n, c->dx, c->dt, c->jump, c->left, c->right,
-                                  t->volumes.first, t->place.first);
-}
-
-static void try_double_call(const DoubleCall *c, size_t n, int at_end)
-{
-    for (int spot = FIRST; spot < SPOTS; spot++)
-        for (int by_name = 0; by_name <= 1; by_name++) {
-            Lent t = lend_doubles(c, n, spot, at_end);
-            uint32_t given = make_double_step(&t, c, by_name);
-            check(given == c->due, c->what, n, at_end);
-            check(*(const uint32_t *)t.place.first == place_due(&t, c->place), c->what, n, at_end);
-            check(given == BASSOONSUN_ACCEPTED ? keeps_water_nearly(&t)
-                                               : marked(t.next, t.next_len * sizeof(double)) &&
-                                                     marked(t.volumes, 2 * sizeof(double)), c->what, n, at_end);
-            give_doubles_back(&t);
-        }
-}
-
-/* 9: the cell of the spot gives away all that it has, its depth having been rounded up, to deep water that runs before
- * it; what is left is less than the bed. Ground behind it is dry. There is none before the last cell. */
-static void try_below_nought(size_t n, int spot, int at_end)
-{
-    static const DoubleCall c = {.what = "double: a mean depth below 0", .bed = 0x1p-54, .dx = 64, .dt = 1, .jump = 64,
-                                 .right = BASSOONSUN_OPEN};
-    Lent t = lend_doubles(&c, n, spot, at_end);
-    double *now = t.now.first;
-    may_write(t.now);
-    for (size_t i = 0; i < n; i++) {
-        const double dry[] = {0x1p-54, 0, 0, 0}, gives[] = {1, 1, 32, 32}, deep[] = {4, 0, 64, 0};
-        memcpy(now + 4 * i, i < t.spot_cell ? dry : i > t.spot_cell ? deep : gives, sizeof dry);
-    }
-    only_read(t.now);
-    if (t.spot_cell + 1 < n) {
-        check(make_double_step(&t, &c, 0) == BASSOONSUN_DEPTH_BELOW_NOUGHT, c.what, n, at_end);
-        check(*(const uint32_t *)t.place.first == t.spot_cell, c.what, n, at_end);
-        check(marked(t.next, t.next_len * sizeof(double)) && marked(t.volumes, 2 * sizeof(double)), c.what, n, at_end);
-    }
-    give_doubles_back(&t);
-}
-
-static void try_doubles(size_t n, int at_end)
-{
-    for (size_t c = 0; c < sizeof doubles / sizeof *doubles; c++)
-        try_double_call(&doubles[c], n, at_end);
-    for (int spot = FIRST; spot < SPOTS; spot++)
-        try_below_nought(n, spot, at_end);
-}
-
 /* The faces and the root. Their tables are fenced too, and change only where 0 is given. */
 static void try_faces(int at_end)
 {
@@ -710,21 +461,17 @@ int main(void)
     static const size_t cells[] = {1, 2, 16, 17, BASSOONSUN_MOST_CELLS};
     static const Call good = {GOOD, .what = "too many cells or none", .due = BASSOONSUN_TABLES_MISFIT};
     static const Call sill = {SILL, .what = "sill: too many cells or none", .due = BASSOONSUN_TABLES_MISFIT};
-    static const DoubleCall real = {STILL, .what = "double: too many cells or none", .due = BASSOONSUN_TABLES_MISFIT};
     for (int at_end = 0; at_end <= 1; at_end++) {
         for (size_t k = 0; k < sizeof cells / sizeof *cells; k++) {
             for (size_t c = 0; c < sizeof calls / sizeof *calls; c++)
                 try_call(&calls[c], cells[k], at_end);
             for (size_t c = 0; c < sizeof sills / sizeof *sills; c++)
                 try_call(&sills[c], cells[k], at_end);
-            try_doubles(cells[k], at_end);
         }
         try_call(&good, 0, at_end);
         try_call(&good, BASSOONSUN_MOST_CELLS + 1, at_end);
         try_call(&sill, 0, at_end);
         try_call(&sill, BASSOONSUN_MOST_CELLS + 1, at_end);
-        try_double_call(&real, 0, at_end);
-        try_double_call(&real, BASSOONSUN_MOST_CELLS + 1, at_end);
         try_faces(at_end);
     }
     printf("%d passed, %d failed\n", passed, failed);

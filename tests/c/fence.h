@@ -40,16 +40,6 @@ static inline void only_read(Fenced f)
     }
 }
 
-/* For one that was only read, and is now to be written. */
-static inline void may_write(Fenced f)
-{
-    size_t page = (size_t)sysconf(_SC_PAGESIZE);
-    if (mprotect(f.whole + page, f.size, PROT_READ | PROT_WRITE) != 0) {
-        perror("pages of a table cannot be opened");
-        exit(2);
-    }
-}
-
 static inline void unfence(Fenced f)
 {
     munmap(f.whole, f.size + 2 * (size_t)sysconf(_SC_PAGESIZE));

@@ -1,6 +1,6 @@
 /* Makes the calls that compare.py asks for, and tells it what they gave:
  *
- *     serve step|step_sums|sums|between|sill_step|double_step|double_run|face|double|root end|start <calls >answers
+ *     serve step|step_sums|sums|between|sill_step|face|double|root end|start <calls >answers
  *
  * All numbers are little-endian, as the library's x86-64 has them. A call of
  *
@@ -11,19 +11,14 @@
  *   between    is five u32: the lengths of state, bed and sums, then a and b; then the numbers of all three
  *   sill_step  is nine u32: the lengths of now, next, bed and friction, then dx, dt, dry, left and right;
  *              then the numbers of now, bed and friction
- *   double_step  is six u32: the lengths of now, next, bed and friction, then left and right; then dx, dt and jump as
- *              doubles; then the numbers of now and bed, doubles too, and of friction
- *   double_run is two u32, n and how many steps; dx; the numbers of now, bed and friction; then for each step two u32,
- *              left and right, and dt and jump. Each step begins from what the last accepted one wrote
  *   face       is four i64: the depth and the speed on the left, then those on the right
  *   double     is four doubles, likewise
  *   root       is one double
  *
  * and its answer is the library's own number as u32, then every table that the call may write:
- * place, next, volumes and, of a step with sums, these; the sums; the answer; the flux; or the root. Of a run
- * all of this is given for each of its steps. They are filled with MARK before the call, so that the answer
- * shows what was written and what was not. Every table lies at the end of its pages or at their start, as the
- * second argument says. Doubles are taken and given as their bits. */
+ * place, next, volumes and, of a step with sums, these; the sums; the answer; the flux; or the root. They
+ * are filled with MARK before the call, so that the answer shows what was written and what was not. Every
+ * table lies at the end of its pages or at their start, as the second argument says. */
 #define _DEFAULT_SOURCE
 #include "fence.h"
 #include <bassoonsun.h>
@@ -176,82 +171,6 @@ static void serve_sill_steps(int at_end)
     }
 }
 
-typedef struct {
-    uint32_t now_len, next_len, bed_len, friction_len, left, right;
-    double dx, dt, jump;
-} DoubleCall;
-
-static void give_double_step(uint32_t answer, Fenced place, Fenced next, size_t next_len, Fenced volumes)
-{
-    give(&answer, sizeof answer);
-    give(place.first, sizeof(uint32_t));
-    give(next.first, next_len * sizeof(double));
-    give(volumes.first, 2 * sizeof(double));
-    fflush(stdout);
-}
-
-static void serve_double_steps(int at_end)
-{
-    DoubleCall c;
-    while (take(&c, sizeof c)) {
-        Fenced now = lent(c.now_len * sizeof(double), at_end);
-        Fenced bed = lent(c.bed_len * sizeof(double), at_end);
-        Fenced friction = lent(c.friction_len * sizeof(uint16_t), at_end);
-        Fenced next = marked(c.next_len * sizeof(double), at_end);
-        Fenced volumes = marked(2 * sizeof(double), at_end);
-        Fenced place = marked(sizeof(uint32_t), at_end);
-        uint32_t answer = bassoonsun_step_double(now.first, c.now_len, next.first, c.next_len, bed.first, c.bed_len,
-                                                 friction.first, c.friction_len, c.dx, c.dt, c.jump, c.left, c.right,
-                                                 volumes.first, place.first);
-        give_double_step(answer, place, next, c.next_len, volumes);
-        unfence(now), unfence(bed), unfence(friction), unfence(next), unfence(volumes), unfence(place);
-    }
-}
-
-/* One step of a run, with the numbers that come next. */
-static uint32_t make_double_step(double dx, uint32_t n, Fenced now, Fenced bed, Fenced friction, Fenced next,
-                                 int at_end)
-{
-    struct {
-        uint32_t left, right;
-        double dt, jump;
-    } s;
-    if (!take(&s, sizeof s)) {
-        fprintf(stderr, "serve: a step of a run is missing\n");
-        exit(2);
-    }
-    Fenced volumes = marked(2 * sizeof(double), at_end), place = marked(sizeof(uint32_t), at_end);
-    struct bassoonsun_double_call call = {.dx = dx, .dt = s.dt, .jump = s.jump, .left = s.left, .right = s.right};
-    size_t numbers = 4 * (size_t)n;
-    memset(next.first, MARK, numbers * sizeof(double));
-    uint32_t answer = bassoonsun_step_double_call(now.first, numbers, next.first, numbers, bed.first, n + 1,
-                                                  friction.first, n, call, volumes.first, place.first);
-    give_double_step(answer, place, next, numbers, volumes);
-    unfence(volumes), unfence(place);
-    return answer;
-}
-
-/* In a run the two tables of the state are exchanged, so that what one step wrote is lent to the next as it is. */
-static void serve_double_runs(int at_end)
-{
-    struct {
-        uint32_t n, steps;
-        double dx;
-    } c;
-    while (take(&c, sizeof c)) {
-        size_t bytes = 4 * (size_t)c.n * sizeof(double);
-        Fenced now = lent(bytes, at_end), bed = lent((c.n + 1) * sizeof(double), at_end);
-        Fenced friction = lent(c.n * sizeof(uint16_t), at_end), next = marked(bytes, at_end);
-        for (uint32_t k = 0; k < c.steps; k++)
-            if (make_double_step(c.dx, c.n, now, bed, friction, next, at_end) == BASSOONSUN_ACCEPTED) {
-                Fenced old = now;
-                now = next, next = old;
-                only_read(now), may_write(next);
-            }
-        unfence(now), unfence(next), unfence(bed), unfence(friction);
-    }
-}
-
 static void serve_faces(int at_end)
 {
     Fenced flux = fence(4 * sizeof(int64_t), at_end);
@@ -300,8 +219,6 @@ static const struct {
     {"sums", serve_sums},
     {"between", serve_questions},
     {"sill_step", serve_sill_steps},
-    {"double_step", serve_double_steps},
-    {"double_run", serve_double_runs},
     {"face", serve_faces},
     {"double", serve_double_faces},
     {"root", serve_roots},
@@ -316,7 +233,6 @@ int main(int count, char **words)
                 kinds[k].serve(at_end);
                 return fflush(stdout) != 0;
             }
-    fprintf(stderr, "usage: serve step|step_sums|sums|between|sill_step|double_step|double_run|face|double|root "
-                    "end|start <calls >answers\n");
+    fprintf(stderr, "usage: serve step|step_sums|sums|between|sill_step|face|double|root end|start <calls >answers\n");
     return 2;
 }

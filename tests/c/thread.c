@@ -1,9 +1,9 @@
-/* Measures the stack that a step takes, without sums, with them, over a stepped bed and in doubles, of a short reach
- * and of the longest, and what making the sums and a question take, on threads of 512 KiB as an editor's worker thread
- * has. What a thread library keeps on a stack differs, so it is not the smallest stack that is sought: what lies below
- * the frame of the function that makes the call is filled with a pattern beforehand, and after the call all is counted
- * from the lowest word that has changed up to that frame. A call that takes more than the whole stack runs into an
- * untouchable page and ends the program. The last line is 'N passed, M failed'. */
+/* Measures the stack that a step takes, without sums, with them and over a stepped bed, of a short reach and of the
+ * longest, and what making the sums and a question take, on threads of 512 KiB as an editor's worker thread has. What a
+ * thread library keeps on a stack differs, so it is not the smallest stack that is sought: what lies below the frame of
+ * the function that makes the call is filled with a pattern beforehand, and after the call all is counted from the
+ * lowest word that has changed up to that frame. A call that takes more than the whole stack runs into an untouchable
+ * page and ends the program. The last line is 'N passed, M failed'. */
 #define _DEFAULT_SOURCE
 #include "fence.h"
 #include <bassoonsun.h>
@@ -22,8 +22,7 @@ enum {
 #define PATTERN UINT64_C(0x9d3c51e7a6f08b42)
 
 static int32_t now[4 * MOST_CELLS], next[4 * MOST_CELLS], bed[MOST_CELLS + 1], sums[BASSOONSUN_SUMS(MOST_CELLS)];
-static double double_now[4 * MOST_CELLS], double_next[4 * MOST_CELLS], double_bed[MOST_CELLS + 1], double_volumes[2];
-static uint16_t friction[MOST_CELLS], smooth[MOST_CELLS];
+static uint16_t friction[MOST_CELLS];
 static int64_t volumes[2], answer[3];
 static uint32_t place[1];
 
@@ -45,12 +44,6 @@ static uint32_t sill_step(size_t n)
 {
     return bassoonsun_sill_step(now, 2 * n, next, 2 * n, bed, n, friction, n, 4096, 204, 4, BASSOONSUN_WALL,
                                 BASSOONSUN_OPEN, volumes, place);
-}
-
-static uint32_t double_step(size_t n)
-{
-    return bassoonsun_step_double(double_now, 4 * n, double_next, 4 * n, double_bed, n + 1, smooth, n, 1, 0.05, 0.01,
-                                  BASSOONSUN_WALL, BASSOONSUN_OPEN, double_volumes, place);
 }
 
 static uint32_t make_sums(size_t n)
@@ -102,12 +95,11 @@ static void run_thread(Trial *trial)
     unfence(stack);
 }
 
-/* A sloping pool that flows from its inflow toward its open end: the levels are the first column, the others are 0; in
- * doubles the levels are every fourth number. */
+/* A sloping pool that flows from its inflow toward its open end: the levels are the first column, the others are 0. */
 static void fill(size_t cells)
 {
     for (size_t i = 0; i < 4 * cells; i++)
-        now[i] = i < cells ? 8192 - (int32_t)i : 0, double_now[i] = i % 4 == 0 ? 2 - (double)i / 16384 : 0;
+        now[i] = i < cells ? 8192 - (int32_t)i : 0;
     for (size_t i = 0; i < cells; i++)
         friction[i] = 30;
 }
@@ -124,8 +116,6 @@ static const struct {
     {"a step with sums", step_with_sums, MOST_CELLS, STACK},
     {"a step over a stepped bed", sill_step, SHORT_CELLS, SHORT_MOST},
     {"a step over a stepped bed", sill_step, MOST_CELLS, STACK},
-    {"a step in doubles", double_step, SHORT_CELLS, SHORT_MOST},
-    {"a step in doubles", double_step, MOST_CELLS, STACK},
     {"the sums", make_sums, MOST_CELLS, NO_TABLES_MOST},
     {"a question", ask, MOST_CELLS, NO_TABLES_MOST},
 };
@@ -135,16 +125,14 @@ static int try_call(size_t k)
 {
     Trial trial = {.call = tried[k].call, .cells = tried[k].cells};
     fill(trial.cells);
-    next[0] = 0, double_next[0] = 0;
+    next[0] = 0;
     answer[2] = 0;
     if (trial.call != ask)
         sums[0] = 0;
     run_thread(&trial);
     int steps = trial.call == step || trial.call == step_with_sums || trial.call == sill_step;
     int keeps = trial.call == step_with_sums || trial.call == make_sums;
-    int written = trial.call == ask           ? answer[2] != 0
-                  : trial.call == double_step ? double_next[0] != 0
-                                              : (!steps || next[0] != 0) && (!keeps || sums[0] != 0);
+    int written = trial.call == ask ? answer[2] != 0 : (!steps || next[0] != 0) && (!keeps || sums[0] != 0);
     int passed = trial.refusal == BASSOONSUN_ACCEPTED && written && trial.taken < tried[k].most;
     printf("%s  %s of %zu cells, answer %u: %.1f KiB of stack, under %zu wanted\n", passed ? "passed" : "FAILED",
            tried[k].what, trial.cells, (unsigned)trial.refusal, (double)trial.taken / KIB, tried[k].most / KIB);

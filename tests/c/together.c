@@ -1,8 +1,8 @@
 /* Two threads step two reaches at the same time, a short one and one that is worked on the long tables, with refusals
  * among the steps, and ask after each for the water between two faces. In half of the turns the step keeps the sums,
- * else they are made anew. In every turn a reach of as many cells over a stepped bed is stepped too, and one in
- * doubles. Each thread must get, call for call, what it gets when the same calls are made one after another. The last
- * line is 'N passed, M failed'. */
+ * else they are made anew. In every turn a reach of as many cells over a stepped bed is stepped too. Each thread must
+ * get, call for call, what it gets when the same calls are made one after another. The last line is
+ * 'N passed, M failed'. */
 #define _DEFAULT_SOURCE
 #include <bassoonsun.h>
 #include <pthread.h>
@@ -14,20 +14,18 @@ enum { METRE = BASSOONSUN_UNIT, ROUNDS = 8, REACHES = 2, MOST_CALLS = 2000, MOST
 
 /* What one turn gave: the step's number, its place, its volumes and a number that tells one table from another; the
  * same for the table of sums, with what making them answered where they were; what the question answered; and of the
- * step over the stepped bed and of that in doubles the same as of the other. */
+ * step over the stepped bed the same as of the other. */
 typedef struct {
-    uint32_t refusal, place, made, asked, sill_refusal, sill_place, double_refusal, double_place;
+    uint32_t refusal, place, made, asked, sill_refusal, sill_place;
     int64_t volumes[2], answer[3], sill_volumes[2];
-    uint64_t next, sums, sill_next, double_next;
-    double double_volumes[2];
+    uint64_t next, sums, sill_next;
 } Told;
 
 typedef struct {
     size_t cells, calls; /* so many calls that both reaches take about the same time */
     int32_t now[4 * MOST_CELLS], next[4 * MOST_CELLS], bed[MOST_CELLS + 1], sums[BASSOONSUN_SUMS(MOST_CELLS)];
     int32_t sill_now[2 * MOST_CELLS], sill_next[2 * MOST_CELLS], sill_bed[MOST_CELLS];
-    double double_now[4 * MOST_CELLS], double_next[4 * MOST_CELLS], double_bed[MOST_CELLS + 1];
-    uint16_t friction[MOST_CELLS], smooth[MOST_CELLS];
+    uint16_t friction[MOST_CELLS];
     Told told[MOST_CALLS];
 } Reach;
 
@@ -41,19 +39,13 @@ static void fill(Reach *r)
     memset(r->sums, 0, sizeof r->sums);
     memset(r->sill_now, 0, sizeof r->sill_now);
     memset(r->sill_next, 0, sizeof r->sill_next);
-    memset(r->double_now, 0, sizeof r->double_now);
-    memset(r->double_next, 0, sizeof r->double_next);
-    memset(r->smooth, 0, sizeof r->smooth);
-    for (size_t i = 0; i <= n; i++) {
+    for (size_t i = 0; i <= n; i++)
         r->bed[i] = (int32_t)(i * 37 % 64) * 2;
-        r->double_bed[i] = (double)r->bed[i] / METRE;
-    }
     for (size_t i = 0; i < n; i++) {
         r->now[i] = METRE + (i < n / 2 ? (int32_t)n : 0);
         r->friction[i] = (uint16_t)(20 + i % 20);
         r->sill_bed[i] = (int32_t)(i % 6 == 3 ? METRE / 2 : i * 37 % 64); /* low sills */
         r->sill_now[i] = r->now[i];
-        r->double_now[4 * i] = (double)r->now[i] / METRE;
     }
 }
 
@@ -67,16 +59,6 @@ static uint64_t sum_of(const int32_t *table, size_t numbers)
     uint64_t sum = 0;
     for (size_t i = 0; i < numbers; i++)
         sum = sum * 1099511628211u + (uint32_t)table[i];
-    return sum;
-}
-
-static uint64_t sum_of_doubles(const double *table, size_t numbers)
-{
-    uint64_t sum = 0, bits;
-    for (size_t i = 0; i < numbers; i++) {
-        memcpy(&bits, &table[i], sizeof bits);
-        sum = sum * 1099511628211u + bits;
-    }
     return sum;
 }
 
@@ -114,32 +96,6 @@ static void make_sill_call(Reach *r, size_t turn)
         memcpy(r->sill_now, r->sill_next, sizeof r->sill_now);
 }
 
-/* A step in doubles, of which the same is spoilt. */
-static void make_double_call(Reach *r, size_t turn)
-{
-    size_t n = r->cells;
-    enum spoilt spoilt = spoilt_in(turn);
-    Told *told = &r->told[turn];
-    struct bassoonsun_double_call call = {
-        .dx = 1, .dt = spoilt == TIME_STEP ? 1 : 0.05 - 0.001 * (double)(turn % 5), .jump = 0.01,
-        .left = BASSOONSUN_WALL, .right = spoilt == END_KIND ? BASSOONSUN_INFLOW : BASSOONSUN_WALL,
-    };
-    double bed = r->double_bed[n], level = r->double_now[4 * n - 4];
-    r->double_now[4 * (turn % n) + 2] += 0.05; /* as nothing comes in, it would come to rest */
-    if (spoilt == BED)
-        r->double_bed[n] = -1;
-    if (spoilt == STATE)
-        r->double_now[4 * n - 4] = -1;
-    told->double_refusal = bassoonsun_step_double_call(r->double_now, 4 * n, r->double_next, 4 * n, r->double_bed,
-                                                       n + 1, r->smooth, n, call, told->double_volumes,
-                                                       &told->double_place);
-    r->double_bed[n] = bed;
-    r->double_now[4 * n - 4] = level;
-    told->double_next = sum_of_doubles(r->double_next, 4 * n);
-    if (told->double_refusal == BASSOONSUN_ACCEPTED)
-        memcpy(r->double_now, r->double_next, sizeof r->double_now);
-}
-
 static void make_call(Reach *r, size_t turn)
 {
     size_t n = r->cells, keeping = turn / 3 % 2; /* so that each refusal comes with sums and without */
@@ -175,7 +131,6 @@ static void *run(void *given)
     for (size_t turn = 0; turn < r->calls; turn++) {
         make_call(r, turn);
         make_sill_call(r, turn);
-        make_double_call(r, turn);
     }
     return NULL;
 }
@@ -209,21 +164,19 @@ static size_t answered(const Reach *r, uint32_t refusal)
     return count;
 }
 
-/* How many turns the step over the stepped bed and that in doubles answered as the other did. */
+/* How many turns the step over the stepped bed answered as the other did. */
 static size_t alike(const Reach *r)
 {
     size_t count = 0;
     for (size_t turn = 0; turn < r->calls; turn++)
-        count += r->told[turn].sill_refusal == r->told[turn].refusal &&
-                 r->told[turn].double_refusal == r->told[turn].refusal;
+        count += r->told[turn].sill_refusal == r->told[turn].refusal;
     return count;
 }
 
-/* Whether both still move in the last turns. */
+/* Whether it still moves in the last turns. */
 static int runs_on(const Reach *r)
 {
-    return r->told[r->calls - 2].sill_next != r->told[r->calls - 1].sill_next &&
-           r->told[r->calls - 2].double_next != r->told[r->calls - 1].double_next;
+    return r->told[r->calls - 2].sill_next != r->told[r->calls - 1].sill_next;
 }
 
 /* How many questions were answered, none of them after sums that were refused. */
@@ -250,8 +203,8 @@ static int try_mixture(const Reach *r)
     int good = sum == r->calls && least >= r->calls / (5 * EVERY) && 5 * asked(r) >= 2 * r->calls &&
                alike(r) == r->calls && runs_on(r);
     printf("%s  %zu cells, %zu calls alone: %zu accepted, the others refused with 2, 3, 5, 7, at least %zu with each; "
-           "as many over a stepped bed and in doubles (%zu alike); %zu questions answered\n",
-           good ? "passed" : "FAILED", r->cells, r->calls, answered(r, BASSOONSUN_ACCEPTED), least, alike(r), asked(r));
+           "as many over a stepped bed (%zu alike); %zu questions answered\n", good ? "passed" : "FAILED", r->cells,
+           r->calls, answered(r, BASSOONSUN_ACCEPTED), least, alike(r), asked(r));
     return good;
 }
 
@@ -259,8 +212,7 @@ static int try_same(const Reach *alone, const Reach *together, int round)
 {
     int good = memcmp(alone->told, together->told, sizeof alone->told) == 0 &&
                memcmp(alone->now, together->now, sizeof alone->now) == 0 &&
-               memcmp(alone->sill_now, together->sill_now, sizeof alone->sill_now) == 0 &&
-               memcmp(alone->double_now, together->double_now, sizeof alone->double_now) == 0;
+               memcmp(alone->sill_now, together->sill_now, sizeof alone->sill_now) == 0;
     printf("%s  %zu cells, round %d beside the other thread: every answer as when made alone\n",
            good ? "passed" : "FAILED", alone->cells, round + 1);
     return good;

@@ -2,7 +2,6 @@
 use Rattle.std.specs.Prelude.{cond, List, ℕ, eqb, ℤ}
 use Rattle.rules.specs.Lent.{Lent, cells_of, number, filled, crossed}
 use Rattle.rules.specs.Lent as lent
-use Rattle.rules.specs.Outcome as outcomes
 
 pub data Outcome : Type 0 where
   refused : ℕ → Outcome
@@ -10,8 +9,8 @@ pub data Outcome : Type 0 where
 
 -- what is left of an outcome in force without its place
 unfoldable pub unplaced : lent.Outcome → Outcome
-unplaced (outcomes.refused k p) = refused k
-unplaced (outcomes.accepted t w v) = accepted t w v
+unplaced (lent.refused k p) = refused k
+unplaced (lent.accepted t w v) = accepted t w v
 
 unfoldable pub step_of : Lent → Outcome
 step_of a = cond (eqb (number a) 0) (accepted (filled a) (crossed a 0) (crossed a (cells_of a))) (refused (number a))

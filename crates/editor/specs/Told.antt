@@ -5,18 +5,12 @@ use Rattle.std.proofs.Common.{sym, ap, ◌∙◌, arith}
 use Rattle.whole.specs.Flags.{cond_ind}
 use Rattle.rules.specs.Limits.{most_cells}
 use Rattle.rules.specs.Face.{Flux}
-use Rattle.rules.specs.Refusals.{Check, verdict, spot}
-use Rattle.rules.specs.Outcome.{OutcomeOf, refused, accepted, outcome, leaves}
-use Rattle.rules.specs.Telling.{VolumesOf, absent, both, Telling, GivesBy}
-use Rattle.rules.specs.Lent.{Lent, cells_of, number, place, filled, crossed, Outcome, step_of}
+use Rattle.rules.specs.Refusals.{verdict, spot}
+use Rattle.rules.specs.Lent.{Lent, cells_of, number, place, filled, crossed, Outcome, refused, accepted, outcome, step_of}
 use Rattle.rules.specs.Sums.{misfit_sums, Making, Question, unanswered, answered, keeping_of, sums_after}
 use Rattle.rules.specs.Laws.Within.{place_most}
 use Rattle.sill_rules.specs.Lent as sills
 use Rattle.sill_rules.specs.Laws.Within as sill-places
-use Rattle.double_rules.specs.Lent as double-steps
-use Rattle.double_rules.specs.Laws.Within as double-places
-use Rattle.double_step.specs.Gives as double-answers
-use Rattle.double_step.specs.declared.Answer.{Answer as DoubleStep}
 use Rattle.reach.specs.declared.Given.{Given}
 use Rattle.speeds.specs.Given.{Perhaps}
 use Rattle.speeds.specs.Given as given
@@ -30,27 +24,23 @@ use Rattle.double.specs.declared.face.DoubleAnswer.{DoubleAnswer}
 use Rattle.double.specs.declared.face.DoubleAnswer.TheVariants as double
 use Rattle.root.proofs.Unique.{root_unique}
 use Rattle.double.proofs.face.Unique as doubles
-use Rattle.reach.specs.Gives.{placed, answer, telling}
+use Rattle.step.specs.Gives.{answer, leaves, code, placed, Gives}
 use Rattle.reach.specs.declared.answer.Answer.{Answer}
+use Rattle.reach.specs.declared.answer.Answer.TheVariants.{Refused, Accepted}
 use Rattle.sums.specs.Gives.{made_code, made_answer, made_leaves, question_code}
 
--- ---- a step, in numbers of any type A and answers of any type B
--- what the volumes of an answer leave in the two that are lent
-unfoldable pub volumes_into : {A : Type 0} → VolumesOf A → List A → List A
-volumes_into absent old = old
-volumes_into (both w v) old = set (set old 0 w) 1 v
+-- ---- the step
+-- what an outcome leaves in the two volumes
+unfoldable pub volumes_of : Outcome → List ℤ → List ℤ
+volumes_of (refused k p) old = old
+volumes_of (accepted t w v) old = set (set old 0 w) 1 v
 
 -- the number, the new state, the volumes, and the place, which every outcome writes
-pub record ToldBy {A B : Type 0} (y : Telling A B) (o : OutcomeOf A) (r : ℕ) (old new volumes volumes' : List A) (places places' : List ℕ)
-    : Type 0 where
-  pub number : r ≡ y.code (y.answer o)
+pub record StepTold (o : Outcome) (r : ℕ) (old new volumes volumes' : List ℤ) (places places' : List ℕ) : Type 0 where
+  pub number : r ≡ code (answer o)
   pub table : new ≡ leaves o old
-  pub crossed : volumes' ≡ volumes_into (y.volumes (y.answer o)) volumes
-  pub place : places' ≡ set places 0 (y.placed (y.answer o))
-
--- ---- the steps in whole numbers
-abbrev pub StepTold : Outcome → ℕ → List ℤ → List ℤ → List ℤ → List ℤ → List ℕ → List ℕ → Type 0
-StepTold o r old new volumes volumes' places places' = ToldBy telling o r old new volumes volumes' places places'
+  pub crossed : volumes' ≡ volumes_of o volumes
+  pub place : places' ≡ set places 0 (placed (answer o))
 
 -- what is lent and given to one over a stepped bed
 abbrev pub sill_lend : List ℤ → ℕ → List ℤ → List ℕ → ℕ → ℕ → ℕ → ℕ → ℕ → sills.Lent
@@ -64,20 +54,6 @@ sill_lend state room bed friction dx dt dry left right = record {
   dry = dry;
   left = left;
   right = right;
-}
-
--- ---- the step in doubles
-abbrev pub DoubleStepTold : OutcomeOf Float → ℕ → List Float → List Float → List Float → List Float → List ℕ → List ℕ → Type 0
-DoubleStepTold o r old new volumes volumes' places places' = ToldBy double-answers.telling o r old new volumes volumes' places places'
-
--- what is lent and given to it
-abbrev pub double_lend : List Float → ℕ → List Float → List ℕ → Float → Float → Float → ℕ → ℕ → double-steps.Lent
-double_lend state room bed friction dx dt jump left right = record {
-  now = state;
-  room = room;
-  bed = bed;
-  friction = friction;
-  terms = record { dx = dx; dt = dt; jump = jump; left = left; right = right };
 }
 
 -- ---- the sums
@@ -156,46 +132,49 @@ given_by dx dt jump dry left right leftQ rightQ = record {
   right = record { kind = right; q = rightQ };
 }
 
--- all that is told of an answer: its number, its volumes and its place
-pub record AnswerBy {A B : Type 0} (y : Telling A B) (a : B) (r : ℕ) (volumes volumes' : List A) (places places' : List ℕ) : Type 0 where
-  pub number : r ≡ y.code a
-  pub crossed : volumes' ≡ volumes_into (y.volumes a) volumes
-  pub place : places' ≡ set places 0 (y.placed a)
+-- what an answer leaves in the two volumes; and all that is told of it
+unfoldable pub volumes_in : Answer → List ℤ → List ℤ
+volumes_in (Refused k p) old = old
+volumes_in (Accepted w v) old = set (set old 0 w) 1 v
 
-abbrev pub AnswerTold : Answer → ℕ → List ℤ → List ℤ → List ℕ → List ℕ → Type 0
-AnswerTold a r volumes volumes' places places' = AnswerBy telling a r volumes volumes' places places'
+pub record AnswerTold (a : Answer) (r : ℕ) (volumes volumes' : List ℤ) (places places' : List ℕ) : Type 0 where
+  pub number : r ≡ code a
+  pub crossed : volumes' ≡ volumes_in a volumes
+  pub place : places' ≡ set places 0 (placed a)
 
-abbrev pub DoubleAnswerTold : DoubleStep → ℕ → List Float → List Float → List ℕ → List ℕ → Type 0
-DoubleAnswerTold a r volumes volumes' places places' = AnswerBy double-answers.telling a r volumes volumes' places places'
+pub refused_told : {a : Answer} (k p : ℕ) (old : List ℤ) (places : List ℕ) → Refused k p ≡ a
+    → AnswerTold a k old old places (set places 0 p)
+unfolding code volumes_in placed
+refused_told k p old places e = record {
+  number = ap code e;
+  crossed = ap (λ (x : Answer). volumes_in x old) e;
+  place = ap (λ (x : Answer). set places 0 (placed x)) e;
+}
 
-module _ {A B : Type 0} {y : Telling A B} where
-  -- an answer that is b is told by b's number, volumes and place
-  pub answer_told : {a : B} (b : B) (volumes : List A) (places : List ℕ) → b ≡ a
-      → AnswerBy y a (y.code b) volumes (volumes_into (y.volumes b) volumes) places (set places 0 (y.placed b))
-  answer_told b vs ps e = record {
-    number = ap y.code e;
-    crossed = ap (λ (x : B). volumes_into (y.volumes x) vs) e;
-    place = ap (λ (x : B). set ps 0 (y.placed x)) e;
-  }
+pub accepted_told : {a : Answer} (w v : ℤ) (old : List ℤ) (places : List ℕ) → Accepted w v ≡ a
+    → AnswerTold a 0 old (set (set old 0 w) 1 v) places (set places 0 0)
+unfolding code volumes_in placed
+accepted_told w v old places e = record {
+  number = ap code e;
+  crossed = ap (λ (x : Answer). volumes_in x old) e;
+  place = ap (λ (x : Answer). set places 0 (placed x)) e;
+}
 
-  pub step_told : {o : OutcomeOf A} {a : B} {r : ℕ} {old new volumes volumes' : List A} {places places' : List ℕ}
-      → GivesBy y o a old new → AnswerBy y a r volumes volumes' places places' → ToldBy y o r old new volumes volumes' places places'
-  step_told {volumes = vs} {places = ps} g k = record {
-    number = k.number ∙ ap y.code g.says;
-    table = g.table;
-    crossed = k.crossed ∙ ap (λ (x : B). volumes_into (y.volumes x) vs) g.says;
-    place = k.place ∙ ap (λ (x : B). set ps 0 (y.placed x)) g.says;
-  }
+same_volumes : (o : Outcome) (old : List ℤ) → volumes_in (answer o) old ≡ volumes_of o old
+unfolding answer volumes_in volumes_of
+same_volumes (refused k p) old = refl
+same_volumes (accepted t w v) old = refl
 
--- the place of a call is small enough for 32 bits: of one by its checks where theirs is,
-pub checks_place : {A B : Type 0} (y : Telling A B) (xs : List Check) (t : List A) (w v : A) (m : ℕ) → spot xs ≤ m
-    → y.placed (y.answer (outcome xs t w v)) ≤ m
-unfolding outcome
-checks_place {A} y xs t w v m few = cond_ind (eqb (verdict xs) 0) (accepted t w v) (refused (verdict xs) (spot xs))
-    (λ (o : OutcomeOf A). y.placed (y.answer o) ≤ m)
-    (λ b. rw (y.tells.place_of_accepted t w v) (omega arith)) (λ b. rw (y.tells.place_of_refused (verdict xs) (spot xs)) few)
+pub step_told : {o : Outcome} {a : Answer} {r : ℕ} {old new volumes volumes' : List ℤ} {places places' : List ℕ}
+    → Gives o a old new → AnswerTold a r volumes volumes' places places' → StepTold o r old new volumes volumes' places places'
+step_told {o} {volumes = vs} {places = ps} g t = record {
+  number = t.number ∙ ap code g.says;
+  table = g.table;
+  crossed = t.crossed ∙ ap (λ (a : Answer). volumes_in a vs) g.says ∙ same_volumes o vs;
+  place = t.place ∙ ap (λ (a : Answer). set ps 0 (placed a)) g.says;
+}
 
--- and of each step
+-- the place of a call is small enough for 32 bits
 pub step_place : (l : Lent) {a : Answer} → a ≡ answer (step_of l) → placed a ≤ most_cells
 unfolding answer step_of placed
 step_place l {a} e = rw e (cond_ind (eqb (number l) 0)
@@ -208,15 +187,11 @@ keeping_place l sums e = rw e (cond_ind (misfit_sums sums (cells_of l)) (refused
     (λ (o : Outcome). placed (answer o) ≤ most_cells) (λ b. omega arith) (λ b. step_place l refl))
 
 pub sill_place : (l : sills.Lent) {a : Answer} → a ≡ answer (sills.step_of l) → placed a ≤ most_cells
-unfolding sills.step_of
-sill_place l e = rw e (checks_place telling (sills.all_checks l) (sills.filled l) (sills.crossed l 0) (sills.crossed l (sills.cells_of l))
-    most_cells (sill-places.place_most l))
-
-pub double_place : (l : double-steps.Lent) {a : DoubleStep} → a ≡ double-answers.answer (double-steps.step_of l)
-    → double-answers.placed a ≤ most_cells
-unfolding double-steps.step_of
-double_place l e = rw e (checks_place double-answers.telling (double-steps.all_checks l) (double-steps.filled l) (double-steps.crossed l 0)
-    (double-steps.crossed l (double-steps.cells_of l)) most_cells (double-places.place_most l))
+unfolding answer sills.step_of outcome placed
+sill_place l {a} e = rw e (cond_ind (eqb (verdict (sills.all_checks l)) 0)
+    (accepted (sills.filled l) (sills.crossed l 0) (sills.crossed l (sills.cells_of l)))
+    (refused (verdict (sills.all_checks l)) (spot (sills.all_checks l)))
+    (λ (o : Outcome). placed (answer o) ≤ most_cells) (λ b. omega arith) (λ b. sill-places.place_most l))
 
 -- the two counts of a question
 pub read_told : (q : Question) (w : ℤ) (c b : ℕ) (old : List ℤ) → answered (record { water = w; cells = c; blocks = b }) ≡ q
@@ -237,10 +212,10 @@ unfolding flux face_code flux_into
 face_none old = record { number = refl; flux = refl }
 
 -- ---- one number, and one content of each table
-pub step_one : {A B : Type 0} {y : Telling A B} {o : OutcomeOf A} {r r' : ℕ} {old new new' w v v' : List A} {ps p p' : List ℕ}
-    → ToldBy y o r old new w v ps p → ToldBy y o r' old new' w v' ps p' → (r ≡ r') × (new ≡ new') × (v ≡ v') × (p ≡ p')
-step_one g h =
-    (g.number ∙ sym h.number, g.table ∙ sym h.table, g.crossed ∙ sym h.crossed, g.place ∙ sym h.place)
+pub step_one : {o : Outcome} {r r' : ℕ} {old new new' w v v' : List ℤ} {x y y' : List ℕ}
+    → StepTold o r old new w v x y → StepTold o r' old new' w v' x y' → (r ≡ r') × (new ≡ new') × (v ≡ v') × (y ≡ y')
+step_one p q =
+    (p.number ∙ sym q.number, p.table ∙ sym q.table, p.crossed ∙ sym q.crossed, p.place ∙ sym q.place)
 
 pub keeping_one : {l : Lent} {r r' : ℕ} {old new new' sums s s' w v v' : List ℤ} {x y y' : List ℕ}
     → KeepingTold l r old new sums s w v x y → KeepingTold l r' old new' sums s' w v' x y'

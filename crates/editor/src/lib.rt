@@ -5,15 +5,12 @@ ghost use Rattle.rules.specs.Limits.{most_cells};
 ghost use Rattle.rules.specs.Lent.{step_of};
 ghost use Rattle.rules.specs.Sums.{making_of, between_of};
 ghost use Rattle.sill_rules.specs.Lent as sills;
-ghost use Rattle.double_rules.specs.Lent as doubles;
-ghost use Rattle.double_step.specs.Gives as double-answers;
 ghost use Rattle.face.specs.Given.{side, face_given};
 ghost use Rattle.step.specs.Gives.{end, lend, placed};
 ghost use Rattle.editor.specs.Told.{sill_lend, given_by, AnswerTold, StepTold, KeepingTold, MakingTold, QuestionTold};
-ghost use Rattle.editor.specs.Told.{DoubleStepTold, DoubleAnswerTold, double_lend, FaceTold, DoubleTold, RootTold};
+ghost use Rattle.editor.specs.Told.{FaceTold, DoubleTold, RootTold};
 
 use double::face::DoubleAnswer;
-use double_step::Terms;
 use face::answer::Carried;
 use root::RootAnswer;
 use step::{Answer, End, Given};
@@ -162,61 +159,6 @@ pub extern "C" fn bassoonsun_sill_step(
         right,
     };
     tell(sill::step(state, next, bed, friction, call), volumes, place)
-}
-
-// What a step in double precision answered, told as the others are.
-fn tell_double(a: double_step::Answer, volumes: &mut [f64; 2], place: &mut [u32; 1]) -> u32
-    requires { double-answers.placed a ≤ most_cells }
-    ensures { DoubleAnswerTold a result volumes.old volumes.new place.old place.new }
-{
-    match a {
-        double_step::Answer::Refused(k, p) => {
-            place[0] = p as u32;
-            k
-        }
-        double_step::Answer::Accepted(w, v) => {
-            volumes[0] = w;
-            volumes[1] = v;
-            place[0] = 0;
-            0
-        }
-    }
-}
-
-// The same in double precision, in metres and seconds: 0 when the step is accepted, else the refusal's number;
-// `volumes`, W at face 0 and at face n, is written only when it is accepted, `place` in either case.
-#[unsafe(no_mangle)]
-pub extern "C" fn bassoonsun_step_double(
-    state: &[f64],
-    next: &mut [f64],
-    bed: &[f64],
-    friction: &[u16],
-    dx: f64,
-    dt: f64,
-    jump: f64,
-    left: u32,
-    right: u32,
-    volumes: &mut [f64; 2],
-    place: &mut [u32; 1],
-) -> u32
-    ensures { DoubleStepTold
-        (doubles.step_of (double_lend state.now (length next.old) bed.now friction.now
-        dx dt jump left right))
-        result next.old next.new volumes.old volumes.new
-        place.old place.new }
-{
-    let terms = Terms {
-        dx,
-        dt,
-        jump,
-        left,
-        right,
-    };
-    tell_double(
-        double_step::step(state, next, bed, friction, terms),
-        volumes,
-        place,
-    )
 }
 
 // 0 when all of the sums are filled, else the refusal's number; they are then as they were.

@@ -23,8 +23,7 @@ use Rattle.rules.specs.Friction.{cube_of, cube, drag, slowed}
 use Rattle.rules.specs.Step.{rub, rubbed_cell, rubbed, stage_one, half, carry, joined_cell, joined, next}
 use Rattle.rules.specs.Refusals.{any, bad_end, bad_call, bad_bed, bad_rough, off_cell, off, fast_cell, fast_friction, fast_inflow, fast_face}
 use Rattle.rules.specs.Refusals.{fast_points, fast_gauss, too_long, verdict, spot, stage_checks, early, checks, refusal, refused_at}
-use Rattle.rules.specs.Outcome.{refused, accepted}
-use Rattle.rules.specs.Lent.{Lent, misfit, number, place, filled, crossed, Outcome, step_of}
+use Rattle.rules.specs.Lent.{Lent, misfit, number, place, filled, crossed, Outcome, refused, accepted, step_of}
 use Rattle.rules.specs.StateAndBed.{misfit_state, state_checks}
 use Rattle.rules.specs.Sums.{block_to, sum_from, block_sum, sums_of, making_checks, making_refusal, Making, unmade, made, making_of, count}
 use Rattle.rules.specs.Sums.{whole_block, lone_cell, reading, question_checks, question_refusal, Question, unanswered, answered, between_of}

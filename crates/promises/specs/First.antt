@@ -1,6 +1,6 @@
 -- The first check that is met, and the lowest place at which it is.
 -- Assumes nothing.
-use Rattle.std.specs.Prelude.{◌≡◌, Bool, true, false, cond, List, [], ◌∷◌, ◌⊎◌, ℕ, suc, ◌<◌, T, ltb}
+use Rattle.std.specs.Prelude.{◌≡◌, Bool, true, false, cond, List, [], ◌∷◌, ◌⊎◌, ℕ, ◌<◌, T, ltb}
 use Rattle.std.proofs.Common.{sym, ap, subst, inl, inr, arith, ne_eqb, ltb→lt}
 use Rattle.whole.specs.Flags.{by, held}
 use Rattle.tables.specs.Some.{IsLowest, lowest_is, is_lowest, yes_some}
@@ -49,25 +49,25 @@ pub first_split : {k p : ℕ} {x : Check} {xs : List Check} → FirstMetAt k p (
 first_split (here_at x xs l e) = inl (l, e)
 first_split (later_at x xs b f) = inr (b, f)
 
--- ---- its number is one of 1 to m
-abbrev pub listed : ℕ → List Check → Bool
-listed m [] = true
-listed m (x ∷ xs) = cond (ltb 0 x.no) (cond (ltb x.no (suc m)) (listed m xs) false) false
+-- ---- its number is one of 1 to 8
+abbrev pub listed : List Check → Bool
+listed [] = true
+listed (x ∷ xs) = cond (ltb 0 x.no) (cond (ltb x.no 9) (listed xs) false) false
 
-first_in : (n k : ℕ) (r : Bool) → T (cond (ltb 0 k) (cond (ltb k n) r false) false) → (0 < k) × (k < n)
-first_in n k r t = by (ltb 0 k)
-    (λ p. by (ltb k n) (λ q. (ltb→lt 0 k (held (ltb 0 k) p), ltb→lt k n (held (ltb k n) q))) (λ q. absurd (rw (p, q) at t)))
+first_in : (m : ℕ) (r : Bool) → T (cond (ltb 0 m) (cond (ltb m 9) r false) false) → (0 < m) × (m < 9)
+first_in m r t = by (ltb 0 m)
+    (λ p. by (ltb m 9) (λ q. (ltb→lt 0 m (held (ltb 0 m) p), ltb→lt m 9 (held (ltb m 9) q))) (λ q. absurd (rw (p, q) at t)))
     (λ p. absurd (rw p at t))
 
-rest_in : (n k : ℕ) (r : Bool) → T (cond (ltb 0 k) (cond (ltb k n) r false) false) → T r
-rest_in n k r t = by (ltb 0 k) (λ p. by (ltb k n) (λ q. rw (p, q) at t) (λ q. absurd (rw (p, q) at t))) (λ p. absurd (rw p at t))
+rest_in : (m : ℕ) (r : Bool) → T (cond (ltb 0 m) (cond (ltb m 9) r false) false) → T r
+rest_in m r t = by (ltb 0 m) (λ p. by (ltb m 9) (λ q. rw (p, q) at t) (λ q. absurd (rw (p, q) at t))) (λ p. absurd (rw p at t))
 
-pub first_listed : (m k : ℕ) {xs : List Check} → FirstMet k xs → T (listed m xs) → (0 < k) × (k < suc m)
-first_listed m k (here x xs b e) t = subst (λ (j : ℕ). (0 < j) × (j < suc m)) e (first_in (suc m) x.no (listed m xs) t)
-first_listed m k (later x xs b f) t = first_listed m k f (rest_in (suc m) x.no (listed m xs) t)
+pub first_listed : (k : ℕ) {xs : List Check} → FirstMet k xs → T (listed xs) → (0 < k) × (k < 9)
+first_listed k (here x xs b e) t = subst (λ (m : ℕ). (0 < m) × (m < 9)) e (first_in x.no (listed xs) t)
+first_listed k (later x xs b f) t = first_listed k f (rest_in x.no (listed xs) t)
 
 -- so none of it has the number 0
-pub listed_some : (m : ℕ) (xs : List Check) → T (listed m xs) → T (other 0 xs)
-listed_some m [] t = tt
-listed_some m (x ∷ xs) t = let some = (first_in (suc m) x.no (listed m xs) t).0 in
-    rw (ne_eqb x.no 0 (λ e. let z : ⊥ = omega arith in z)) (listed_some m xs (rest_in (suc m) x.no (listed m xs) t))
+pub listed_some : (xs : List Check) → T (listed xs) → T (other 0 xs)
+listed_some [] t = tt
+listed_some (x ∷ xs) t = let some = (first_in x.no (listed xs) t).0 in
+    rw (ne_eqb x.no 0 (λ e. let z : ⊥ = omega arith in z)) (listed_some xs (rest_in x.no (listed xs) t))

@@ -80,8 +80,7 @@ module _ (l : Lent) {r : ℕ} {old new vs vs' : List ℤ} {ps ps' : List ℕ} (g
   rules e = page.accepted_rules l said old new (gave g) (over g (λ m. m ≡ 0) e)
 
   pub accepted_rules : length vs ≡ 2 → r ≡ 0 → (new ≡ filled l) × (at vs' 0 ≡ crossed l 0) × (at vs' 1 ≡ crossed l (cells_of l))
-  accepted_rules two e = let k = rules e in let v = volumes_are g (pos 0) two (crossed l 0) (crossed l (cells_of l)) k.1 in
-      (k.0, v.0, v.1)
+  accepted_rules two e = let k = rules e in let v = volumes_are g two (crossed l 0) (crossed l (cells_of l)) k.1 in (k.0, v.0, v.1)
 
   -- the dry depth is each call's own: what an accepted one writes has no discharge where it is no deeper
   pub shallow_calm : r ≡ 0 → (i : ℕ) → i < cells_of l → mean_depth l.bed new (cells_of l) i ≤ℤ pos l.dry
@@ -95,7 +94,7 @@ module _ (l : Lent) {r : ℕ} {old new vs vs' : List ℤ} {ps ps' : List ℕ} (g
   -- nothing crosses a wall, at an inflow Q·dt/dx comes in, and at a wall or an open end no more than 131,072 passes either way
   module _ (two : length vs ≡ 2) (e : r ≡ 0) where
     pub wrote : volumes said ≡ both (at vs' 0) (at vs' 1)
-    wrote = volumes_told g (pos 0) two (crossed l 0) (crossed l (cells_of l)) (rules e).1
+    wrote = volumes_told g two (crossed l 0) (crossed l (cells_of l)) (rules e).1
 
     pub left_wall : l.left.kind ≡ 0 → at vs' 0 ≡ pos 0
     left_wall k = page.left_wall l said (at vs' 0) (at vs' 1) old new wrote (gave g) k
@@ -146,9 +145,9 @@ module _ (l : Lent) {r : ℕ} {old new vs vs' : List ℤ} {ps ps' : List ℕ} (g
         → (new' ≡ turned_table (cells_of l) new) × (at us' 0 ≡ neg_ℤ (at vs' 1)) × (at us' 1 ≡ neg_ℤ (at vs' 0))
     turned_accepted two two' e =
         let w = crossed l 0 in let v = crossed l (cells_of l) in
-        let is = (rules e).1 in let here = volumes_are g (pos 0) two w v is in
+        let is = (rules e).1 in let here = volumes_are g two w v is in
         let turned = page.turned_accepted l said said_there w v old new old' new' is (gave g) (gave h) in
-        let far = volumes_are h (pos 0) two' (neg_ℤ v) (neg_ℤ w) turned.0 in
+        let far = volumes_are h two' (neg_ℤ v) (neg_ℤ w) turned.0 in
         (turned.1, far.0 ∙ sym (ap neg_ℤ here.1), far.1 ∙ sym (ap neg_ℤ here.0))
 
 -- ---- demand 3, over any number of calls that gave 0, on one bed with n cells of length dx

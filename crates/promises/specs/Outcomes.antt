@@ -5,7 +5,7 @@ use Rattle.std.proofs.Math.Path.{refl, ap, subst}
 use Rattle.std.proofs.Common.{sym, ◌∙◌, ⊎_elim}
 use Rattle.std.proofs.Math.Bool.{cond}
 use Rattle.std.proofs.Math.Logic.{inl, inr}
-use Prim.Native.Nat.{ℕ, zero, suc, ◌*◌, ◌<◌}
+use Prim.Native.Nat.{ℕ, zero, suc, ◌*◌, ◌≤◌, ◌<◌}
 use native.Mathlib.Omega.{arith}
 use Rattle.std.proofs.Math.IntN.{pos}
 use Rattle.whole.specs.Flags.{by}
@@ -20,8 +20,7 @@ use Rattle.tables.specs.Some.{some, lowest}
 use Rattle.rules.specs.Refusals.{bad_end, bad_call, bad_bed, bad_rough, off_cell, off, of_call, each, applies, verdict, spot}
 use Rattle.rules.specs.Refusals.{stage_checks, early, checks, refusal, refused_at}
 use Rattle.rules.specs.Lent.{Lent, reach_of, call_of, state_of, cells_of, misfits, number, place, filled, crossed}
-use Rattle.rules.specs.Outcome.{refused, accepted, outcome}
-use Rattle.rules.specs.Lent.{Outcome, step_of}
+use Rattle.rules.specs.Lent.{Outcome, refused, accepted, outcome, step_of}
 use Rattle.rules.specs.AtRest.{Dry, Flat, AtRest}
 use Rattle.rules.specs.Laws.Agree.{Same}
 use Rattle.rules.specs.Laws.DryDepth.{finished_calm}
@@ -42,7 +41,7 @@ use Rattle.rules.specs.Laws.Runs.{accepted as accepted-call, accepted_ends, Dept
 use Rattle.rules.specs.Laws.Runs.{TooLarge, Large}
 use Rattle.rules.specs.Laws.Rest as rest
 use Rattle.rules.specs.Laws.Chain.{Chain, stop, step}
-use Rattle.step.specs.Gives.{code, placed, volumes, both, telling, Gives}
+use Rattle.step.specs.Gives.{code, placed, volumes, both, Gives}
 use Rattle.reach.specs.declared.answer.Answer.{Answer}
 use Rattle.promises.specs.Seen.{at, level, level_slope, discharge, discharge_slope, mean_bed, bed_slope, mean_depth, left_depth}
 use Rattle.promises.specs.Seen.{right_depth, NoneBelow, Excess, total, water, Listed, most_passed, brought, Lake}
@@ -66,11 +65,11 @@ module _ (l : Lent) where
       ap (λ (f : Found). cond (eqb f.no 0) took (refused f.no f.place)) found_is
 
   pub by_checks : {a : Answer} {old new : List ℤ} → Gives (step_of l) a old new
-      → ByChecks telling (all_checks l) (filled l) (crossed l 0) (crossed l (cells_of l)) a old new
+      → ByChecks (all_checks l) (filled l) (crossed l 0) (crossed l (cells_of l)) a old new
   by_checks {a} {old} {new} g = record { gave = subst (λ (o : Outcome). Gives o a old new) step_is g }
 
   -- their numbers, and their places
-  pub all_listed : T (listed 8 (all_checks l))
+  pub all_listed : T (listed (all_checks l))
   unfolding all_checks checks early stage_checks
   all_listed = tt
 

@@ -17,7 +17,7 @@ use Rattle.sill_rules.specs.Refusals.{off, early, checks}
 use Rattle.sill_rules.specs.Lent.{Lent, cells_of, reach_of, call_of, state_of, all_checks, filled, crossed, step_of}
 use Rattle.sill_rules.specs.Laws.Within.{all_within}
 use Rattle.sill_rules.specs.Laws.Accepted.{reached_end, eight}
-use Rattle.reach.specs.Gives.{code, placed, volumes, absent, both, Gives, one_answer, one_table, volumes_code}
+use Rattle.reach.specs.Gives.{code, placed, volumes, absent, both, Gives, one_answer, one_table}
 use Rattle.reach.specs.declared.answer.Answer.{Answer}
 use Rattle.promises.specs.Seen.{FirstMet, FirstMetAt, most_passed}
 use Rattle.promises.specs.SeenSill.{to_end, check_five, fast_cell, discharge, depth, NoneBelow, Excess, water, Lake}
@@ -47,7 +47,7 @@ module _ (l : Lent) (a : Answer) (old new : List ℤ) (g : Gives (step_of l) a o
 
   -- a number from 1 to 8; the table is then what it was, and there are no volumes
   pub refused_listed : code a < 9
-  refused_listed = call.refused_listed (by_checks l g) 8 (all_listed l)
+  refused_listed = call.refused_listed (by_checks l g) (all_listed l)
 
   pub refused_untouched : 0 < code a → (new ≡ old) × (volumes a ≡ absent)
   refused_untouched some = call.refused_untouched (by_checks l g) some
@@ -58,7 +58,7 @@ module _ (l : Lent) (a : Answer) (old new : List ℤ) (g : Gives (step_of l) a o
   refused_at some = call.refused_at (by_checks l g) some
 
   pub at_refused : (k p : ℕ) → FirstMetAt k p (all_checks l) → (code a ≡ k) × (placed a ≡ p)
-  at_refused k p f = call.at_refused (by_checks l g) 8 (all_listed l) k p f
+  at_refused k p f = call.at_refused (by_checks l g) (all_listed l) k p f
 
   -- for a 1 or a 2 that is 0, as it is when the call is accepted, and for none does it lie past the last face
   pub refused_whole : code a ≤ 2 → placed a ≡ 0
@@ -75,7 +75,7 @@ module _ (l : Lent) (a : Answer) (old new : List ℤ) (g : Gives (step_of l) a o
 
   -- it is accepted exactly when none is met
   pub accepted_clear : code a ≡ 0 → Clear (all_checks l)
-  accepted_clear e = call.accepted_clear (by_checks l g) 8 (all_listed l) e
+  accepted_clear e = call.accepted_clear (by_checks l g) (all_listed l) e
 
   pub clear_accepted : Clear (all_checks l) → code a ≡ 0
   clear_accepted k = call.clear_accepted (by_checks l g) k
@@ -86,7 +86,7 @@ module _ (l : Lent) (a : Answer) (old new : List ℤ) (g : Gives (step_of l) a o
 
 -- an answer with volumes is that of an accepted call
 pub volumes_accepted : (a : Answer) (w v : ℤ) → volumes a ≡ both w v → code a ≡ 0
-volumes_accepted a w v e = volumes_code a w v e
+volumes_accepted a w v e = call.volumes_code a w v e
 
 -- ---- the dry depth is each call's own: what an accepted one writes has no discharge where it is no deeper
 pub shallow_calm : (l : Lent) (a : Answer) (old new : List ℤ) → Gives (step_of l) a old new → code a ≡ 0 → (i : ℕ) → i < cells_of l

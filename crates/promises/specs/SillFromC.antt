@@ -74,8 +74,7 @@ module _ (l : Lent) {r : ℕ} {old new vs vs' : List ℤ} {ps ps' : List ℕ} (g
   rules e = page.accepted_rules l said old new (gave g) (over g (λ m. m ≡ 0) e)
 
   pub accepted_rules : length vs ≡ 2 → r ≡ 0 → (new ≡ filled l) × (at vs' 0 ≡ crossed l 0) × (at vs' 1 ≡ crossed l (cells_of l))
-  accepted_rules two e = let k = rules e in let v = volumes_are g (pos 0) two (crossed l 0) (crossed l (cells_of l)) k.1 in
-      (k.0, v.0, v.1)
+  accepted_rules two e = let k = rules e in let v = volumes_are g two (crossed l 0) (crossed l (cells_of l)) k.1 in (k.0, v.0, v.1)
 
   -- the dry depth is each call's own: what an accepted one writes has no discharge where it is no deeper
   pub shallow_calm : r ≡ 0 → (i : ℕ) → i < cells_of l → depth l.bed new (cells_of l) i ≤ℤ pos l.dry
@@ -89,7 +88,7 @@ module _ (l : Lent) {r : ℕ} {old new vs vs' : List ℤ} {ps ps' : List ℕ} (g
   -- nothing crosses a wall, and no more than 131,072 passes either end, either way
   module _ (two : length vs ≡ 2) (e : r ≡ 0) where
     pub wrote : volumes said ≡ both (at vs' 0) (at vs' 1)
-    wrote = volumes_told g (pos 0) two (crossed l 0) (crossed l (cells_of l)) (rules e).1
+    wrote = volumes_told g two (crossed l 0) (crossed l (cells_of l)) (rules e).1
 
     pub left_wall : l.left ≡ 0 → at vs' 0 ≡ pos 0
     left_wall k = page.left_wall l said (at vs' 0) (at vs' 1) old new wrote (gave g) k

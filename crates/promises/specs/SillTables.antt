@@ -40,7 +40,7 @@ use Rattle.sill_rules.specs.Laws.StillChecks.{input, seven_alone}
 use Rattle.sill_rules.specs.Laws.EndVolumes.{left_shut, right_shut, left_most, right_most}
 use Rattle.sill_rules.specs.Laws.Accepted.{fine, accepted as accepted-call, accepted_early, accepted_depths, accepted_rest}
 use Rattle.sill_rules.specs.Laws.Accepted.{TooLarge, Large}
-use Rattle.reach.specs.Gives.{telling, Gives}
+use Rattle.reach.specs.Gives.{Gives}
 use Rattle.reach.specs.declared.answer.Answer.{Answer}
 use Rattle.promises.specs.Seen.{FirstMetAt, total, most_passed}
 use Rattle.promises.specs.SeenSill.{check_five, fast_cell, discharge, depth, NoneBelow, Excess, water, left_bed, right_bed}
@@ -63,12 +63,12 @@ module _ (l : Lent) where
   n = cells_of l
 
   pub by_checks : {a : Answer} {old new : List ℤ} → Gives (step_of l) a old new
-      → ByChecks telling (all_checks l) (filled l) (crossed l 0) (crossed l n) a old new
+      → ByChecks (all_checks l) (filled l) (crossed l 0) (crossed l n) a old new
   unfolding step_of
   by_checks g = record { gave = g }
 
   -- their numbers, and their places
-  pub all_listed : T (listed 8 (all_checks l))
+  pub all_listed : T (listed (all_checks l))
   unfolding all_checks checks early
   all_listed = tt
 

@@ -15,8 +15,7 @@ use Rattle.std.proofs.Math.ListN.{length}
 use Rattle.whole.specs.Flags.{by, clash}
 use Rattle.rules.specs.Reach.{h0, z0}
 use Rattle.rules.specs.Refusals.{Check, verdict}
-use Rattle.rules.specs.Outcome.{refused, accepted}
-use Rattle.rules.specs.Lent.{Lent, cells_of, number, filled, Outcome, step_of}
+use Rattle.rules.specs.Lent.{Lent, cells_of, number, filled, Outcome, refused, accepted, step_of}
 use Rattle.rules.specs.StateAndBed.{cells_over, depth_in, state_refusal}
 use Rattle.rules.specs.Sums.{blocks_of, sum_from, sums_of, misfit_sums, making_checks, making_refusal, Making, unmade, made, making_of}
 use Rattle.rules.specs.Sums.{Reading, reading, question_checks, Question, unanswered, answered, between_of}
@@ -27,7 +26,7 @@ use Rattle.rules.specs.Laws.Written.{written_passes}
 use Rattle.rules.specs.Laws.Sums.{length_sums, between_water as rules-water}
 use Rattle.rules.specs.Laws.Questions.{sums_misfit, sums_fit, as_many, making_first, making_later, disordered, all_answered}
 use Rattle.rules.specs.Laws.Questions.{making_verdict, by_number, question_verdict, by_refusal, unkept, kept_step}
-use Rattle.step.specs.Gives.{code, placed, Gives, answer, leaves, volumes_code}
+use Rattle.step.specs.Gives.{code, placed, Gives, answer, leaves}
 use Rattle.reach.specs.declared.answer.Answer.{Answer}
 use Rattle.sums.specs.Gives.{made_code, asked, question_code, made_answer, made_leaves, MakingGives, KeepingGives}
 use Rattle.sums.specs.Gives.{one_making, one_amount, one_keeping}
@@ -38,6 +37,7 @@ use Rattle.promises.specs.Seen.{FirstMet, mean_bed, mean_depth, total, water, Ca
 use Rattle.promises.specs.SeenSums.{water_between, MadeFrom, by_making, by_step, Answers}
 use Rattle.promises.specs.SeenSums.{CallsKeeping, none_kept, more_kept}
 use Rattle.promises.specs.First.{first_verdict, verdict_first}
+use Rattle.promises.specs.ByChecks.{volumes_code}
 use Rattle.promises.specs.Outcomes.{coded, accepted_table}
 use Rattle.promises.specs.Promises as page
 

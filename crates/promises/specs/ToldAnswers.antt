@@ -1,28 +1,32 @@
--- From what a caller in C is told of a step to its answer, whatever the reach, its numbers (A) and its answers (B): r is the number, vs
--- and vs' are the two volumes before and after it, ps and ps' the place.
+-- From what a caller in C is told of a step to its answer, whatever the reach: r is the number, vs and vs' are the two volumes before and
+-- after it, ps and ps' the place.
 -- Assumes nothing.
-use Rattle.std.specs.Prelude.{◌≡◌, refl, List, ℕ, ◌<◌, length, get_or, set}
-use Rattle.std.proofs.Common.{sym, ◌∙◌, ap, subst, length-set, get_or-set_same, get_or-set_other}
-use native.Mathlib.Omega.{arith}
-use Rattle.rules.specs.Outcome.{OutcomeOf, refused, accepted}
-use Rattle.rules.specs.Telling.{VolumesOf, both, Telling, GivesBy}
-use Rattle.editor.specs.Told.{volumes_into, ToldBy}
+use Rattle.std.specs.Prelude.{◌≡◌, refl, List, ℕ, ◌<◌, length, get_or, set, ℤ, pos}
+use Rattle.std.proofs.Common.{sym, ◌∙◌, ap, subst, arith, length-set, get_or-set_same, get_or-set_other}
+use Rattle.rules.specs.Lent.{Outcome, refused, accepted}
+use Rattle.reach.specs.Gives.{code, placed, volumes, both, answer, Gives}
+use Rattle.editor.specs.Told.{volumes_of, StepTold}
+use Rattle.promises.specs.Seen.{at}
 
--- what is written into the two volumes, read with any default d
-written : {A : Type 0} (vs : List A) → length vs ≡ 2 → (d w v : A)
-    → (get_or (volumes_into (both w v) vs) 0 d ≡ w) × (get_or (volumes_into (both w v) vs) 1 d ≡ v)
-unfolding volumes_into
-written vs two d w v = let first = set vs 0 w in let size = length-set vs 0 w in (
-  (get_or-set_other first 1 0 v d (λ e. let z : ⊥ = omega arith in z) ∙ get_or-set_same vs 0 w d (omega arith)),
-  get_or-set_same first 1 v d (omega arith),
-)
+-- what an outcome leaves in the two volumes
+untouched : (o : Outcome) (vs : List ℤ) → 0 < code (answer o) → volumes_of o vs ≡ vs
+unfolding code answer volumes_of
+untouched (refused k p) vs some = refl
+untouched (accepted t w v) vs some = let z : ⊥ = omega arith in absurd z
 
-module _ {A B : Type 0} {y : Telling A B} {o : OutcomeOf A} {r : ℕ} {old new vs vs' : List A} {ps ps' : List ℕ}
-    (g : ToldBy y o r old new vs vs' ps ps') where
-  open y use {answer, code, placed, volumes, tells}
+written : (o : Outcome) (vs : List ℤ) → length vs ≡ 2 → (w v : ℤ) → volumes (answer o) ≡ both w v
+    → (at (volumes_of o vs) 0 ≡ w) × (at (volumes_of o vs) 1 ≡ v)
+unfolding answer volumes volumes_of
+written (refused k p) vs two w v is = let z : ◌≡◌ {A = ℕ} 0 1 = cc in let f : ⊥ = omega arith in absurd f
+written (accepted t x y) vs two w v is =
+    let p : x ≡ w = cc in let q : y ≡ v = cc in let first = set vs 0 x in let size = length-set vs 0 x in (
+      (get_or-set_other first 1 0 y (pos 0) (λ d. let z : ⊥ = omega arith in z) ∙ get_or-set_same vs 0 x (pos 0) (omega arith) ∙ p),
+      (get_or-set_same first 1 y (pos 0) (omega arith) ∙ q),
+    )
 
+module _ {o : Outcome} {r : ℕ} {old new vs vs' : List ℤ} {ps ps' : List ℕ} (g : StepTold o r old new vs vs' ps ps') where
   -- the answer and the table
-  pub gave : GivesBy y o (answer o) old new
+  pub gave : Gives o (answer o) old new
   gave = record { says = refl; table = g.table }
 
   -- what is so of the answer's number is so of r, and the other way round
@@ -38,18 +42,12 @@ module _ {A B : Type 0} {y : Telling A B} {o : OutcomeOf A} {r : ℕ} {old new v
 
   -- the volumes that a refusal, and an accepted step, leave
   pub volumes_kept : 0 < r → vs' ≡ vs
-  unfolding volumes_into
-  volumes_kept some = g.crossed ∙ untouched o (over (λ k. 0 < k) some)
-    where
-      untouched : (x : OutcomeOf A) → 0 < code (answer x) → volumes_into (volumes (answer x)) vs ≡ vs
-      untouched (refused k p) d = rw (tells.volumes_of_refused k p)
-      untouched (accepted t w v) d = let e = tells.code_of_accepted t w v in let z : ⊥ = omega arith in absurd z
+  volumes_kept some = g.crossed ∙ untouched o vs (over (λ k. 0 < k) some)
 
-  module _ (d : A) (two : length vs ≡ 2) (w v : A) (is : volumes (answer o) ≡ both w v) where
-    pub volumes_are : (get_or vs' 0 d ≡ w) × (get_or vs' 1 d ≡ v)
-    volumes_are = let e = g.crossed ∙ ap (λ (x : VolumesOf A). volumes_into x vs) is in let k = written vs two d w v in
-        (ap (λ (x : List A). get_or x 0 d) e ∙ k.0, ap (λ (x : List A). get_or x 1 d) e ∙ k.1)
+  pub volumes_are : length vs ≡ 2 → (w v : ℤ) → volumes (answer o) ≡ both w v → (at vs' 0 ≡ w) × (at vs' 1 ≡ v)
+  volumes_are two w v is = let k = written o vs two w v is in
+      (ap (λ (x : List ℤ). at x 0) g.crossed ∙ k.0, ap (λ (x : List ℤ). at x 1) g.crossed ∙ k.1)
 
-    -- so its answer has what was written
-    pub volumes_told : volumes (answer o) ≡ both (get_or vs' 0 d) (get_or vs' 1 d)
-    volumes_told = let k = volumes_are in let left = sym k.0 in let right = sym k.1 in is ∙ (λ i. both (left i) (right i))
+  -- so its answer has what was written
+  pub volumes_told : length vs ≡ 2 → (w v : ℤ) → volumes (answer o) ≡ both w v → volumes (answer o) ≡ both (at vs' 0) (at vs' 1)
+  volumes_told two w v is = let k = volumes_are two w v is in let x = sym k.0 in let y = sym k.1 in is ∙ (λ i. both (x i) (y i))

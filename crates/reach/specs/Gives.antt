@@ -1,14 +1,10 @@
--- To be believed: all but `tells`, which is shown, and the law at the end.
+-- To be believed: all but the two laws at the end.
 -- What a step says: one answer, and one content of the lent table.
-use Rattle.std.specs.Prelude.{◌≡◌, refl, List, ℕ, ℤ}
-use Rattle.std.proofs.Common.{arith}
-use Rattle.rules.specs.Outcome.{refused, accepted}
-use Rattle.rules.specs.Lent.{Outcome}
-use Rattle.rules.specs.Telling.{VolumesOf, Tells, Telling, GivesBy}
+use Rattle.std.specs.Prelude.{◌≡◌, List, ℕ, ℤ}
+use Rattle.std.proofs.Common.{sym, ◌∙◌}
+use Rattle.rules.specs.Lent.{Outcome, refused, accepted}
 use Rattle.reach.specs.declared.answer.Answer.{Answer}
 use Rattle.reach.specs.declared.answer.Answer.TheVariants.{Refused, Accepted}
-pub use Rattle.rules.specs.Telling.{absent, both, one_answer, one_table}
-unfoldable pub use Rattle.rules.specs.Outcome.{leaves}
 
 -- ---- the scope document's number and values of each answer
 -- the number of a refusal and its place, both 0 for an accepted step;
@@ -21,7 +17,11 @@ placed (Refused k p) = p
 placed (Accepted w v) = 0
 
 -- and W at face 0 and at face n, which an accepted step has and a refusal has not
-unfoldable pub volumes : Answer → VolumesOf ℤ
+pub data Volumes : Type 0 where
+  absent : Volumes
+  both : ℤ → ℤ → Volumes
+
+unfoldable pub volumes : Answer → Volumes
 volumes (Refused k p) = absent
 volumes (Accepted w v) = both w v
 
@@ -31,27 +31,18 @@ unfoldable pub answer : Outcome → Answer
 answer (refused k p) = Refused k p
 answer (accepted t w v) = Accepted w v
 
--- which tells it by these,
-pub tells : Tells answer code placed volumes
-unfolding answer code placed volumes
-tells = record {
-  code_of_refused = λ k p. refl;
-  place_of_refused = λ k p. refl;
-  volumes_of_refused = λ k p. refl;
-  code_of_accepted = λ t w v. refl;
-  place_of_accepted = λ t w v. refl;
-  volumes_of_accepted = λ t w v. refl;
-}
+-- and what it leaves in the lent table
+unfoldable pub leaves : Outcome → List ℤ → List ℤ
+leaves (refused k p) old = old
+leaves (accepted t w v) old = t
 
-abbrev pub telling : Telling ℤ Answer
-telling = record { answer = answer; code = code; placed = placed; volumes = volumes; tells = tells }
+pub record Gives (o : Outcome) (a : Answer) (old new : List ℤ) : Type 0 where
+  pub says : a ≡ answer o
+  pub table : new ≡ leaves o old
 
--- that answer, and what the outcome leaves in the lent table
-abbrev pub Gives : Outcome → Answer → List ℤ → List ℤ → Type 0
-Gives o a old new = GivesBy telling o a old new
+-- one answer and one content
+pub one_answer : {o : Outcome} {a b : Answer} {old new new' : List ℤ} → Gives o a old new → Gives o b old new' → a ≡ b
+one_answer p q = p.says ∙ sym q.says
 
--- an answer with volumes has the number 0
-pub volumes_code : (a : Answer) (w v : ℤ) → volumes a ≡ both w v → code a ≡ 0
-unfolding volumes code
-volumes_code (Refused k p) w v e = let z : ◌≡◌ {A = ℕ} 0 1 = cc in let f : ⊥ = omega arith in absurd f
-volumes_code (Accepted x y) w v e = refl
+pub one_table : {o : Outcome} {a b : Answer} {old new new' : List ℤ} → Gives o a old new → Gives o b old new' → new ≡ new'
+one_table p q = p.table ∙ sym q.table

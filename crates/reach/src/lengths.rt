@@ -1,7 +1,5 @@
-// The lengths of the tables of a step, and of a state and its bed where they are lent without a call. Every call is
-// answered.
+// The lengths of a state and its bed, where they are lent without a call. Every call is answered.
 ghost use Rattle.std.specs.Prelude.{◌≡◌};
-ghost use Rattle.rules.specs.Lent.{misfit};
 ghost use Rattle.rules.specs.StateAndBed.{cells_over, misfit_state};
 
 use crate::limits::CELLS;
@@ -28,26 +26,4 @@ pub fn bad_state(state: usize, n: usize) -> bool
         return true;
     }
     state != 4 * n
-}
-
-// 1: do the tables of a step not fit its n cells: two states, and a bed value for each face?
-pub fn bad_lengths(state: usize, next: usize, bed: usize, n: usize) -> bool
-    ensures { result ≡ misfit state next bed n }
-{
-    if n == 0 {
-        return true;
-    }
-    if CELLS < n {
-        return true;
-    }
-    if state != 4 * n {
-        return true;
-    }
-    if next != 4 * n {
-        return true;
-    }
-    if bed != n + 1 {
-        return true;
-    }
-    false
 }

@@ -10,8 +10,6 @@ pub mod Finishing
 pub mod Friction
 pub mod Step
 pub mod Refusals
-pub mod Outcome
-pub mod Telling
 pub mod Lent
 pub mod StateAndBed
 pub mod Sums

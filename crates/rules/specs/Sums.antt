@@ -3,8 +3,7 @@ use Rattle.std.specs.Prelude.{Bool, not, cond, ◌&&◌, ◌||◌, List, [], ◌
 use Rattle.tables.specs.Rows.{row}
 use Rattle.rules.specs.Limits.{block_cells}
 use Rattle.rules.specs.Refusals.{Check, of_call, verdict}
-use Rattle.rules.specs.Outcome.{refused, accepted}
-use Rattle.rules.specs.Lent.{Lent, cells_of, Outcome, step_of}
+use Rattle.rules.specs.Lent.{Lent, cells_of, Outcome, refused, accepted, step_of}
 use Rattle.rules.specs.StateAndBed.{cells_over, depth_in, misfit_state, state_checks}
 
 -- ---- blocks

@@ -5,8 +5,7 @@ use Rattle.tables.specs.Rows.{Written}
 use Rattle.tables.specs.Pools.{as_row, pool_in, pool_table}
 use Rattle.rules.specs.Refusals.{bad_rough, Check, each}
 use Rattle.rules.specs.Found.{Found, found}
-use Rattle.rules.specs.Outcome.{outcome}
-use Rattle.rules.specs.Lent.{Outcome}
+use Rattle.rules.specs.Lent.{Outcome, outcome}
 use Rattle.sill_rules.specs.Reach.{Reach, Call, State}
 use Rattle.sill_rules.specs.Step.{rubbed, face_at, next, carry}
 use Rattle.sill_rules.specs.Refusals.{bad_bed, off_pool, off, fast_friction, fast_face, too_long}

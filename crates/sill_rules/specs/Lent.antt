@@ -4,8 +4,7 @@ use Rattle.tables.specs.Pools.{pool_in, pool_table}
 use Rattle.rules.specs.Limits.{most_cells}
 use Rattle.rules.specs.Face.{face}
 use Rattle.rules.specs.Refusals.{any, Check, of_call}
-use Rattle.rules.specs.Outcome.{outcome}
-use Rattle.rules.specs.Lent.{Outcome}
+use Rattle.rules.specs.Lent.{Outcome, outcome}
 use Rattle.sill_rules.specs.Reach.{Reach, Call, State}
 use Rattle.sill_rules.specs.Step.{next, carry}
 use Rattle.sill_rules.specs.Refusals.{checks}

@@ -13,7 +13,7 @@ use Rattle.rules.specs.Ends.{outer}
 use Rattle.rules.specs.Friction.{cube_of, cube, drag, slowed}
 use Rattle.rules.specs.Shown.{cross_right, cross_at, volume}
 use Rattle.rules.specs.Refusals.{any, bad_rough, verdict, spot}
-use Rattle.rules.specs.Outcome.{refused, accepted, outcome}
+use Rattle.rules.specs.Lent.{outcome, refused, accepted}
 use Rattle.sill_rules.specs.Reach.{depth, pace, higher, crest_left, crest_right, over}
 use Rattle.sill_rules.specs.Step.{rubbed_pool, rubbed, push, update, stage, dried_pool, dried, next, carry}
 use Rattle.sill_rules.specs.Refusals.{bad_call, bad_bed, off_pool, off, fast_pool, fast_friction, fast_face, too_long, early, checks}

@@ -4,6 +4,7 @@ ghost use Rattle.std.specs.Prelude.{◌≡◌, List, ℕ, ◌*◌, get_or, lengt
 ghost use Rattle.tables.specs.Some.{lowest};
 ghost use Rattle.tables.specs.Cells.{as_cell, seen};
 ghost use Rattle.rules.specs.Refusals.{bad_end, bad_call, bad_bed, off_cell, fast_cell};
+ghost use Rattle.rules.specs.Lent.{misfit};
 ghost use Rattle.rules.specs.Reach.{bed_at};
 ghost use Rattle.reach.specs.Told.{end_in, reach_in, call_on, bed_in};
 ghost use Rattle.reach.specs.Ranges.{DryDepth, AllUnfinished};
@@ -13,10 +14,32 @@ use crate::cell::{depths, off_cell};
 use crate::sides::speed_of;
 use reach::bed::{Bed, bed_at, under};
 use reach::limits::{
-    FASTEST, HIGHEST_BED, INFLOW, LARGEST_INFLOW, LARGEST_JUMP, LONGEST_CELL, LONGEST_STEP,
+    CELLS, FASTEST, HIGHEST_BED, INFLOW, LARGEST_INFLOW, LARGEST_JUMP, LONGEST_CELL, LONGEST_STEP,
     bad_dry, outside, past,
 };
 use reach::{Call, Cell, End, Reach};
+
+// 1: do the tables not fit the n cells?
+pub fn bad_lengths(state: usize, next: usize, bed: usize, n: usize) -> bool
+    ensures { result ≡ misfit state next bed n }
+{
+    if n == 0 {
+        return true;
+    }
+    if CELLS < n {
+        return true;
+    }
+    if state != 4 * n {
+        return true;
+    }
+    if next != 4 * n {
+        return true;
+    }
+    if bed != n + 1 {
+        return true;
+    }
+    false
+}
 
 // Is the kind or the inflow of an end outside its list, or is there an inflow at an end of another kind?
 fn bad_end(end: End) -> bool

@@ -8,7 +8,7 @@ ghost use Rattle.stage.specs.Ranges.{InOrder, Room, FaceRoom, Ranged, FaceRows};
 ghost use Rattle.stage.specs.Says.{ready_checks, OneSays, TwoSays, BothSay};
 ghost use Rattle.stage.specs.Worked.{TablesSay, lent_by, WorkedSays};
 
-use crate::checks::{bad_bed, bad_numbers, fast, off};
+use crate::checks::{bad_bed, bad_lengths, bad_numbers, fast, off};
 use crate::ending::end;
 use crate::joining::{end_volume, join};
 use crate::lent::load;
@@ -18,7 +18,6 @@ use crate::stages::stage;
 use crate::store::store;
 use reach::found::Found;
 use reach::friction::bad_friction;
-use reach::lengths::bad_lengths;
 use reach::lent::widened;
 use reach::limits::{CELLS, FACES};
 use reach::{Call, Cell, Given, Reach};

@@ -2,7 +2,7 @@
 use Rattle.std.specs.Prelude.{List, ℕ, ℤ}
 use Rattle.rules.specs.Ends.{End}
 use Rattle.rules.specs.Lent.{Lent}
-pub use Rattle.reach.specs.Gives.{absent, both, telling, Gives, one_answer, one_table, volumes_code}
+pub use Rattle.reach.specs.Gives.{Volumes, absent, both, Gives, one_answer, one_table}
 unfoldable pub use Rattle.reach.specs.Gives.{code, placed, volumes, answer, leaves}
 
 -- an end, by its kind and its Q; and what is lent and given

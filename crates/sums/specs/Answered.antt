@@ -5,8 +5,7 @@ use Rattle.std.proofs.Math.Path.{refl, sym, ap, subst}
 use Rattle.std.proofs.Common.{◌∙◌, arith, eqb-true}
 use Rattle.std.proofs.lemmas.Bool.{eqb-false}
 use Rattle.whole.specs.Flags.{by}
-use Rattle.rules.specs.Outcome.{refused, accepted}
-use Rattle.rules.specs.Lent.{Lent, cells_of, number, filled, Outcome, step_of}
+use Rattle.rules.specs.Lent.{Lent, cells_of, number, filled, Outcome, refused, accepted, step_of}
 use Rattle.rules.specs.StateAndBed.{cells_over}
 use Rattle.rules.specs.Sums.{sums_of, misfit_sums, Making, unmade, made, Reading, answered, between_of, keeping_of, sums_after}
 use Rattle.rules.specs.Laws.Lengths.{accepts, refuses}

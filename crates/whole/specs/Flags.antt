@@ -1,7 +1,7 @@
 -- Truth values: what a test that holds, or fails, says; and choices by one.
 -- Assumes nothing.
 use Rattle.std.specs.Prelude.{◌≡◌, refl, Bool, true, false, not, cond, ◌||◌, ◌&&◌, T}
-use Rattle.std.proofs.Common.{sym, subst, ◌∙◌}
+use Rattle.std.proofs.Common.{sym, subst}
 
 -- ---- between `T b` and `b ≡ true`
 pub holds : (b : Bool) → T b → b ≡ true
@@ -33,10 +33,6 @@ or_r false b e = e
 pub not_f : (b : Bool) → not b ≡ false → b ≡ true
 not_f true e = refl
 not_f false e = clash (sym e)
-
-pub not_t : (b : Bool) → not b ≡ true → b ≡ false
-not_t true e = clash e
-not_t false e = refl
 
 pub and_l : (a b : Bool) → (a && b) ≡ true → a ≡ true
 and_l true b e = refl
@@ -81,13 +77,3 @@ cond_map f false x y = refl
 pub cond_same : {A : Type 0} (b : Bool) (x y z : A) → x ≡ z → y ≡ z → cond b x y ≡ z
 cond_same true x y z p q = p
 cond_same false x y z p q = q
-
--- ---- what a callee's answer says of what it stands for, after an `if` on it or on its opposite
-pub said : {r s b : Bool} → r ≡ s → r ≡ b → s ≡ b
-said e t = sym e ∙ t
-
-pub said_no : {r s : Bool} → r ≡ s → not r ≡ true → s ≡ false
-said_no {r} e t = sym e ∙ not_t r t
-
-pub said_yes : {r s : Bool} → r ≡ s → not r ≡ false → s ≡ true
-said_yes {r} e t = sym e ∙ not_f r t

@@ -4,10 +4,9 @@ use Prim.Native.Nat.{◌≤◌}
 use borrow.Author.Rules.{rules}
 use Rattle.whole.specs.Machine.{back}
 use Rattle.rules.specs.Limits.{most_cells}
-use Rattle.step.specs.Gives.{code, placed, volumes}
+use Rattle.step.specs.Gives.{placed}
 use Rattle.reach.specs.declared.answer.Answer.{Answer}
-use Rattle.reach.specs.declared.answer.Answer.TheVariants.{Refused, Accepted}
-use Rattle.editor.specs.Told.{volumes_into, answer_told}
+use Rattle.editor.specs.Told.{refused_told, accepted_told}
 use Rattle.editor.proofs.tell.Statement.{statement}
 use Rattle.editor.proofs.tell.Tie as tie
 
@@ -17,16 +16,14 @@ cast-place c = let told = c.before.a.given in
     search (rules, subst (λ (x : Answer). placed x ≤ most_cells) told.1 c.before.before.before.requires)
 
 returns : tie.Need-returns
-unfolding code placed volumes volumes_into
 returns c = let told = c.before.a.given in let p = c.before.before.before.args in
-    answer_told (Refused told.0.0 told.0.1.0) p.volumes.now p.place.now (sym told.1)
+    refused_told told.0.0 told.0.1.0 p.volumes.now p.place.now (sym told.1)
 
 returns-2 : tie.Need-returns-2
-unfolding code placed volumes volumes_into
 returns-2 c =
     let told = c.before.a2.given in let t = c.known-told2.given in let p = c.before.before.before.args in
     rw (back {z = told.0.0} t.0.1, back {z = told.0.1.0} t.1.0.1)
-    (answer_told (Accepted told.0.0 told.0.1.0) p.volumes.now p.place.now (sym told.1))
+    (accepted_told told.0.0 told.0.1.0 p.volumes.now p.place.now (sym told.1))
 
 pub tell-spec : {M : Type 1} → statement M
 tell-spec =

@@ -8,8 +8,7 @@ use Rattle.std.proofs.lemmas.Bool.{not_false}
 use Rattle.whole.specs.Flags.{by, or_l, or_r}
 use Rattle.tables.specs.Some.{some}
 use Rattle.rules.specs.Refusals.{verdict}
-use Rattle.rules.specs.Outcome.{refused}
-use Rattle.rules.specs.Lent.{Lent, cells_of, step_of}
+use Rattle.rules.specs.Lent.{Lent, cells_of, refused, step_of}
 use Rattle.rules.specs.StateAndBed.{cells_over, misfit_state, state_refusal}
 use Rattle.rules.specs.Sums.{blocks_of, misfit_sums, sums_of, making_checks, making_refusal, unmade, made, making_of}
 use Rattle.rules.specs.Sums.{Reading, reading, question_checks, question_refusal, Question, unanswered, answered, between_of, keeping_of}

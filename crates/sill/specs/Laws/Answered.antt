@@ -2,15 +2,15 @@
 -- Assumes nothing.
 use Rattle.std.specs.Prelude.{◌≡◌, Bool, false, List, ◌∷◌, ℕ, length, ℤ, pos}
 use Rattle.std.proofs.Math.Path.{sym}
-use Rattle.std.proofs.Common.{◌∙◌, subst, arith}
+use Rattle.std.proofs.Common.{◌∙◌, ap, subst, arith}
 use Rattle.std.proofs.Math.Bool.{true}
 use Rattle.tables.specs.Some.{some, lowest}
 use Rattle.rules.specs.Refusals.{Check, of_call, verdict, spot}
-use Rattle.rules.specs.Found.{at, found}
-use Rattle.rules.specs.Lent.{Outcome}
+use Rattle.rules.specs.Found.{Found, at, found}
+use Rattle.rules.specs.Lent.{Outcome, refused}
 use Rattle.rules.specs.Laws.Verdicts.{of_call_lem}
-use Rattle.rules.specs.Laws.Outcome.{without_first, refused_gives}
-use Rattle.reach.specs.Gives.{answer, telling, Gives}
+use Rattle.rules.specs.Laws.Outcome.{refuses, without_first}
+use Rattle.reach.specs.Gives.{answer, leaves, Gives}
 use Rattle.reach.specs.declared.answer.Answer.{Answer}
 use Rattle.reach.specs.declared.answer.Answer.TheVariants.{Refused}
 use Rattle.sill_rules.specs.Refusals.{bad_call, off, early, checks}
@@ -43,8 +43,11 @@ module _ (state : List ℤ) (room : ℕ) (bed : List ℤ) (friction : List ℕ) 
 
   -- a number with the place 0, where the checks found that
   refusal : (k : ℕ) → at k 0 ≡ found (all_checks lent) → (k ≡ 0 → ⊥) → (old : List ℤ) → Gives (step_of lent) (Refused k 0) old old
-  unfolding step_of answer
-  refusal k e f old = refused_gives telling _ _ _ (all_checks lent) old (at k 0) e f
+  unfolding step_of answer leaves
+  refusal k e f old =
+      let is : step_of lent ≡ refused k 0 =
+      refuses _ _ _ (all_checks lent) (λ d. f (ap (λ (x : Found). x.no) e ∙ d)) ∙ (λ j. refused (sym e j).no (sym e j).place) in
+      record { says = sym (ap answer is); table = sym (ap (λ (o : Outcome). leaves o old) is) }
 
   pub length_refused : misfit (length state) room (length bed) n ≡ true → (old : List ℤ) → Gives (step_of lent) (Refused 1 0) old old
   length_refused e = refusal 1 (first_found lent e) (λ d. let z : ⊥ = omega (arith, d) in z)

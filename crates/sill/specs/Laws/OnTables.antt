@@ -1,15 +1,16 @@
 -- The step on tables: the lent tables are checked, and the stage follows. What the call gives, by what they found.
 -- Assumes nothing.
 use Rattle.std.specs.Prelude.{◌≡◌, List, [], ◌++◌, ℕ, ◌<◌, get_or, ℤ, pos}
-use Rattle.std.proofs.Common.{sym, ◌∙◌, arith}
-use Rattle.std.proofs.Math.Path.{ap}
+use Rattle.std.proofs.Math.Path.{sym, ap}
+use Rattle.std.proofs.Common.{◌∙◌, arith}
 use Rattle.tables.specs.Pools.{as_pool, pools_seen, pool_in, pool_table, length_pools, pool_in_table, pools_are}
+use Rattle.rules.specs.Shown.{volume}
 use Rattle.rules.specs.Refusals.{Check}
 use Rattle.rules.specs.Found.{Found, found}
-use Rattle.rules.specs.Lent.{Outcome}
+use Rattle.rules.specs.Lent.{Outcome, refused}
 use Rattle.rules.specs.Laws.Verdicts.{stopped, went_on}
-use Rattle.rules.specs.Laws.Outcome.{refused_gives, accepted_gives}
-use Rattle.reach.specs.Gives.{answer, telling, Gives}
+use Rattle.rules.specs.Laws.Outcome.{accepts, refuses}
+use Rattle.reach.specs.Gives.{answer, leaves, Gives}
 use Rattle.reach.specs.declared.answer.Answer.TheVariants.{Refused, Accepted}
 use Rattle.sill_rules.specs.Reach as rules
 use Rattle.sill_rules.specs.Reach.{State}
@@ -43,8 +44,11 @@ module _ (call : Call) (bed : List ℤ) (friction : List ℕ) (state : List ℤ)
 
   -- a number and a place
   refusal : (k : Found) → k ≡ found checks → (k.no ≡ 0 → ⊥) → (old : List ℤ) → Gives gives (Refused k.no k.place) old old
-  unfolding answer
-  refusal k e f old = refused_gives telling _ _ _ checks old k e f
+  unfolding answer leaves
+  refusal k e f old =
+      let is : gives ≡ refused k.no k.place =
+      refuses _ _ _ checks (λ d. f (ap (λ (m : Found). m.no) e ∙ d)) ∙ (λ j. refused (sym e j).no (sym e j).place) in
+      record { says = sym (ap answer is); table = sym (ap (λ (o : Outcome). leaves o old) is) }
 
   -- ---- the checks of the tables have found k
   module _ {k : Found} (lent : k ≡ found ready) where
@@ -69,9 +73,12 @@ module _ (call : Call) (bed : List ℤ) (friction : List ℕ) (state : List ℤ)
 
         pub stage_done : (old : List ℤ) {new : List ℤ} {w v : ℤ} → new ≡ pool_table n (pools_seen a) → w ≡ volume_of (get_or f 0 [])
             → v ≡ volume_of (get_or f n []) → Gives gives (Accepted w v) old new
-        unfolding answer carry
+        unfolding answer leaves carry
         stage_done old e p q =
+            let is = accepts _ _ _ checks (ap (λ (x : Found). x.no) (sym found_both) ∙ y) in
             let face = (worked.done y).faces in
             let left = p ∙ ap volume_of (face 0 (omega arith)) in let right = q ∙ ap volume_of (face n (omega arith)) in
-            accepted_gives telling _ _ _ checks old (ap (λ (x : Found). x.no) (sym found_both) ∙ y)
-            (λ j. Accepted (left j) (right j)) (e ∙ stored)
+            record {
+              says = (λ j. Accepted (left j) (right j)) ∙ sym (ap answer is);
+              table = e ∙ stored ∙ sym (ap (λ (o : Outcome). leaves o old) is);
+            }
