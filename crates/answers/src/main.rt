@@ -4,6 +4,7 @@
 // that reads it, and an inflow at either end. A line gives the number and the place or the volumes, and what
 // `next` holds after the call: -77 where it is as it was. The cases are in the file stdin, which says how to read
 // them. What it must write comes from tests/reference/answers.py.
+#![tactic(auto)]
 mod read;
 mod show;
 

@@ -1,5 +1,6 @@
 // A square root in whole numbers, worked digit by digit: the one search behind the wave speed of a
 // depth and the root of a double. The public function answers every call: beyond its limits it refuses.
+#![tactic(auto)]
 ghost use Rattle.std.specs.Prelude.{◌*◌, ◌/◌, ◌^◌, ◌≤◌, ◌<◌};
 ghost use Rattle.digits.specs.Root.{RootOf, DigitsSay};
 ghost use Rattle.digits.specs.Turns.{Small, Turned};
@@ -17,7 +18,7 @@ const FIRST: u64 = 1 << 61;
 // there are places from the first down.
 const MOST_NOUGHTS: u64 = 30;
 
-#[derive(Drop)]
+#[derive(Clone, Copy)]
 pub enum Rooted {
     // the largest number whose square is at most the one with its noughts, and what is left beside that square
     Is(u64, u64),
@@ -27,7 +28,7 @@ pub enum Rooted {
 
 // Between two turns: the place of the next digit, twice the root so far, and what is left of the number
 // beside its square. No pairs are brought down: where the place halves, what is left doubles.
-#[derive(Drop)]
+#[derive(Clone, Copy)]
 struct SoFar {
     bit: u64,
     twice: u64,
@@ -35,7 +36,7 @@ struct SoFar {
 }
 
 // A whole root, and what is left beside its square.
-#[derive(Drop)]
+#[derive(Clone, Copy)]
 struct Root {
     whole: u64,
     rest: u64,

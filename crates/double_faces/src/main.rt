@@ -2,12 +2,13 @@
 // slow, fast, at the limits and beyond them. A line gives how many faces of a block had a flux, were
 // dry and were refused, and the running sum of the answers. What it must write comes from
 // tests/reference/double_faces.py.
+#![tactic(auto)]
 use double::face::DoubleAnswer;
 use libc::STDOUT_FILENO;
 use std::num::wrapping_add_u64;
 
 // What a block has come to.
-#[derive(Drop)]
+#[derive(Clone, Copy)]
 struct Tally {
     fluxes: u64,
     dry: u64,

@@ -1,5 +1,6 @@
 // The library for callers in C: numbers, tables as pointer and length, and a number for an answer.
 // include/bassoonsun.h declares these functions.
+#![tactic(auto)]
 ghost use Rattle.std.specs.Prelude.{◌≡◌, ◌≤◌, length};
 ghost use Rattle.rules.specs.Limits.{most_cells};
 ghost use Rattle.rules.specs.Lent.{step_of};

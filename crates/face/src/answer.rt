@@ -1,5 +1,5 @@
 // What crosses a face.
-#[derive(Drop)]
+#[derive(Clone, Copy)]
 pub enum Carried {
     // mass F, pressure K, advection A and the top speed S
     Flux(i64, i64, i64, i64),

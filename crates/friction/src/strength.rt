@@ -12,7 +12,7 @@ use speeds::answer::Whole;
 
 // Where friction acts: over a time step, on a bed of a Manning value in 1/1000, and in water of a depth
 // and a speed. The four are of one type, so a caller gives each by its name.
-#[derive(Drop)]
+#[derive(Clone, Copy)]
 pub struct Rubbing {
     pub dt: i64,
     pub rough: i64,

@@ -1,5 +1,5 @@
 // What a step answers, over a sloping bed or a stepped one.
-#[derive(Drop)]
+#[derive(Clone, Copy)]
 pub enum Answer {
     // the number of the first check that applies, and the lowest bed value, cell or face to which it does
     // (0 for a 1 and a 2); `next` is as it was

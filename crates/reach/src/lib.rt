@@ -1,6 +1,7 @@
 // What a reach is to the code: its limits, the cells of its working tables, and the numbers that
 // travel together. The rules' records of the same names hold the bed and the friction too, which are
 // lent tables here.
+#![tactic(auto)]
 pub mod answer;
 pub mod bed;
 pub mod found;
@@ -14,7 +15,7 @@ pub mod size;
 pub type Cell = [i64; 4];
 
 // What stays from step to step: n cells of length dx.
-#[derive(Drop)]
+#[derive(Clone, Copy)]
 pub struct Reach {
     pub n: usize,
     pub dx: i64,
@@ -22,14 +23,14 @@ pub struct Reach {
 
 // An end: its kind, 0 a wall, 1 open, 2 an inflow; and the discharge that an inflow brings into the
 // reach, 0 at an end of another kind.
-#[derive(Drop)]
+#[derive(Clone, Copy)]
 pub struct End {
     pub kind: u32,
     pub q: u32,
 }
 
 // What may differ: the time step, the jump, the dry depth, and the two ends.
-#[derive(Drop)]
+#[derive(Clone, Copy)]
 pub struct Call {
     pub dt: i64,
     pub jump: i64,
@@ -39,7 +40,7 @@ pub struct Call {
 }
 
 // The numbers of a call as its caller gives them, each still to be held against its list.
-#[derive(Drop)]
+#[derive(Clone, Copy)]
 pub struct Given {
     pub dx: u32,
     pub dt: u32,

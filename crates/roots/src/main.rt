@@ -1,6 +1,7 @@
 // The root over 128 blocks of 1,000 doubles, or of 1,000 squares with their neighbours, and at the
 // edges of its range. A line gives the running sum of a block's answers, so that a difference is
 // found within that block. What it must write comes from tests/reference/roots.py.
+#![tactic(auto)]
 use libc::STDOUT_FILENO;
 use root::RootAnswer;
 use std::num::{wrapping_add_u64, wrapping_sub_u64};

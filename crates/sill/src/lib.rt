@@ -1,6 +1,7 @@
 // One step of a reach over a stepped bed, of the first order: a bed value a cell, a level and a discharge,
 // and no slopes. It checks all that it is lent, and `next` is written only when nothing can stop the step
 // any more.
+#![tactic(auto)]
 mod checks;
 mod crests;
 mod faces;
@@ -25,7 +26,7 @@ use reach::lent::widened;
 
 // The numbers of a call as its caller gives them, each still to be held against its list. The kinds of the
 // two ends are 0 a wall and 1 open.
-#[derive(Drop)]
+#[derive(Clone, Copy)]
 pub struct Given {
     pub dx: u32,
     pub dt: u32,

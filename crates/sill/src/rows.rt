@@ -13,14 +13,14 @@ pub type Row = [i64; 5];
 pub type FaceRow = [i64; 3];
 
 // One side of a face: its depth and its speed.
-#[derive(Drop)]
+#[derive(Clone, Copy)]
 pub struct Side {
     pub h: i64,
     pub u: i64,
 }
 
 // What crosses a face: mass F, pressure K, advection A, and the top speed S.
-#[derive(Drop)]
+#[derive(Clone, Copy)]
 pub struct Flux {
     pub f: i64,
     pub k: i64,
@@ -30,7 +30,7 @@ pub struct Flux {
 
 // The numbers of a call: the length of a cell, the time step, the dry depth, how many cells there are, and
 // the kinds of the two ends.
-#[derive(Drop)]
+#[derive(Clone, Copy)]
 pub struct Call {
     pub dx: i64,
     pub dt: i64,

@@ -3,7 +3,7 @@ use crate::draw::{above, drawn, either, turned};
 use std::num::{wrapping_add_u64, wrapping_sub_u64};
 
 // Bed, level and discharge, as 64 bits each.
-#[derive(Drop)]
+#[derive(Clone, Copy)]
 pub struct Cell {
     pub z: u64,
     pub e: u64,

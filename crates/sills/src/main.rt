@@ -4,6 +4,7 @@
 // steps were accepted; the water before them, what came in at the left, what went out at the right, and the water then;
 // the refusal and its place, or that every number is as it was; and the running sum of the answers and of all that
 // `next` held after each call. What it must write comes from tests/reference/sills.py.
+#![tactic(auto)]
 mod draw;
 mod kinds;
 
@@ -17,7 +18,7 @@ use std::num::{wrapping_add_u64, wrapping_add_usize, wrapping_sub_u64, wrapping_
 
 // What came of the steps of a reach: how many were accepted, what came in and went out, the refusal and its place, and
 // the running sum.
-#[derive(Drop)]
+#[derive(Clone, Copy)]
 struct Tally {
     made: u64,
     came: u64,

@@ -1,5 +1,5 @@
 // What the functions of this crate answer. A refusal carries no number.
-#[derive(Drop)]
+#[derive(Clone, Copy)]
 pub enum Whole {
     Is(i64),
     // an argument is beyond the limits

@@ -2,6 +2,7 @@
 // points, the fluxes, the updates and finishing. The two public functions, `worked::work` and
 // `state_and_bed::refusal`, check all that they are lent and answer every call; what they call stands in
 // modules that are not public.
+#![tactic(auto)]
 mod cell;
 mod checks;
 mod ending;

@@ -9,14 +9,14 @@ pub type Sides = [i64; 4];
 pub type FaceRow = [i64; 4];
 
 // One side of a face: its depth and its speed.
-#[derive(Drop)]
+#[derive(Clone, Copy)]
 pub struct Side {
     pub h: i64,
     pub u: i64,
 }
 
 // What crosses a face: mass F, pressure K, advection A, and the top speed S.
-#[derive(Drop)]
+#[derive(Clone, Copy)]
 pub struct Flux {
     pub f: i64,
     pub k: i64,

@@ -28,7 +28,7 @@ const SHORT_CELLS: usize = 128;
 
 const SHORT_FACES: usize = SHORT_CELLS + 1;
 
-#[derive(Drop)]
+#[derive(Clone, Copy)]
 pub enum Worked {
     // the number of the first check that applies, and the lowest place to which it does
     Refused(u32, usize),

@@ -4,6 +4,7 @@
 // gives how many calls of a block were accepted, how many were refused with each number from 1 to 8,
 // and the running sum of the numbers and places, the volumes and all that `next` held after each call. What it
 // must write comes from tests/reference/steps.py.
+#![tactic(auto)]
 mod draw;
 mod ends;
 mod fill;
@@ -22,7 +23,7 @@ use step::{Answer, Given};
 // Where a block has come to: what the last call was drawn from, its answer, 0 for accepted, and the
 // running sum; and the reach, which is tried again with another dt while tries are left: `low` was
 // accepted and `high` was not.
-#[derive(Drop)]
+#[derive(Clone, Copy)]
 struct Turn {
     x: u64,
     number: u64,

@@ -1,5 +1,6 @@
 // The water between two faces of a reach. Beside a state stands a table of sums, one for each block of
 // sixteen cells; so a question reads few numbers, however far apart its faces are.
+#![tactic(auto)]
 mod adding;
 mod blocks;
 mod filling;
@@ -20,7 +21,7 @@ use reach::lengths::{bad_state, cells_over};
 use stage::state_and_bed::refusal;
 use step::{Answer, Given};
 
-#[derive(Drop)]
+#[derive(Clone, Copy)]
 pub enum Made {
     // the number of the first check that applies; the sums are as they were
     Refused(u32),
@@ -28,7 +29,7 @@ pub enum Made {
     Done,
 }
 
-#[derive(Drop)]
+#[derive(Clone, Copy)]
 pub enum Amount {
     // the number of the first check that applies
     Refused(u32),

@@ -10,7 +10,7 @@ use reach::limits::BLOCK_CELLS;
 
 // The cells up to `head`, the blocks from `first` up to `last`, and the cells from `tail` on. Where no
 // block lies whole all cells are before it.
-#[derive(Drop)]
+#[derive(Clone, Copy)]
 pub struct Split {
     pub head: usize,
     pub first: usize,

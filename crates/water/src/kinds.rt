@@ -3,7 +3,7 @@ use crate::draw::{above, either, following, pick};
 use std::num::{wrapping_add_u64, wrapping_sub_u64};
 
 // Level and discharge, means and slopes, as 64 bits each.
-#[derive(Drop)]
+#[derive(Clone, Copy)]
 pub struct Cell {
     pub e0: u64,
     pub e1: u64,

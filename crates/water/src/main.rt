@@ -3,6 +3,7 @@
 // made; the water between four pairs of faces, by how many cells and blocks, or the refusal; what a step that keeps the
 // sums answered; the water between the same faces of what `next` then holds; and the running sum of all that the calls
 // may write, after each and beyond what was lent. What it must write comes from tests/reference/water.py.
+#![tactic(auto)]
 mod draw;
 mod fill;
 mod kinds;

@@ -1,5 +1,6 @@
 // Works 20,000 faces of ten kinds in 100 blocks of 200 and writes a sum over the answers after each
 // block: an independent model of the rules writes the same lines (tests/reference/whole_faces.py).
+#![tactic(auto)]
 ghost use Rattle.std.specs.Prelude.{◌<◌, ◌≤◌};
 ghost use Rattle.whole.specs.Parts.{Within};
 
