@@ -2,9 +2,9 @@
 // edges of its range. A line gives the running sum of a block's answers, so that a difference is
 // found within that block. What it must write comes from tests/reference/roots.py.
 #![tactic(auto)]
-use libc::STDOUT_FILENO;
+
 use root::RootAnswer;
-use std::num::{wrapping_add_u64, wrapping_sub_u64};
+use std::io;
 
 const TOP: u64 = 0x7ff0_0000_0000_0000; // the bits of an infinity
 
@@ -73,8 +73,8 @@ fn square(x: u64) -> f64 {
 // The roots of a square and of the doubles just below and just above it.
 fn around(x: u64) -> u64 {
     let b = bits(square(x));
-    let below = answer(wrapping_sub_u64(b, 1));
-    let above = answer(wrapping_add_u64(b, 1));
+    let below = answer(b.wrapping_sub(1));
+    let above = answer(b.wrapping_add(1));
     mix(mix(below, answer(b)), above)
 }
 
@@ -101,61 +101,57 @@ fn sum(block: u64) -> u64 {
     sum
 }
 
-fn name(block: u64) {
+fn name(block: u64) -> &'static str {
     if block < 64 {
-        io::write_all(STDOUT_FILENO, b"exponents ");
+        "exponents"
     } else if block < 116 {
-        io::write_all(STDOUT_FILENO, b"subnormals ");
+        "subnormals"
     } else if block < 126 {
-        io::write_all(STDOUT_FILENO, b"squares ");
+        "squares"
     } else {
-        io::write_all(STDOUT_FILENO, b"negatives ");
+        "negatives"
     }
 }
 
-fn line(block: u64) {
-    name(block);
-    io::print_decimal(STDOUT_FILENO, block);
-    io::write_all(STDOUT_FILENO, b" ");
-    io::print_hex(STDOUT_FILENO, sum(block), 16);
-    io::write_all(STDOUT_FILENO, b"\n");
+fn line(rt: &impl Print, block: u64) -> io::Result<()> {
+    let kind = name(block);
+    let sum = sum(block);
+    println!(rt; "{kind} {block} {sum:016x}")
 }
 
-fn edge(b: u64) {
-    io::write_all(STDOUT_FILENO, b"root of ");
-    io::print_hex(STDOUT_FILENO, b, 16);
-    io::write_all(STDOUT_FILENO, b" ");
-    io::print_hex(STDOUT_FILENO, answer(b), 16);
-    io::write_all(STDOUT_FILENO, b"\n");
+fn edge(rt: &impl Print, b: u64) -> io::Result<()> {
+    let root = answer(b);
+    println!(rt; "root of {b:016x} {root:016x}")
 }
 
-fn blocks() {
+fn blocks(rt: &impl Print) -> io::Result<()> {
     for block in 0..128 {
-        line(block);
+        line(rt, block)?;
     }
+    Ok(())
 }
 
-fn edges() {
+fn edges(rt: &impl Print) -> io::Result<()> {
     // the two noughts, the smallest subnormal, the largest one, the smallest normal
-    edge(0);
-    edge(SIGN);
-    edge(1);
-    edge(FRACTION);
-    edge(FRACTION + 1);
+    edge(rt, 0)?;
+    edge(rt, SIGN)?;
+    edge(rt, 1)?;
+    edge(rt, FRACTION)?;
+    edge(rt, FRACTION + 1)?;
     // 1, 2, the largest finite
-    edge(0x3ff0_0000_0000_0000);
-    edge(0x4000_0000_0000_0000);
-    edge(TOP - 1);
+    edge(rt, 0x3ff0_0000_0000_0000)?;
+    edge(rt, 0x4000_0000_0000_0000)?;
+    edge(rt, TOP - 1)?;
     // the two infinities, two NaNs, -1, the largest below nought
-    edge(TOP);
-    edge(TOP | SIGN);
-    edge(TOP + 1);
-    edge(0xffff_ffff_ffff_ffff);
-    edge(0xbff0_0000_0000_0000);
-    edge(SIGN + 1);
+    edge(rt, TOP)?;
+    edge(rt, TOP | SIGN)?;
+    edge(rt, TOP + 1)?;
+    edge(rt, 0xffff_ffff_ffff_ffff)?;
+    edge(rt, 0xbff0_0000_0000_0000)?;
+    edge(rt, SIGN + 1)
 }
 
-fn main() {
-    blocks();
-    edges();
+fn main(rt: HostRuntime) -> io::Result<()> {
+    blocks(&rt)?;
+    edges(&rt)
 }
