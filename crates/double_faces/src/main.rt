@@ -3,9 +3,9 @@
 // dry and were refused, and the running sum of the answers. What it must write comes from
 // tests/reference/double_faces.py.
 #![tactic(auto)]
+
 use double::face::DoubleAnswer;
-use libc::STDOUT_FILENO;
-use std::num::wrapping_add_u64;
+use std::io;
 
 // What a block has come to.
 #[derive(Clone, Copy)]
@@ -75,7 +75,7 @@ fn told(t: Tally, hl: f64, ul: f64, hr: f64, ur: f64) -> Tally {
     let answer = double::face::face(hl, ul, hr, ur);
     match answer {
         DoubleAnswer::Flux(mass, pressure, advection, top) => Tally {
-            fluxes: wrapping_add_u64(t.fluxes, 1),
+            fluxes: t.fluxes.wrapping_add(1),
             dry: t.dry,
             refused: t.refused,
             sum: mix(
@@ -85,14 +85,14 @@ fn told(t: Tally, hl: f64, ul: f64, hr: f64, ur: f64) -> Tally {
         },
         DoubleAnswer::Dry => Tally {
             fluxes: t.fluxes,
-            dry: wrapping_add_u64(t.dry, 1),
+            dry: t.dry.wrapping_add(1),
             refused: t.refused,
             sum: mix(t.sum, 1),
         },
         DoubleAnswer::Refused => Tally {
             fluxes: t.fluxes,
             dry: t.dry,
-            refused: wrapping_add_u64(t.refused, 1),
+            refused: t.refused.wrapping_add(1),
             sum: mix(t.sum, 3),
         },
     }
@@ -116,25 +116,24 @@ fn run(block: u64) -> Tally {
     t
 }
 
-fn show_count(n: u64) {
-    io::write_all(STDOUT_FILENO, b" ");
-    io::print_decimal(STDOUT_FILENO, n);
+fn show_count(rt: &impl Print, n: u64) -> io::Result<()> {
+    print!(rt; " {n}")
 }
 
-fn line(block: u64) {
+fn line(rt: &impl Print, block: u64) -> io::Result<()> {
     let t = run(block);
-    io::write_all(STDOUT_FILENO, b"faces");
-    show_count(block);
-    show_count(t.fluxes);
-    show_count(t.dry);
-    show_count(t.refused);
-    io::write_all(STDOUT_FILENO, b" ");
-    io::print_hex(STDOUT_FILENO, t.sum, 16);
-    io::write_all(STDOUT_FILENO, b"\n");
+    print!(rt; "faces")?;
+    show_count(rt, block)?;
+    show_count(rt, t.fluxes)?;
+    show_count(rt, t.dry)?;
+    show_count(rt, t.refused)?;
+    let sum = t.sum;
+    println!(rt; " {sum:016x}")
 }
 
-fn main() {
+fn main(rt: HostRuntime) -> io::Result<()> {
     for block in 0..20 {
-        line(block);
+        line(&rt, block)?;
     }
+    Ok(())
 }
