@@ -1,13 +1,13 @@
 // Works 20,000 faces of ten kinds in 100 blocks of 200 and writes a sum over the answers after each
 // block: an independent model of the rules writes the same lines (tests/reference/whole_faces.py).
 #![tactic(auto)]
+
 ghost use Rattle.std.specs.Prelude.{◌<◌, ◌≤◌};
 ghost use Rattle.whole.specs.Parts.{Within};
 
 use face::answer::Carried;
-use libc::STDOUT_FILENO;
 use reach::size::magnitude;
-use std::num::wrapping_sub_u64;
+use std::io;
 
 // The next number drawn, by shifts and exclusive ors.
 fn drawn(x: u64) -> u64 {
@@ -73,7 +73,7 @@ fn against(right: bool, x: u64) -> i64 {
 // The bits of v in two's complement.
 fn bits(v: i64) -> u64 {
     let m = magnitude(v);
-    if v < 0 { wrapping_sub_u64(0, m) } else { m }
+    if v < 0 { 0u64.wrapping_sub(m) } else { m }
 }
 
 fn mixed(h: u64, v: u64) -> u64 {
@@ -91,12 +91,11 @@ fn after(h: u64, answer: Carried) -> u64 {
     }
 }
 
-fn main() {
+fn main(rt: HostRuntime) -> io::Result<()> {
     let mut x = 88172645463325252u64;
     let mut h = 0u64;
     let mut c = 0u64;
-    let mut i = 0u64;
-    while i < 20000 {
+    for i in 0u64..20000 {
         let x1 = drawn(x);
         let x2 = drawn(x1);
         let x3 = drawn(x2);
@@ -109,10 +108,9 @@ fn main() {
         );
         h = after(h, answer);
         c = (c + 1) % 10;
-        i += 1;
-        if i % 200 == 0 {
-            io::print_decimal(STDOUT_FILENO, h);
-            io::write_all(STDOUT_FILENO, b"\n");
+        if i % 200 == 199 {
+            println!(rt; "{h}")?;
         }
     }
+    Ok(())
 }
