@@ -2,7 +2,6 @@
 //
 // A number with a sign is kept as its 64 bits, so that its sums wrap and none of them can fail.
 use reach::size::magnitude;
-use std::num::{wrapping_add_u64, wrapping_sub_u64};
 
 fn following(x: u64) -> u64 {
     let a = x ^ (x << 13);
@@ -19,12 +18,12 @@ pub fn drawn(r: u64, column: u64, i: u64) -> u64 {
 
 // From `low` on, and at most m more.
 pub fn above(x: u64, low: u64, m: u64) -> u64 {
-    wrapping_add_u64(low, (x >> 16) % (m % 0x8000_0000 + 1))
+    low.wrapping_add((x >> 16) % (m % 0x8000_0000 + 1))
 }
 
 // From -m to m.
 pub fn either(x: u64, m: u64) -> u64 {
-    above(x, wrapping_sub_u64(0, m), wrapping_add_u64(m, m))
+    above(x, 0u64.wrapping_sub(m), m.wrapping_add(m))
 }
 
 // x where `side` is even, else -x.
@@ -32,7 +31,7 @@ pub fn turned(x: u64, side: u64) -> u64 {
     if side % 2 == 0 {
         x
     } else {
-        wrapping_sub_u64(0, x)
+        0u64.wrapping_sub(x)
     }
 }
 
@@ -41,7 +40,7 @@ pub fn narrow(x: u64) -> i32 {
     if x < 0x8000_0000 {
         return x as i32;
     }
-    let size = wrapping_sub_u64(0, x);
+    let size = 0u64.wrapping_sub(x);
     if size < 0x8000_0000 {
         return -(size as i32);
     }
@@ -54,7 +53,7 @@ pub fn wide(x: i32) -> i64 {
 
 pub fn bits(x: i64) -> u64 {
     let m = magnitude(x);
-    if x < 0 { wrapping_sub_u64(0, m) } else { m }
+    if x < 0 { 0u64.wrapping_sub(m) } else { m }
 }
 
 // The running sum with one more number.

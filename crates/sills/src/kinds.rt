@@ -1,6 +1,5 @@
 // What a reach is drawn from: its number r, from which its length, its kind, its faults and each cell follow.
 use crate::draw::{above, drawn, either, turned};
-use std::num::{wrapping_add_u64, wrapping_sub_u64};
 
 // Bed, level and discharge, as 64 bits each.
 #[derive(Clone, Copy)]
@@ -13,7 +12,7 @@ pub struct Cell {
 fn over(z: u64, h: u64, q: u64) -> Cell {
     Cell {
         z: z,
-        e: wrapping_add_u64(z, h),
+        e: z.wrapping_add(h),
         q: q,
     }
 }
@@ -50,7 +49,7 @@ pub fn has(r: u64, k: u64) -> bool {
 // Is cell i at fault? The first is, the last or any, and in a third of the reaches the last besides, so that the lowest
 // has to be told.
 fn at_fault(r: u64, i: u64) -> bool {
-    let last = wrapping_sub_u64(cells(r) as u64, 1);
+    let last = (cells(r) as u64).wrapping_sub(1);
     let x = drawn(r, 2, 0);
     i == [0, last, above(x, 0, last)][(x % 3) as usize] || (r % 3 == 0 && i == last)
 }
@@ -106,7 +105,7 @@ fn depth(level: u64, z: u64) -> u64 {
     if level < z {
         return 0;
     }
-    wrapping_sub_u64(level, z)
+    level.wrapping_sub(z)
 }
 
 // About one level over a floor with sills: low ones, ones that come out of the water, water about as shallow as the dry
@@ -116,7 +115,7 @@ fn sills(r: u64, i: u64) -> Cell {
     let floor = above(drawn(r, 7, 5000), 0, 900000);
     let x = drawn(r, 7, i);
     let z = above(x, floor, [900u64, 6000, 90, 90000][k] >> (x % 4 * 6));
-    let deep = wrapping_add_u64(floor, [3000u64, 3000, 10, 0][k]);
+    let deep = floor.wrapping_add([3000u64, 3000, 10, 0][k]);
     let h = depth(above(drawn(r, 8, i), deep, [400u64, 400, 80, 9000][k]), z);
     if has(r, 8) && i % 3 == 1 {
         // water without a speed that any push makes too much, if it is not dried
@@ -158,11 +157,11 @@ fn sound(r: u64, i: u64) -> Cell {
 // A depth or a discharge just out of range, or as wide as an i32.
 fn beyond(z: u64, x: u64) -> Cell {
     match x % 6 {
-        0 => over(z, wrapping_sub_u64(0, 1), 0),
+        0 => over(z, 0u64.wrapping_sub(1), 0),
         1 => over(z, 262145, 0),
         2..=3 => over(z, 262144, turned(8388609, x)),
         4 => over(z, 0, 0x7fff_ffff),
-        _ => over(z, wrapping_sub_u64(0xffff_ffff_8000_0000, z), 0),
+        _ => over(z, 0xffff_ffff_8000_0000u64.wrapping_sub(z), 0),
     }
 }
 
@@ -175,13 +174,13 @@ pub fn drawn_cell(r: u64, i: u64) -> Cell {
     let x = drawn(r, 10, 0);
     if has(r, 6) {
         let h = above(x, 65, 3000);
-        c = over(c.z, h, turned(wrapping_add_u64(h << 5, 1), x));
+        c = over(c.z, h, turned((h << 5).wrapping_add(1), x));
     }
     if has(r, 5) {
         c = beyond(c.z, x);
     }
     if has(r, 3) {
-        let low = wrapping_sub_u64(0, 1);
+        let low = 0u64.wrapping_sub(1);
         c.z = [low, 1048577, 0x7fff_ffff, 0xffff_ffff_8000_0000][(x % 4) as usize];
     }
     c

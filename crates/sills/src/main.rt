@@ -5,6 +5,7 @@
 // the refusal and its place, or that every number is as it was; and the running sum of the answers and of all that
 // `next` held after each call. What it must write comes from tests/reference/sills.py.
 #![tactic(auto)]
+
 mod draw;
 mod kinds;
 
@@ -12,9 +13,8 @@ ghost use Rattle.std.specs.Prelude.{◌≤◌};
 
 use draw::{bits, drawn, mixed, narrow, wide};
 use kinds::{cells, drawn_cell, dry, dt, dx, has, roughness, times};
-use libc::STDOUT_FILENO;
 use sill::{Answer, Given};
-use std::num::{wrapping_add_u64, wrapping_add_usize, wrapping_sub_u64, wrapping_sub_usize};
+use std::io;
 
 // What came of the steps of a reach: how many were accepted, what came in and went out, the refusal and its place, and
 // the running sum.
@@ -52,9 +52,9 @@ fn lent(r: u64, k: u64, m: usize) -> usize
         return least(a, m);
     }
     if x % 2 == 0 {
-        return least(wrapping_sub_usize(a, 1), m);
+        return least(a.wrapping_sub(1), m);
     }
-    least(wrapping_add_usize(a, 1), m)
+    least(a.wrapping_add(1), m)
 }
 
 // Number k of a call: dx, dt, the dry depth and the kinds of the two ends. It is `right` where it has no fault.
@@ -85,24 +85,20 @@ fn at(t: &[i32], i: usize) -> u64 {
 
 fn fill(state: &mut [i32], bed: &mut [i32], friction: &mut [u16], r: u64) {
     let n = cells(r);
-    let mut i: usize = 0;
-    while i < n {
+    for i in 0..n {
         let c = drawn_cell(r, i as u64);
         put(bed, i, c.z);
         put(state, i, c.e);
-        put(state, wrapping_add_usize(n, i), c.q);
+        put(state, n.wrapping_add(i), c.q);
         put_friction(friction, i, roughness(r, i as u64));
-        i += 1;
     }
 }
 
 // The water of n cells: the sum of their depths.
 fn water(state: &[i32], bed: &[i32], n: usize) -> u64 {
     let mut w: u64 = 0;
-    let mut i: usize = 0;
-    while i < n {
-        w = wrapping_add_u64(w, wrapping_sub_u64(at(state, i), at(bed, i)));
-        i += 1;
+    for i in 0..n {
+        w = w.wrapping_add(at(state, i).wrapping_sub(at(bed, i)));
     }
     w
 }
@@ -110,10 +106,8 @@ fn water(state: &[i32], bed: &[i32], n: usize) -> u64 {
 // The running sum with the numbers of a table.
 fn summed(sum: u64, t: &[i32]) -> u64 {
     let mut s = sum;
-    let mut i: usize = 0;
-    while i < t.len() {
-        s = mixed(s, at(t, i));
-        i += 1;
+    for x in t {
+        s = mixed(s, bits(wide(*x)));
     }
     s
 }
@@ -127,9 +121,9 @@ fn told(t: Tally, a: Answer) -> Tally {
             u.sum = mixed(mixed(t.sum, u.number), u.place);
         }
         Answer::Accepted(v, w) => {
-            u.made = wrapping_add_u64(t.made, 1);
-            u.came = wrapping_add_u64(t.came, bits(v));
-            u.went = wrapping_add_u64(t.went, bits(w));
+            u.made = t.made.wrapping_add(1);
+            u.came = t.came.wrapping_add(bits(v));
+            u.went = t.went.wrapping_add(bits(w));
             u.sum = mixed(mixed(t.sum, bits(v)), bits(w));
         }
     }
@@ -174,32 +168,30 @@ fn stepped(
 }
 
 // A number after some words; x is its 64 bits.
-fn show(words: &[u8], x: u64) {
-    io::write_all(STDOUT_FILENO, words);
+fn show(rt: &impl Print, words: &str, x: u64) -> io::Result<()> {
     if x < 0x8000_0000_0000_0000 {
-        io::print_decimal(STDOUT_FILENO, x);
+        print!(rt; "{words}{x}")
     } else {
-        io::write_all(STDOUT_FILENO, b"-");
-        io::print_decimal(STDOUT_FILENO, wrapping_sub_u64(0, x));
+        let size = 0u64.wrapping_sub(x);
+        print!(rt; "{words}-{size}")
     }
 }
 
-fn line(n: u64, t: Tally, before: u64, after: u64, still: bool) {
-    show(b"cells ", n);
-    show(b", steps ", t.made);
-    show(b": ", before);
-    show(b" + ", t.came);
-    show(b" - ", t.went);
-    show(b" = ", after);
+fn line(rt: &impl Print, n: u64, t: Tally, before: u64, after: u64, still: bool) -> io::Result<()> {
+    show(rt, "cells ", n)?;
+    show(rt, ", steps ", t.made)?;
+    show(rt, ": ", before)?;
+    show(rt, " + ", t.came)?;
+    show(rt, " - ", t.went)?;
+    show(rt, " = ", after)?;
     if t.number != 0 {
-        show(b", refused ", t.number);
-        show(b" at ", t.place);
+        show(rt, ", refused ", t.number)?;
+        show(rt, " at ", t.place)?;
     } else if still {
-        io::write_all(STDOUT_FILENO, b", as it was");
+        print!(rt; ", as it was")?;
     }
-    io::write_all(STDOUT_FILENO, b"; ");
-    io::print_hex(STDOUT_FILENO, t.sum, 16);
-    io::write_all(STDOUT_FILENO, b"\n");
+    let sum = t.sum;
+    println!(rt; "; {sum:016x}")
 }
 
 // The state from which the next step would go on.
@@ -207,7 +199,7 @@ fn newest(number: u64, state: [i32; 2064], next: [i32; 2064]) -> [i32; 2064] {
     if number == 0 { next } else { state }
 }
 
-fn run(r: u64) {
+fn run(rt: &impl Print, r: u64) -> io::Result<()> {
     let n = cells(r);
     let a = lent(r, 0, 2056);
     let b = lent(r, 1, 2056) + 8;
@@ -232,11 +224,19 @@ fn run(r: u64) {
         state = newest(t.number, state, next);
     }
     let after = water(&state, &bed, n);
-    line(n as u64, t, before, after, summed(1, &state[0..a]) == first);
+    line(
+        rt,
+        n as u64,
+        t,
+        before,
+        after,
+        summed(1, &state[0..a]) == first,
+    )
 }
 
-fn main() {
+fn main(rt: HostRuntime) -> io::Result<()> {
     for r in 0..576 {
-        run(r);
+        run(&rt, r)?;
     }
+    Ok(())
 }
