@@ -2,7 +2,6 @@
 use crate::draw::{above, below, following, least, pick};
 use crate::fill::at;
 use crate::spoil::{given, third};
-use std::num::{wrapping_add_u64, wrapping_add_usize, wrapping_sub_u64, wrapping_sub_usize};
 use step::End;
 
 // What the ends of a call that is drawn from x are drawn from.
@@ -12,15 +11,15 @@ fn fourth(x: u64) -> u64 {
 
 // The depth that the first of n cells shows at the left end; the greatest where that is out of range.
 fn depth_at_left(state: &[i32], bed: &[i32], n: usize) -> u64 {
-    let level = wrapping_sub_u64(at(state, 0), at(state, n));
-    least(wrapping_sub_u64(level, at(bed, 0)), 262144)
+    let level = at(state, 0).wrapping_sub(at(state, n));
+    least(level.wrapping_sub(at(bed, 0)), 262144)
 }
 
 // The same of the last cell at the right end.
 fn depth_at_right(state: &[i32], bed: &[i32], n: usize) -> u64 {
-    let k = wrapping_sub_usize(n, 1);
-    let level = wrapping_add_u64(at(state, k), at(state, wrapping_add_usize(n, k)));
-    least(wrapping_sub_u64(level, at(bed, n)), 262144)
+    let k = n.wrapping_sub(1);
+    let level = at(state, k).wrapping_add(at(state, n.wrapping_add(k)));
+    least(level.wrapping_sub(at(bed, n)), 262144)
 }
 
 // An inflow into water of depth h: none, little, one of ordinary water so deep, one that does not look
@@ -31,7 +30,7 @@ fn inflow(h: u64, x: u64) -> u64 {
         4..=6 => above(x, 1, 60),
         7..=25 => pick(x, (h << ((x >> 8) % 7)) >> 4),
         26..=27 => pick(x, 9000),
-        28..=29 => above(x, h << 5, wrapping_add_u64(3, h >> 12)),
+        28..=29 => above(x, h << 5, 3u64.wrapping_add(h >> 12)),
         30 => pick(x, 8388608),
         _ => below(x, 8388608, 1),
     }

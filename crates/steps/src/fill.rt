@@ -3,7 +3,6 @@ ghost use Rattle.std.specs.Prelude.{◌≤◌};
 
 use crate::draw::{bits, following, mixed, narrow, pick, wide};
 use crate::kinds::{Cell, cells, drawn_cell, face, first_face, roughness, seed};
-use std::num::{wrapping_add_u64, wrapping_add_usize};
 
 pub fn upto(a: usize, m: usize) -> usize
     ensures { result ≤ m }
@@ -48,12 +47,10 @@ pub fn fill_bed(bed: &mut [i32], r: u64) {
     let n = upto(cells(r), 1024);
     let mut x = seed(r);
     let mut z = first_face(r);
-    let mut i: usize = 0;
-    while i <= n {
+    for i in 0..=n {
         x = following(x);
         z = face(r, z, x);
         put(bed, i, z << 1);
-        i += 1;
     }
 }
 
@@ -65,16 +62,14 @@ fn friction_at(r: u64, x: u64) -> u64 {
 pub fn fill_friction(friction: &mut [u16], r: u64) {
     let n = cells(r);
     let mut x = following(seed(r) ^ 1);
-    let mut i: usize = 0;
-    while i < n {
+    for i in 0..n {
         x = following(x);
         put_friction(friction, i, friction_at(r, x));
-        i += 1;
     }
 }
 
 fn drawn_at(r: u64, bed: &[i32], i: usize, x: u64) -> Cell {
-    drawn_cell(r, found(bed, i), found(bed, wrapping_add_usize(i, 1)), x)
+    drawn_cell(r, found(bed, i), found(bed, i.wrapping_add(1)), x)
 }
 
 // The state of another reach, where no tries are left of the last.
@@ -84,32 +79,26 @@ pub fn fill_over(state: &mut [i32], bed: &[i32], r: u64, tries: u64) {
     }
     let n = cells(r);
     let mut x = following(seed(r) ^ 2);
-    let mut i: usize = 0;
-    while i < n {
+    for i in 0..n {
         x = following(x);
         put_cell(state, n, i, drawn_at(r, bed, i, x));
-        i += 1;
     }
 }
 
 // What `next` holds before a call: another number in each place, and others in each call.
 pub fn fill_pattern(next: &mut [i32], x: u64) {
     let mut p = x >> 34;
-    let mut i: usize = 0;
-    while i < next.len() {
-        next[i] = narrow(p);
-        p = wrapping_add_u64(p, 1);
-        i += 1;
+    for place in next {
+        *place = narrow(p);
+        p = p.wrapping_add(1);
     }
 }
 
 // The running sum with the numbers of a table.
 pub fn summed(sum: u64, t: &[i32]) -> u64 {
     let mut s = sum;
-    let mut i: usize = 0;
-    while i < t.len() {
-        s = mixed(s, bits(wide(t[i])));
-        i += 1;
+    for x in t {
+        s = mixed(s, bits(wide(*x)));
     }
     s
 }

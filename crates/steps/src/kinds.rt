@@ -1,7 +1,6 @@
 // What a reach is drawn from: one number, from which each of its kinds follows, and one face of its bed
 // or one cell of its state.
 use crate::draw::{above, below, either, following, half, least, pick, turned};
-use std::num::{wrapping_add_u64, wrapping_sub_u64};
 
 // Level and discharge, means and slopes, as 64 bits each.
 #[derive(Clone, Copy)]
@@ -31,7 +30,7 @@ fn calm(r: u64) -> bool {
 fn kind(r: u64, at: u64, low: u64, m: u64) -> u64 {
     let a = following(r);
     if calm(r) {
-        wrapping_add_u64(low, a % (m % 16 + 1))
+        low.wrapping_add(a % (m % 16 + 1))
     } else {
         (a >> (at % 16)) % 16
     }
@@ -77,7 +76,7 @@ pub fn seed(r: u64) -> u64 {
 
 // Half a bed value moved by at most m either way, within the range of a bed.
 fn rolled(z: u64, x: u64, m: u64) -> u64 {
-    let y = wrapping_add_u64(z, either(x, m));
+    let y = z.wrapping_add(either(x, m));
     if 0x8000_0000 < y { 0 } else { least(y, 524288) }
 }
 
@@ -109,12 +108,12 @@ fn kind_in(mix: u64, x: u64) -> u64 {
     let k = (mix % 16) as usize;
     let first = [0u64, 1, 2, 3, 0, 2, 4, 3, 5, 6, 6, 6, 7, 8, 8, 0];
     let more = [1u64, 1, 0, 0, 3, 1, 0, 1, 0, 0, 0, 0, 0, 0, 0, 8];
-    wrapping_add_u64(first[k], x % (more[k] % 16 + 1))
+    first[k].wrapping_add(x % (more[k] % 16 + 1))
 }
 
 // A depth about the dry depth.
 fn thin(dry: u64, x: u64) -> u64 {
-    above(x, if dry < 4 { 0 } else { wrapping_sub_u64(dry, 4) }, 12)
+    above(x, if dry < 4 { 0 } else { dry.wrapping_sub(4) }, 12)
 }
 
 // A depth at a face where half the bed is z.
@@ -129,7 +128,7 @@ fn depth(kind: u64, dry: u64, base: u64, z: u64, x: u64) -> u64 {
         6 => above(x, base, base / 32),
         7 => base,
         // under one level for all
-        _ => level_depth(wrapping_add_u64(base, 18000), z),
+        _ => level_depth(base.wrapping_add(18000), z),
     }
 }
 
@@ -138,7 +137,7 @@ fn level_depth(level: u64, z: u64) -> u64 {
     if level < bed {
         0
     } else {
-        wrapping_sub_u64(level, bed)
+        level.wrapping_sub(bed)
     }
 }
 
@@ -158,7 +157,7 @@ fn discharge(r: u64, h: u64, x: u64) -> u64 {
 // speed allows, or a little below.
 fn greatest(kind: u64, most: u64, x: u64) -> u64 {
     if kind < 15 {
-        wrapping_add_u64(below(x, most, 3), (x >> 9) % 8 / 7)
+        below(x, most, 3).wrapping_add((x >> 9) % 8 / 7)
     } else {
         below(x, least(most, 8388608), 2)
     }
@@ -178,8 +177,8 @@ fn right_depth(kind: u64, left: u64, own: u64, x: u64) -> u64 {
 // A cell of the given depths and discharges over half beds zl and zr.
 pub fn over(zl: u64, zr: u64, h0: u64, h1: u64, q0: u64, q1: u64) -> Cell {
     Cell {
-        e0: wrapping_add_u64(h0, wrapping_add_u64(zl, zr)),
-        e1: wrapping_add_u64(h1, wrapping_sub_u64(zr, zl)),
+        e0: h0.wrapping_add(zl.wrapping_add(zr)),
+        e1: h1.wrapping_add(zr.wrapping_sub(zl)),
         q0: q0,
         q1: q1,
     }
@@ -187,14 +186,10 @@ pub fn over(zl: u64, zr: u64, h0: u64, h1: u64, q0: u64, q1: u64) -> Cell {
 
 // The same of the depths and discharges at the two faces; in some cells no slope of discharge.
 fn between(zl: u64, zr: u64, hl: u64, hr: u64, ql: u64, qr: u64, x: u64) -> Cell {
-    let h0 = wrapping_add_u64(wrapping_add_u64(hl, hr), 1) >> 1;
-    let q0 = half(wrapping_add_u64(ql, qr));
-    let q1 = if x % 4 == 0 {
-        0
-    } else {
-        wrapping_sub_u64(qr, q0)
-    };
-    over(zl, zr, h0, wrapping_sub_u64(hr, h0), q0, q1)
+    let h0 = hl.wrapping_add(hr).wrapping_add(1) >> 1;
+    let q0 = half(ql.wrapping_add(qr));
+    let q1 = if x % 4 == 0 { 0 } else { qr.wrapping_sub(q0) };
+    over(zl, zr, h0, hr.wrapping_sub(h0), q0, q1)
 }
 
 // A cell between faces where half the bed is zl and zr.

@@ -5,6 +5,7 @@
 // and the running sum of the numbers and places, the volumes and all that `next` held after each call. What it
 // must write comes from tests/reference/steps.py.
 #![tactic(auto)]
+
 mod draw;
 mod ends;
 mod fill;
@@ -15,9 +16,8 @@ use draw::{above, bits, following, mixed, pick};
 use ends::{left_end, right_end};
 use fill::{fill_pattern, summed};
 use kinds::{cells, dry, seed};
-use libc::STDOUT_FILENO;
 use spoil::{given, lent, ready, ready_bed, ready_friction, second, third};
-use std::num::{wrapping_add_u64, wrapping_sub_u64};
+use std::io;
 use step::{Answer, Given};
 
 // Where a block has come to: what the last call was drawn from, its answer, 0 for accepted, and the
@@ -48,7 +48,7 @@ fn first_dt(x: u64) -> u64 {
 // longest that was accepted and the shortest that was not.
 fn dt(reach: u64, low: u64, high: u64) -> u64 {
     if low != 0 {
-        return wrapping_add_u64(low, high) >> 1;
+        return low.wrapping_add(high) >> 1;
     }
     if high == 4097 {
         return first_dt(following(seed(reach)));
@@ -82,7 +82,7 @@ fn begun(t: Turn) -> Turn {
 // Fewer tries are left. One is enough where no dt helps: a fault, or a state out of range.
 fn tries_left(tries: u64, number: u64) -> u64 {
     match number {
-        0 | 7 | 8 => wrapping_sub_u64(tries, 1),
+        0 | 7 | 8 => tries.wrapping_sub(1),
         // in stage two a shorter dt helps, before it none does
         6 => tries >> 1,
         _ => 0,
@@ -109,7 +109,7 @@ fn ended(t: Turn) -> Turn {
 
 fn dx(reach: u64) -> u64 {
     let a = following(seed(reach));
-    wrapping_add_u64(1, pick(a, 255 << (following(a) % 12)))
+    1u64.wrapping_add(pick(a, 255 << (following(a) % 12)))
 }
 
 fn jump(x: u64) -> u64 {
@@ -203,26 +203,23 @@ fn another(t: Turn, state: &mut [i32]) -> Turn {
 
 fn count(counts: &mut [u64; 9], number: u64) {
     let k = (number % 9) as usize;
-    counts[k] = wrapping_add_u64(counts[k], 1);
+    counts[k] = counts[k].wrapping_add(1);
 }
 
-fn show_counts(counts: &[u64; 9]) {
-    for k in 0..9 {
-        io::write_all(STDOUT_FILENO, b" ");
-        io::print_decimal(STDOUT_FILENO, counts[k]);
+fn show_counts(rt: &impl Print, counts: &[u64; 9]) -> io::Result<()> {
+    for n in counts {
+        print!(rt; " {n}")?;
     }
+    Ok(())
 }
 
-fn line(block: u64, counts: &[u64; 9], sum: u64) {
-    io::write_all(STDOUT_FILENO, b"steps ");
-    io::print_decimal(STDOUT_FILENO, block);
-    show_counts(counts);
-    io::write_all(STDOUT_FILENO, b" ");
-    io::print_hex(STDOUT_FILENO, sum, 16);
-    io::write_all(STDOUT_FILENO, b"\n");
+fn line(rt: &impl Print, block: u64, counts: &[u64; 9], sum: u64) -> io::Result<()> {
+    print!(rt; "steps {block}")?;
+    show_counts(rt, counts)?;
+    println!(rt; " {sum:016x}")
 }
 
-fn run(block: u64) {
+fn run(rt: &impl Print, block: u64) -> io::Result<()> {
     let mut t = Turn {
         x: 88172645463325252 ^ (block << 32),
         number: 0,
@@ -240,11 +237,12 @@ fn run(block: u64) {
         t = another(t, &mut state);
         count(&mut counts, t.number);
     }
-    line(block, &counts, t.sum);
+    line(rt, block, &counts, t.sum)
 }
 
-fn main() {
+fn main(rt: HostRuntime) -> io::Result<()> {
     for block in 0..100 {
-        run(block);
+        run(&rt, block)?;
     }
+    Ok(())
 }

@@ -4,7 +4,6 @@ ghost use Rattle.std.specs.Prelude.{◌≤◌};
 use crate::draw::{above, following, pick, turned};
 use crate::fill::{fill_bed, fill_friction, fill_over, found, put, put_cell, put_friction, upto};
 use crate::kinds::{Cell, cells, dry, over};
-use std::num::{wrapping_add_u64, wrapping_add_usize, wrapping_sub_u64, wrapping_sub_usize};
 
 const LENGTHS: u64 = 1;
 
@@ -44,9 +43,9 @@ fn right_length(k: u64, n: usize) -> usize {
 // A length that is wrong by one or by more, or none.
 fn wrong_length(a: usize, x: u64) -> usize {
     match x % 8 {
-        0..=2 => wrapping_sub_usize(a, 1),
-        3..=5 => wrapping_add_usize(a, 1),
-        6 => wrapping_add_usize(a, 4),
+        0..=2 => a.wrapping_sub(1),
+        3..=5 => a.wrapping_add(1),
+        6 => a.wrapping_add(4),
         _ => 0,
     }
 }
@@ -119,7 +118,7 @@ pub fn given(k: u64, right: u64, x: u64) -> u32 {
 // A bed value that is odd or out of range; z is half of what it was.
 fn wrong_bed(z: u64, x: u64) -> u64 {
     match x % 8 {
-        0 => wrapping_sub_u64(0, 2),
+        0 => 0u64.wrapping_sub(2),
         1 => 1048575,
         2 => 1048578,
         3 => 1048577,
@@ -161,7 +160,7 @@ fn wrong_friction(x: u64) -> u64 {
 
 pub fn ready_friction(friction: &mut [u16], r: u64, x: u64) {
     fill_friction(friction, r);
-    let k = place(FRICTION, wrapping_sub_usize(cells(r), 1), x);
+    let k = place(FRICTION, cells(r).wrapping_sub(1), x);
     put_friction(friction, k, wrong_friction(second(x)));
 }
 
@@ -169,9 +168,9 @@ pub fn ready_friction(friction: &mut [u16], r: u64, x: u64) {
 fn wrong_cell(zl: u64, zr: u64, x: u64) -> Cell {
     let h = above(x, 8, 3000);
     match x % 8 {
-        0..=1 => over(zl, zr, h, turned(wrapping_add_u64(h, 1), x), 0, 0),
+        0..=1 => over(zl, zr, h, turned(h.wrapping_add(1), x), 0, 0),
         2 => over(zl, zr, 262136, turned(9, x >> 3), 0, 0),
-        3 => over(zl, zr, wrapping_sub_u64(0, 1), 0, 0, 0),
+        3 => over(zl, zr, 0u64.wrapping_sub(1), 0, 0, 0),
         4 => over(zl, zr, 262144, 0, turned(8388609, x >> 3), 0),
         5 => over(
             zl,
@@ -184,7 +183,7 @@ fn wrong_cell(zl: u64, zr: u64, x: u64) -> Cell {
         6 => over(
             zl,
             zr,
-            wrapping_sub_u64(0xffff_ffff_8000_0000, wrapping_add_u64(zl, zr)),
+            0xffff_ffff_8000_0000u64.wrapping_sub(zl.wrapping_add(zr)),
             0,
             0,
             0,
@@ -195,14 +194,14 @@ fn wrong_cell(zl: u64, zr: u64, x: u64) -> Cell {
 
 // A cell that is in range and has a speed over the limit: its mean, a face, or a Gauss point alone.
 fn racing_cell(dry: u64, zl: u64, zr: u64, x: u64) -> Cell {
-    let h = above(x, wrapping_add_u64(dry, 4), 3000);
-    let fast = wrapping_sub_u64(h << 5, h);
+    let h = above(x, dry.wrapping_add(4), 3000);
+    let fast = (h << 5).wrapping_sub(h);
     // as steep as leaves the shallow face at the dry depth, where it has no speed
-    let steep = wrapping_sub_u64(h, dry);
+    let steep = h.wrapping_sub(dry);
     match x % 4 {
-        0 => over(zl, zr, h, 0, turned(wrapping_add_u64(h << 5, 1), x >> 3), 0),
-        1 => over(zl, zr, h, wrapping_sub_u64(steep, 1), fast, 0),
-        2 => over(zl, zr, h, 0, h << 4, wrapping_add_u64(h << 4, h)),
+        0 => over(zl, zr, h, 0, turned((h << 5).wrapping_add(1), x >> 3), 0),
+        1 => over(zl, zr, h, steep.wrapping_sub(1), fast, 0),
+        2 => over(zl, zr, h, 0, h << 4, (h << 4).wrapping_add(h)),
         _ => over(zl, zr, h, steep, turned(fast, x >> 3), 0),
     }
 }
@@ -217,9 +216,9 @@ fn spoilt_cell(dry: u64, zl: u64, zr: u64, x: u64) -> Cell {
 
 fn spoil_over(state: &mut [i32], bed: &[i32], r: u64, x: u64) {
     let n = cells(r);
-    let k = place(STATE, wrapping_sub_usize(n, 1), x);
+    let k = place(STATE, n.wrapping_sub(1), x);
     let zl = found(bed, k);
-    let zr = found(bed, wrapping_add_usize(k, 1));
+    let zr = found(bed, k.wrapping_add(1));
     put_cell(state, n, k, spoilt_cell(dry(r), zl, zr, second(x)));
 }
 
