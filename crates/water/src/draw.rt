@@ -2,7 +2,6 @@
 //
 // A number with a sign is kept as its 64 bits, so that its sums wrap and none of them can fail.
 use reach::size::magnitude;
-use std::num::{wrapping_add_u64, wrapping_sub_u64};
 
 pub fn following(x: u64) -> u64 {
     let a = x ^ (x << 13);
@@ -17,11 +16,11 @@ pub fn pick(x: u64, m: u64) -> u64 {
 
 // From -m to m.
 pub fn either(x: u64, m: u64) -> u64 {
-    wrapping_sub_u64(pick(x, wrapping_add_u64(m, m)), m)
+    pick(x, m.wrapping_add(m)).wrapping_sub(m)
 }
 
 pub fn above(x: u64, low: u64, m: u64) -> u64 {
-    wrapping_add_u64(low, pick(x, m))
+    low.wrapping_add(pick(x, m))
 }
 
 pub fn least(x: u64, m: u64) -> u64 {
@@ -33,7 +32,7 @@ pub fn narrow(x: u64) -> i32 {
     if x < 0x8000_0000 {
         return x as i32;
     }
-    let size = wrapping_sub_u64(0, x);
+    let size = 0u64.wrapping_sub(x);
     if size < 0x8000_0000 {
         return -(size as i32);
     }
@@ -46,7 +45,7 @@ pub fn wide(x: i32) -> i64 {
 
 pub fn bits(x: i64) -> u64 {
     let m = magnitude(x);
-    if x < 0 { wrapping_sub_u64(0, m) } else { m }
+    if x < 0 { 0u64.wrapping_sub(m) } else { m }
 }
 
 // The running sum with one more number.

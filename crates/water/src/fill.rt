@@ -5,7 +5,6 @@ use crate::draw::{bits, mixed, narrow, wide};
 use crate::kinds::{
     BED_LONG, Cell, STATE_SHORT, SUMS_LONG, SUMS_SHORT, cells, drawn_cell, face, fault,
 };
-use std::num::{wrapping_add_u64, wrapping_add_usize, wrapping_sub_usize};
 
 pub fn upto(a: usize, m: usize) -> usize
     ensures { result ≤ m }
@@ -16,10 +15,10 @@ pub fn upto(a: usize, m: usize) -> usize
 // A length, or one more or less where the reach has a fault that says so.
 fn lent(r: u64, right: usize, short: u64, long: u64) -> usize {
     if fault(r) == short {
-        return wrapping_sub_usize(right, 1);
+        return right.wrapping_sub(1);
     }
     if fault(r) == long {
-        return wrapping_add_usize(right, 1);
+        return right.wrapping_add(1);
     }
     right
 }
@@ -72,40 +71,32 @@ pub fn put_cell(t: &mut [i32], n: usize, i: usize, c: Cell) {
 
 pub fn fill_bed(bed: &mut [i32], r: u64) {
     let n = upto(cells(r), 1024);
-    let mut i: usize = 0;
-    while i <= n {
+    for i in 0..=n {
         put(bed, i, face(r, i as u64));
-        i += 1;
     }
 }
 
 pub fn fill_state(state: &mut [i32], r: u64) {
     let n = cells(r);
-    let mut i: usize = 0;
-    while i < n {
+    for i in 0..n {
         put_cell(state, n, i, drawn_cell(r, i as u64));
-        i += 1;
     }
 }
 
 // What a table holds before a call: another number in each place, and others in each reach.
 pub fn fill_pattern(next: &mut [i32], x: u64) {
     let mut p = x >> 34;
-    let mut i: usize = 0;
-    while i < next.len() {
-        next[i] = narrow(p);
-        p = wrapping_add_u64(p, 1);
-        i += 1;
+    for place in next {
+        *place = narrow(p);
+        p = p.wrapping_add(1);
     }
 }
 
 // The running sum with the numbers of a table.
 pub fn summed(sum: u64, t: &[i32]) -> u64 {
     let mut s = sum;
-    let mut i: usize = 0;
-    while i < t.len() {
-        s = mixed(s, bits(wide(t[i])));
-        i += 1;
+    for x in t {
+        s = mixed(s, bits(wide(*x)));
     }
     s
 }

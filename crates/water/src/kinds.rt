@@ -1,6 +1,5 @@
 // What a reach is drawn from: its number r, from which its length, its fault and each number of its tables follow.
 use crate::draw::{above, either, following, pick};
-use std::num::{wrapping_add_u64, wrapping_sub_u64};
 
 // Level and discharge, means and slopes, as 64 bits each.
 #[derive(Clone, Copy)]
@@ -61,8 +60,8 @@ pub fn place(r: u64) -> u64 {
     let x = drawn(r, 1, 0);
     match x % 3 {
         0 => 0,
-        1 => wrapping_sub_u64(n, 1),
-        _ => pick(x, wrapping_sub_u64(n, 1)),
+        1 => n.wrapping_sub(1),
+        _ => pick(x, n.wrapping_sub(1)),
     }
 }
 
@@ -71,8 +70,8 @@ fn any(x: u64) -> u64 {
     match x % 8 {
         0 => 0xffff_ffff_8000_0000,
         1 => 0x7fff_ffff,
-        2 => wrapping_sub_u64(0, 1),
-        3 => wrapping_sub_u64(0, 3),
+        2 => 0u64.wrapping_sub(1),
+        3 => 0u64.wrapping_sub(3),
         _ => either(x, 0x3fff_ffff),
     }
 }
@@ -98,10 +97,10 @@ pub fn face(r: u64, i: u64) -> u64 {
 // The cell of mean depth h0, slope h1 and discharge q0 between faces i and i + 1.
 fn over(r: u64, i: u64, h0: u64, h1: u64, q0: u64) -> Cell {
     let zl = half_bed(r, i);
-    let zr = half_bed(r, wrapping_add_u64(i, 1));
+    let zr = half_bed(r, i.wrapping_add(1));
     Cell {
-        e0: wrapping_add_u64(h0, wrapping_add_u64(zl, zr)),
-        e1: wrapping_add_u64(h1, wrapping_sub_u64(zr, zl)),
+        e0: h0.wrapping_add(zl.wrapping_add(zr)),
+        e1: h1.wrapping_add(zr.wrapping_sub(zl)),
         q0: q0,
         q1: 0,
     }
@@ -118,7 +117,7 @@ pub fn drawn_cell(r: u64, i: u64) -> Cell {
         };
     }
     if fault(r) == LOW_LEVEL && i == place(r) {
-        return over(r, i, wrapping_sub_u64(0, 1), 0, 0);
+        return over(r, i, 0u64.wrapping_sub(1), 0, 0);
     }
     over(
         r,

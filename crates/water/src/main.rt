@@ -4,6 +4,7 @@
 // sums answered; the water between the same faces of what `next` then holds; and the running sum of all that the calls
 // may write, after each and beyond what was lent. What it must write comes from tests/reference/water.py.
 #![tactic(auto)]
+
 mod draw;
 mod fill;
 mod kinds;
@@ -15,7 +16,7 @@ use fill::{
 };
 use kinds::{cells, drawn, fault};
 use show::{show_between, show_made, show_reach, show_step, show_sum};
-use std::num::{wrapping_add_u64, wrapping_sub_u64};
+use std::io;
 use step::{Answer, End, Given};
 
 // The faces of question j of a reach: its ends; about a block from either end; any in order; and any, or beyond it.
@@ -26,7 +27,7 @@ fn first_face(r: u64, j: u64) -> u32 {
         0 => 0,
         1 => above(x, 14, 3),
         2 => pick(x, n / 2),
-        _ => pick(x, wrapping_add_u64(n, 2)),
+        _ => pick(x, n.wrapping_add(2)),
     };
     (a % 0x1_0000_0000) as u32
 }
@@ -36,24 +37,31 @@ fn second_face(r: u64, j: u64) -> u32 {
     let x = drawn(r, 8, j);
     let b = match j % 4 {
         0 => n,
-        1 => wrapping_sub_u64(n, pick(x, least(n / 2, 17))),
+        1 => n.wrapping_sub(pick(x, least(n / 2, 17))),
         2 => above(x, n / 2, n / 2),
-        _ => pick(x, wrapping_add_u64(n, 2)),
+        _ => pick(x, n.wrapping_add(2)),
     };
     (b % 0x1_0000_0000) as u32
 }
 
-fn asked(r: u64, j: u64, state: &[i32], bed: &[i32], kept: &[i32]) {
+fn asked(
+    rt: &impl Print,
+    r: u64,
+    j: u64,
+    state: &[i32],
+    bed: &[i32],
+    kept: &[i32],
+) -> io::Result<()> {
     let a = first_face(r, j);
     let b = second_face(r, j);
-    show_between(a, b, sums::between(state, bed, kept, a, b));
+    show_between(rt, a, b, sums::between(state, bed, kept, a, b))
 }
 
-fn asked_all(r: u64, state: &[i32], bed: &[i32], kept: &[i32]) {
-    asked(r, 0, state, bed, kept);
-    asked(r, 1, state, bed, kept);
-    asked(r, 2, state, bed, kept);
-    asked(r, 3, state, bed, kept);
+fn asked_all(rt: &impl Print, r: u64, state: &[i32], bed: &[i32], kept: &[i32]) -> io::Result<()> {
+    asked(rt, r, 0, state, bed, kept)?;
+    asked(rt, r, 1, state, bed, kept)?;
+    asked(rt, r, 2, state, bed, kept)?;
+    asked(rt, r, 3, state, bed, kept)
 }
 
 // An inflow at the left and a wall at the right, cells of 1 m and 1/100 s.
@@ -79,27 +87,31 @@ fn stepped(
 
 // The calls on what is lent of the tables; gives the running sum of all that the last two hold after each.
 fn called(
+    rt: &impl Print,
     r: u64,
     state: &[i32],
     bed: &[i32],
     friction: &[u16],
     next: &mut [i32],
     kept: &mut [i32],
-) -> u64 {
+) -> io::Result<u64> {
     let m = lent_next(r, next.len());
     let b = lent_sums(r, kept.len());
-    show_made(sums::make(state, bed, &mut kept[0..b]));
+    show_made(rt, sums::make(state, bed, &mut kept[0..b]))?;
     let made = summed(1, kept);
-    asked_all(r, state, bed, &kept[0..b]);
-    show_step(stepped(state, &mut next[0..m], bed, friction, &mut kept[0..b]));
-    asked_all(r, &next[0..m], bed, &kept[0..b]);
-    summed(summed(made, next), kept)
+    asked_all(rt, r, state, bed, &kept[0..b])?;
+    show_step(
+        rt,
+        stepped(state, &mut next[0..m], bed, friction, &mut kept[0..b]),
+    )?;
+    asked_all(rt, r, &next[0..m], bed, &kept[0..b])?;
+    Ok(summed(summed(made, next), kept))
 }
 
 // One reach. The tables are as long as the longest that are lent, and a little more.
-fn reach(r: u64) {
+fn reach(rt: &impl Print, r: u64) -> io::Result<()> {
     let n = upto(cells(r), 1024);
-    show_reach(n as u64, fault(r));
+    show_reach(rt, n as u64, fault(r))?;
     let mut state = [0i32; 4104];
     fill_state(&mut state, r);
     let mut bed = [0i32; 1032];
@@ -111,18 +123,21 @@ fn reach(r: u64) {
     fill_pattern(&mut kept, drawn(r, 10, 0));
     let a = lent_state(r, 4104);
     let b = lent_bed(r, 1032);
-    show_sum(called(
+    let sum = called(
+        rt,
         r,
         &state[0..a],
         &bed[0..b],
         &friction[0..n],
         &mut next,
         &mut kept,
-    ));
+    )?;
+    show_sum(rt, sum)
 }
 
-fn main() {
+fn main(rt: HostRuntime) -> io::Result<()> {
     for r in 0..96 {
-        reach(r);
+        reach(&rt, r)?;
     }
+    Ok(())
 }

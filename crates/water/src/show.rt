@@ -1,76 +1,55 @@
 // Answers, in words.
-use libc::STDOUT_FILENO;
-use reach::size::magnitude;
+use std::io;
 use step::Answer;
 use sums::{Amount, Made};
 
-fn show(x: i64) {
-    if x < 0 {
-        io::write_all(STDOUT_FILENO, b" -");
-    } else {
-        io::write_all(STDOUT_FILENO, b" ");
-    }
-    io::print_decimal(STDOUT_FILENO, magnitude(x));
+fn show(rt: &impl Print, x: i64) -> io::Result<()> {
+    print!(rt; " {x}")
 }
 
-fn show_refused(k: u32) {
-    io::write_all(STDOUT_FILENO, b" refused ");
-    io::print_decimal(STDOUT_FILENO, k as u64);
+fn show_refused(rt: &impl Print, k: u32) -> io::Result<()> {
+    print!(rt; " refused {k}")
 }
 
-pub fn show_reach(n: u64, fault: u64) {
-    io::print_decimal(STDOUT_FILENO, n);
-    io::write_all(STDOUT_FILENO, b" cells, fault ");
-    io::print_decimal(STDOUT_FILENO, fault);
-    io::write_all(STDOUT_FILENO, b":");
+pub fn show_reach(rt: &impl Print, n: u64, fault: u64) -> io::Result<()> {
+    print!(rt; "{n} cells, fault {fault}:")
 }
 
-pub fn show_made(a: Made) {
+pub fn show_made(rt: &impl Print, a: Made) -> io::Result<()> {
     match a {
-        Made::Refused(k) => show_refused(k),
-        Made::Done => {
-            io::write_all(STDOUT_FILENO, b" made");
-        }
+        Made::Refused(k) => show_refused(rt, k),
+        Made::Done => print!(rt; " made"),
     }
 }
 
 // A question and its answer: the water, and how many cells and blocks were read.
-pub fn show_between(a: u32, b: u32, w: Amount) {
-    io::write_all(STDOUT_FILENO, b"; ");
-    io::print_decimal(STDOUT_FILENO, a as u64);
-    io::write_all(STDOUT_FILENO, b" to ");
-    io::print_decimal(STDOUT_FILENO, b as u64);
+pub fn show_between(rt: &impl Print, a: u32, b: u32, w: Amount) -> io::Result<()> {
+    print!(rt; "; {a} to {b}")?;
     match w {
-        Amount::Refused(k) => show_refused(k),
+        Amount::Refused(k) => show_refused(rt, k),
         Amount::Water(water, cells, blocks) => {
-            show(water);
-            io::write_all(STDOUT_FILENO, b" by ");
-            io::print_decimal(STDOUT_FILENO, cells as u64);
-            io::write_all(STDOUT_FILENO, b" and ");
-            io::print_decimal(STDOUT_FILENO, blocks as u64);
+            show(rt, water)?;
+            print!(rt; " by {cells} and {blocks}")
         }
     }
 }
 
-pub fn show_step(a: Answer) {
+pub fn show_step(rt: &impl Print, a: Answer) -> io::Result<()> {
     match a {
         Answer::Refused(k, p) => {
-            io::write_all(STDOUT_FILENO, b"; step");
-            show_refused(k);
-            io::write_all(STDOUT_FILENO, b" at ");
-            io::print_decimal(STDOUT_FILENO, p as u64);
+            print!(rt; "; step")?;
+            show_refused(rt, k)?;
+            print!(rt; " at {p}")
         }
         Answer::Accepted(w, v) => {
-            io::write_all(STDOUT_FILENO, b"; step accepted");
-            show(w);
-            show(v);
+            print!(rt; "; step accepted")?;
+            show(rt, w)?;
+            show(rt, v)
         }
     }
 }
 
 // The running sum, at the end of a line.
-pub fn show_sum(sum: u64) {
-    io::write_all(STDOUT_FILENO, b"; ");
-    io::print_hex(STDOUT_FILENO, sum, 16);
-    io::write_all(STDOUT_FILENO, b"\n");
+pub fn show_sum(rt: &impl Print, sum: u64) -> io::Result<()> {
+    println!(rt; "; {sum:016x}")
 }
