@@ -5,11 +5,14 @@
 // `next` holds after the call: -77 where it is as it was. The cases are in the file stdin, which says how to read
 // them. What it must write comes from tests/reference/answers.py.
 #![tactic(auto)]
+
 mod read;
 mod show;
 
 use read::{fill, fill_friction, fill_state, given, lent, take_line};
 use show::line_of;
+use std::io;
+use std::io::{BufReader, Read};
 use step::{Answer, End, Given};
 
 fn called(line: &[u8], state: &[i32], next: &mut [i32], bed: &[i32], friction: &[u16]) -> Answer {
@@ -53,25 +56,28 @@ fn answer(line: &[u8], next: &mut [i32]) -> Answer {
     )
 }
 
-fn case(line: &[u8]) {
+fn case(rt: &impl Print, line: &[u8]) -> io::Result<()> {
     let mut next = [-77i32; 4100];
     let a = answer(line, &mut next);
     let n = lent(line, 4, 4100);
-    line_of(line, a, &next[0..n]);
+    line_of(rt, line, a, &next[0..n])
 }
 
 // The next line of the cases; a remark has no case.
-fn one() {
+fn one(rt: &impl Print, input: &mut impl Read) -> io::Result<()> {
     let mut line = [0u8; 192];
-    let n = take_line(&mut line);
+    let n = take_line(input, &mut line)?;
     if 0 < n && line[0] != b'#' {
-        case(&line[0..n]);
+        case(rt, &line[0..n])?;
     }
+    Ok(())
 }
 
-fn main() {
+fn main(rt: HostRuntime) -> io::Result<()> {
+    let mut input = BufReader::new(rt.alloc(), rt.reader())?;
     // as many lines as the file has, and more
-    for i in 0u64..1000 {
-        one();
+    for _ in 0u64..1000 {
+        one(&rt, &mut input)?;
     }
+    Ok(())
 }

@@ -2,32 +2,32 @@
 //
 // A field of a line begins after a colon or a semicolon, and a number in it after a blank. A number
 // with a sign is kept as its 64 bits.
-ghost use Rattle.std.specs.Prelude.{◌*◌, ◌≤◌, length};
+ghost use Rattle.std.specs.Prelude.{◌*◌, ◌≤◌, IfOk, length};
 
-use libc::STDIN_FILENO;
-use std::num::{wrapping_add_usize, wrapping_sub_u8, wrapping_sub_u64, wrapping_sub_usize};
+use std::io;
+use std::io::Read;
 
-// A byte of standard input; after the last, the end of a line.
-fn taken() -> u8 {
+// A byte of the input; after the last, the end of a line.
+fn taken(input: &mut impl Read) -> io::Result<u8> {
     let mut b = [b'\n'; 1];
-    io::read_full(STDIN_FILENO, &mut b);
-    b[0]
+    if input.read(&mut b)? == 0 {
+        return Ok(b'\n');
+    }
+    Ok(b[0])
 }
 
 // The next line, without its end, and how long it is: 0 after the last.
-pub fn take_line(line: &mut [u8]) -> usize
-    ensures { result ≤ length line.new }
+pub fn take_line(input: &mut impl Read, line: &mut [u8]) -> io::Result<usize>
+    ensures { IfOk result (λ n. n ≤ length line.new) }
 {
-    let mut n: usize = 0;
-    while n < line.len() {
-        let b = taken();
+    for n in 0..line.len() {
+        let b = taken(input)?;
         if b == b'\n' {
-            return n;
+            return Ok(n);
         }
         line[n] = b;
-        n += 1;
     }
-    n
+    Ok(line.len())
 }
 
 // Beyond a line's end its last field ends.
@@ -38,21 +38,19 @@ fn byte(line: &[u8], at: usize) -> u8 {
 // The number whose digits begin at `from`.
 fn digits(line: &[u8], from: usize) -> u64 {
     let mut x = 0u64;
-    let mut at = from;
-    while at < line.len() {
-        let d = wrapping_sub_u8(line[at], b'0');
+    for at in from..line.len() {
+        let d = line[at].wrapping_sub(b'0');
         if 9 < d {
             return x;
         }
         x = x % 0x1_0000_0000 * 10 + d as u64;
-        at += 1;
     }
     x
 }
 
 fn signed(line: &[u8], at: usize) -> u64 {
     if byte(line, at) == b'-' {
-        wrapping_sub_u64(0, digits(line, wrapping_add_usize(at, 1)))
+        0u64.wrapping_sub(digits(line, at.wrapping_add(1)))
     } else {
         digits(line, at)
     }
@@ -63,26 +61,24 @@ pub fn field(line: &[u8], k: u64) -> usize
     ensures { result ≤ length line.now }
 {
     let mut left = k;
-    let mut i: usize = 0;
-    while i < line.len() {
+    for i in 0..line.len() {
         if left == 0 {
             return i;
         }
         let b = line[i];
         if b == b':' || b == b';' {
-            left = wrapping_sub_u64(left, 1);
+            left = left.wrapping_sub(1);
         }
-        i += 1;
     }
-    i
+    line.len()
 }
 
 // A list with one number more, where one begins.
 fn put(l: &mut [u64; 24], n: usize, line: &[u8], at: usize) -> usize {
     // a digit or a minus: in ASCII they come before the colon, and letters after it
-    if byte(line, wrapping_sub_usize(at, 1)) == b' ' && byte(line, at) < b':' {
+    if byte(line, at.wrapping_sub(1)) == b' ' && byte(line, at) < b':' {
         l[n % 24] = signed(line, at);
-        return wrapping_add_usize(n, 1);
+        return n.wrapping_add(1);
     }
     n
 }
@@ -90,10 +86,8 @@ fn put(l: &mut [u64; 24], n: usize, line: &[u8], at: usize) -> usize {
 // The first n numbers of a list, again and again.
 fn over_again(first: [u64; 24], n: usize) -> [u64; 24] {
     let mut l = first;
-    let mut i = n;
-    while i < 24 {
-        l[i] = l[wrapping_sub_usize(i, n) % 24];
-        i += 1;
+    for i in n..24 {
+        l[i] = l[i.wrapping_sub(n) % 24];
     }
     l
 }
@@ -103,13 +97,11 @@ fn over_again(first: [u64; 24], n: usize) -> [u64; 24] {
 pub fn list(line: &[u8], k: u64) -> [u64; 24] {
     let mut l = [0u64; 24];
     let mut n: usize = 0;
-    let mut at = field(line, k);
-    while at < line.len() {
+    for at in field(line, k)..line.len() {
         if line[at] == b';' {
             return over_again(l, n);
         }
         n = put(&mut l, n, line, at);
-        at += 1;
     }
     over_again(l, n)
 }
@@ -119,7 +111,7 @@ fn narrow(x: u64) -> i32 {
     if x < 0x8000_0000 {
         return x as i32;
     }
-    let size = wrapping_sub_u64(0, x);
+    let size = 0u64.wrapping_sub(x);
     if size < 0x8000_0000 {
         -(size as i32)
     } else {
@@ -130,10 +122,8 @@ fn narrow(x: u64) -> i32 {
 // A table, or a column of one, of the numbers of field k.
 pub fn fill(t: &mut [i32], line: &[u8], k: u64) {
     let l = list(line, k);
-    let mut i: usize = 0;
-    while i < t.len() {
+    for i in 0..t.len() {
         t[i] = narrow(l[i % 24]);
-        i += 1;
     }
 }
 
@@ -149,10 +139,8 @@ pub fn fill_state(state: &mut [i32], line: &[u8], n: usize)
 
 pub fn fill_friction(t: &mut [u16], line: &[u8]) {
     let l = list(line, 6);
-    let mut i: usize = 0;
-    while i < t.len() {
+    for i in 0..t.len() {
         t[i] = (l[i % 24] % 0x1_0000) as u16;
-        i += 1;
     }
 }
 

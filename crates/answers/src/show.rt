@@ -1,74 +1,60 @@
 // An answer and what `next` holds, in one line.
 use crate::read::field;
-use libc::STDOUT_FILENO;
 use reach::size::magnitude;
-use std::num::wrapping_add_u64;
+use std::io;
+use std::io::Write;
 use step::Answer;
 
 fn wide(x: i32) -> i64 {
     x as i64
 }
 
-fn show(x: i64) {
-    if x < 0 {
-        io::write_all(STDOUT_FILENO, b" -");
-    } else {
-        io::write_all(STDOUT_FILENO, b" ");
-    }
-    io::print_decimal(STDOUT_FILENO, magnitude(x));
+fn show(rt: &impl Print, x: i64) -> io::Result<()> {
+    print!(rt; " {x}")
 }
 
-fn show_table(t: &[i32]) {
-    let mut i: usize = 0;
-    while i < t.len() {
-        show(wide(t[i]));
-        i += 1;
+fn show_table(rt: &impl Print, t: &[i32]) -> io::Result<()> {
+    for x in t {
+        show(rt, wide(*x))?;
     }
+    Ok(())
 }
 
 // The sum of a table too long to be shown.
-fn show_sum(t: &[i32]) {
+fn show_sum(rt: &impl Print, t: &[i32]) -> io::Result<()> {
     let mut sum = 0u64;
-    let mut i: usize = 0;
-    while i < t.len() {
-        sum = wrapping_add_u64(sum, magnitude(wide(t[i])));
-        i += 1;
+    for x in t {
+        sum = sum.wrapping_add(magnitude(wide(*x)));
     }
-    io::write_all(STDOUT_FILENO, b" ");
-    io::print_decimal(STDOUT_FILENO, sum);
+    print!(rt; " {sum}")
 }
 
-fn show_answer(a: Answer) {
+fn show_answer(rt: &impl Print, a: Answer) -> io::Result<()> {
     match a {
-        Answer::Refused(k, p) => {
-            io::write_all(STDOUT_FILENO, b" refused");
-            show(k as i64);
-            io::write_all(STDOUT_FILENO, b" at ");
-            io::print_decimal(STDOUT_FILENO, p as u64);
-        }
+        Answer::Refused(k, p) => print!(rt; " refused {k} at {p}"),
         Answer::Accepted(w, v) => {
-            io::write_all(STDOUT_FILENO, b" accepted");
-            show(w);
-            show(v);
+            print!(rt; " accepted")?;
+            show(rt, w)?;
+            show(rt, v)
         }
     }
 }
 
-fn show_next(next: &[i32]) {
+fn show_next(rt: &impl Print, next: &[i32]) -> io::Result<()> {
     if next.len() < 17 {
-        io::write_all(STDOUT_FILENO, b", next");
-        show_table(next);
+        print!(rt; ", next")?;
+        show_table(rt, next)
     } else {
-        io::write_all(STDOUT_FILENO, b", sum of next");
-        show_sum(next);
+        print!(rt; ", sum of next")?;
+        show_sum(rt, next)
     }
 }
 
 // The name of a case with its colon, and what came of it.
-pub fn line_of(case: &[u8], a: Answer, next: &[i32]) {
+pub fn line_of(rt: &impl Print, case: &[u8], a: Answer, next: &[i32]) -> io::Result<()> {
     let n = field(case, 1);
-    io::write_all(STDOUT_FILENO, &case[0..n]);
-    show_answer(a);
-    show_next(next);
-    io::write_all(STDOUT_FILENO, b"\n");
+    io::writer(rt).write_all(&case[0..n])?;
+    show_answer(rt, a)?;
+    show_next(rt, next)?;
+    println!(rt; "")
 }
