@@ -2,7 +2,7 @@
 -- Assumes nothing.
 use mathlib.Core.Path.{◌≡◌, refl}
 use mathlib.Core.Bool.{Bool, true, false, ◌&&◌}
-use borrow.Author.Tests.{not_true}
+use borrow.Author.Tests.{not-true}
 use lib.IntN.{ℤ}
 use Rattle.whole.specs.Flags.{and_l, and_r}
 use Rattle.whole.specs.Parts.{Within}
@@ -18,7 +18,7 @@ use Rattle.face.specs.Given.{speed_fits, side_fits, face_given}
 -- ---- from the tests
 speed_in : (u : ℤ) → speed_fits u ≡ true → Within 131072 u
 unfolding speed_fits
-speed_in u e = within_past 131072 u (not_true (past fastest u) e)
+speed_in u e = within_past 131072 u (not-true (past fastest u) e)
 
 pub side_in : (x : Side) → side_fits x ≡ true → Sound x
 unfolding side_fits

@@ -3,7 +3,7 @@
 use mathlib.Core.Path.{◌≡◌, ap}
 use mathlib.Core.Bool.{true, not}
 use Prim.Native.Nat.{ℕ}
-use borrow.Author.Tests.{not_true}
+use borrow.Author.Tests.{not-true}
 use lib.IntN.{ℤ, pos}
 use lib.Signed.{le_z, lt_z, ◌≤ℤ◌, ◌<ℤ◌}
 use Rattle.whole.specs.Flags.{and_l, and_r}
@@ -22,7 +22,7 @@ use Rattle.friction.specs.Given.{step_fits, rough_fits, wet_fits, speed_fits, st
 -- ---- a number in a list that starts at nought
 up_to : (m : ℕ) (x : ℤ) → not (outside (pos 0) (pos m) x) ≡ true → (pos 0 ≤ℤ x) × Within m x
 up_to m x e =
-    let f = not_true (outside (pos 0) (pos m) x) e in
+    let f = not-true (outside (pos 0) (pos m) x) e in
     let low = above_least (pos 0) (pos m) x f in
     (low, b_nonneg low (below_most (pos 0) (pos m) x f))
 
@@ -46,7 +46,7 @@ wet_in h e =
 
 pub speed_in : (u : ℤ) → speed_fits u ≡ true → UpTo fastest u
 unfolding speed_fits
-speed_in u e = within_past 131072 u (not_true (past fastest u) e)
+speed_in u e = within_past 131072 u (not-true (past fastest u) e)
 
 pub strength_in : (x : ℤ) → strength_fits x ≡ true → (pos 0 ≤ℤ x) × UpTo strongest x
 unfolding strength_fits

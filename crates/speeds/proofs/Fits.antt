@@ -2,7 +2,7 @@
 -- Assumes nothing.
 use mathlib.Core.Path.{◌≡◌, refl, sym, ◌∙◌, ap}
 use mathlib.Core.Bool.{Bool, true, false, not, cond}
-use borrow.Author.Tests.{not_true}
+use borrow.Author.Tests.{not-true}
 use lib.IntN.{ℤ, pos}
 use lib.Signed.{◌≤ℤ◌}
 use Rattle.whole.specs.Parts.{Within}
@@ -22,15 +22,15 @@ use Rattle.speeds.specs.declared.answer.Whole.TheVariants as whole
 -- ---- from the tests
 pub depth_in : (h : ℤ) → depth_fits h ≡ true → (pos 0 ≤ℤ h) × (h ≤ℤ deepest)
 unfolding depth_fits
-depth_in h e = let f = not_true (outside (pos 0) deepest h) e in (above_least (pos 0) deepest h f, below_most (pos 0) deepest h f)
+depth_in h e = let f = not-true (outside (pos 0) deepest h) e in (above_least (pos 0) deepest h f, below_most (pos 0) deepest h f)
 
 pub discharge_in : (q : ℤ) → discharge_fits q ≡ true → Within 8388608 q
 unfolding discharge_fits
-discharge_in q e = within_past 8388608 q (not_true (past fullest q) e)
+discharge_in q e = within_past 8388608 q (not-true (past fullest q) e)
 
 pub dry_in : (d : ℤ) → dry_fits d ≡ true → DryDepth d
 unfolding dry_fits
-dry_in d e = in_list d (not_true (bad_dry d) e)
+dry_in d e = in_list d (not-true (bad_dry d) e)
 
 -- ---- to the tests
 pub in_depth : (h : ℤ) → pos 0 ≤ℤ h → h ≤ℤ deepest → depth_fits h ≡ true

@@ -9,7 +9,7 @@
 -- Assumes nothing.
 use Rattle.std.specs.Prelude.{◌≡◌, refl, List, [], ◌∷◌, Bool, true, false, not, ◌&&◌, ℕ, zero, suc, ◌+◌, ◌*◌, ◌/◌, ◌^◌, ◌<◌, ℤ, pos, negsuc, nat_abs, ◌+ℤ◌, ◌-ℤ◌, ◌*ℤ◌, ◌<ℤ◌}
 use Rattle.std.proofs.Common.{sym, ◌∙◌, ap, ap₂, subst, arith, SFits, to_z, of_z}
-use Rattle.std.proofs.lemmas.Bool.{not_true, not_false}
+use Rattle.std.proofs.lemmas.Bool.{not-true, not-false}
 use lib.Dec.{T, ltb, lit≤}
 use Rattle.std.specs.Int.Signed.{mag, nat_abs-le, quot_z}
 use Rattle.std.specs.Int.{w32, w64}
@@ -184,10 +184,10 @@ divisor ρ e t h = bits_pos (subst (λ (x : ℤ). pos 0 <ℤ x) (sym (raw_got ρ
 -- what a function said of a local, where the code goes on by its negation
 module _ (f : ℤ → Bool) {x : ℤ} {b : Bool} (h : SFits w64 x) (e : b ≡ f (to_z w64 (of_z w64 x))) where
   pub said_no : not b ≡ true → f x ≡ false
-  said_no t = sym (e ∙ ap f (to_z-of_z w64 x h)) ∙ not_true b t
+  said_no t = sym (e ∙ ap f (to_z-of_z w64 x h)) ∙ not-true b t
 
   pub said_yes : not b ≡ false → f x ≡ true
-  said_yes t = sym (e ∙ ap f (to_z-of_z w64 x h)) ∙ not_false b t
+  said_yes t = sym (e ∙ ap f (to_z-of_z w64 x h)) ∙ not-false b t
 
 -- ---- numbers of lent tables, which are i32 and u16: `h` is what the read's `.given` says
 -- a number that the machine wrote and read back

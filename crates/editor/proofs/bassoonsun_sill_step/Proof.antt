@@ -13,7 +13,7 @@ module _ (w : tie.After-step) where
 
   abbrev call : Lent
   call = let p = s.args in
-      sill_lend p.state.now (length p.next.now) p.bed.now p.friction.now p.dx p.dt p.dry p.left p.right
+      sill_lend p.state.now (length p.next-1.now) p.bed.now p.friction.now p.dx p.dt p.dry p.left p.right
 
   gave : Gives (step_of call) w.step.result s.args.next.now w.step.last.1.0
   gave = w.step.ensures
@@ -24,5 +24,5 @@ tell-requires c κs = let w = c.before.before.before in sill_place (call w) (gav
 returns : tie.Need-returns
 returns c = step_told (gave c.before.before.before.before) c.tell.ensures
 
-pub bassoonsun-sill-step-spec : {M : Type 1} → statement M
-bassoonsun-sill-step-spec = tie.close (tie.spec (λ c κs. search rules) tell-requires (λ c. search rules) returns)
+pub bassoonsun_sill_step_spec : {M : Type 1} → statement M
+bassoonsun_sill_step_spec = tie.close (tie.spec (λ c κs. search rules) tell-requires (λ c. search rules) returns)

@@ -4,7 +4,7 @@ use Rattle.std.specs.Prelude.{◌≡◌, Bool, true, false, ◌||◌, List, ℕ,
 use Rattle.std.proofs.Math.Path.{refl, ap}
 use Rattle.std.proofs.Common.{sym, ◌∙◌, arith, eqb-true, eq-eqb, ne_eqb, ltb-false}
 use Rattle.std.proofs.Math.Bool.{cond}
-use Rattle.std.proofs.lemmas.Bool.{not_false}
+use Rattle.std.proofs.lemmas.Bool.{not-false}
 use Rattle.whole.specs.Flags.{by, or_l, or_r}
 use Rattle.tables.specs.Some.{some}
 use Rattle.rules.specs.Refusals.{verdict}
@@ -22,7 +22,7 @@ pub sums_fit : (sums n : ℕ) → sums ≡ blocks_of n → misfit_sums sums n �
 sums_fit sums n e = rw (eq-eqb sums (blocks_of n) e) refl
 
 pub as_many : (sums n : ℕ) → misfit_sums sums n ≡ false → sums ≡ blocks_of n
-as_many sums n e = eqb-true sums (blocks_of n) (not_false (eqb sums (blocks_of n)) e)
+as_many sums n e = eqb-true sums (blocks_of n) (not-false (eqb sums (blocks_of n)) e)
 
 -- ---- making them
 module _ (bed t : List ℤ) (sums : ℕ) where

@@ -123,6 +123,7 @@ large_of r s w e = let f = some_yes (off r s) r.n e in let i = f.0 in let b = un
     go b x n (inr (inl a)) = inr (inl (too_deep (hr b x) n.right a))
     go b x n (inr (inr (inl a))) = inr (inr (inl (lt_yes fullest (size_z (ql x)) a)))
     go b x n (inr (inr (inr (inl a)))) = inr (inr (inr (lt_yes fullest (size_z (qr x)) a)))
+    go b x n (inr (inr (inr (inr z)))) = elim z [ ]
 
 module _ (r : Reach) (law : Lawful r.face) (c : Call) (s : State) where
   -- stage one's finished state, and the end state, have no depth below nought

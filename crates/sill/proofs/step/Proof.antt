@@ -35,33 +35,33 @@ module _ (s : tie.Start) where
   abbrev lent : Lent
   lent = let p = s.args in lent_by p.state.now room p.bed.now p.friction.now p.given
 
-module _ (c : tie.Else1) where
+module _ (c : tie.Else-bad_lengths) where
   abbrev s : tie.Start
   s = c.before.before.before
 
   lengths : misfit (states s) (room s) (beds s) (n s) ≡ false
-  lengths = sym c.before.bad-lengths.ensures ∙ c.if1.false
+  lengths = sym c.before.bad_lengths.ensures ∙ c.if-bad_lengths.false
 
   fits : Fitted (states s) (room s) (beds s) (n s)
   fits = fitted (states s) (room s) (beds s) (n s) lengths
 
-returns : tie.Need-returns
-returns c = let b = c.before.before.before in let p = b.args in
+returns-then-bad_lengths : tie.Need-returns-then-bad_lengths
+returns-then-bad_lengths c = let b = c.before.before.before in let p = b.args in
     length_refused p.state.now (room b) p.bed.now p.friction.now p.given
-    (sym c.before.bad-lengths.ensures ∙ c.if1.true) _
+    (sym c.before.bad_lengths.ensures ∙ c.if-bad_lengths.true) _
 
 -- ---- the numbers of the call, widened
-module _ (c : tie.After-bad-numbers) where
-  abbrev w3 : tie.After-widened3
+module _ (c : tie.After-bad_numbers) where
+  abbrev w3 : tie.After-widened-3
   w3 = c.before
 
-  abbrev w2 : tie.After-widened2
+  abbrev w2 : tie.After-widened-2
   w2 = w3.before
 
   abbrev w1 : tie.After-widened
   w1 = w2.before
 
-  abbrev fit : tie.Else1
+  abbrev fit : tie.Else-bad_lengths
   fit = w1.before
 
   -- as the code has them, and as they were given
@@ -69,8 +69,8 @@ module _ (c : tie.After-bad-numbers) where
   call = let g = (s fit).args.given in record {
     n = n (s fit);
     dx = rd w1.widened.result;
-    dt = rd w2.widened2.result;
-    dry = rd w3.widened3.result;
+    dt = rd w2.widened-2.result;
+    dry = rd w3.widened-3.result;
     left = g.left;
     right = g.right;
   }
@@ -79,55 +79,55 @@ module _ (c : tie.After-bad-numbers) where
   call_is =
       let g = (s fit).args.given in
       let dx = back64 w1.widened.ok w1.widened.ensures in
-      let dt = back64 w2.widened2.ok w2.widened2.ensures in
-      let dry = back64 w3.widened3.ok w3.widened3.ensures in
+      let dt = back64 w2.widened-2.ok w2.widened-2.ensures in
+      let dry = back64 w3.widened-3.ok w3.widened-3.ensures in
       λ j. record { n = n (s fit); dx = dx j; dt = dt j; dry = dry j; left = g.left; right = g.right }
 
-  judged : bad_call (reach_of (lent (s fit))) (call_of (lent (s fit))) ≡ c.bad-numbers.result
+  judged : bad_call (reach_of (lent (s fit))) (call_of (lent (s fit))) ≡ c.bad_numbers.result
   judged = let p = (s fit).args in let rough : ℕ → ℤ = λ i. pos (get_or p.friction.now i 0) in
-      sym (c.bad-numbers.ensures p.bed.now rough
+      sym (c.bad_numbers.ensures p.bed.now rough
       ∙ (λ j. bad_call (reach_in (call_is j) p.bed.now) (call_in (call_is j) rough)))
 
-returns-2 : tie.Need-returns-2
-returns-2 c = let m = c.before in let e = fit m in let p = (s e).args in
-    call_refused p.state.now (room (s e)) p.bed.now p.friction.now p.given (lengths e) (judged m ∙ c.if2.true) _
+returns-then-bad_numbers : tie.Need-returns-then-bad_numbers
+returns-then-bad_numbers c = let m = c.before in let e = fit m in let p = (s e).args in
+    call_refused p.state.now (room (s e)) p.bed.now p.friction.now p.given (lengths e) (judged m ∙ c.if-bad_numbers.true) _
 
 -- ---- a call in order
-module _ (e : tie.Else2) where
-  abbrev m : tie.After-bad-numbers
+module _ (e : tie.Else-bad_numbers) where
+  abbrev m : tie.After-bad_numbers
   m = e.before
 
   abbrev start : tie.Start
   start = s (fit m)
 
-  asked : let p = start.args in Numbers (call m) × Lengths (call m) p.state.now p.next.now p.bed.now p.friction.now
+  asked : let p = start.args in Numbers (call m) × Lengths (call m) p.state.now p.next-1.now p.bed.now p.friction.now
   asked = let p = start.args in let f = fits (fit m) in let rough : ℕ → ℤ = λ i. pos (get_or p.friction.now i 0) in (
-    numbers (call m) p.bed.now rough f.some f.most (sym (m.bad-numbers.ensures p.bed.now rough) ∙ e.if2.left),
-    record { state_is = f.now; next_is = f.next; bed_is = f.beds; friction_is = refl },
+    numbers (call m) p.bed.now rough f.some f.most (sym (m.bad_numbers.ensures p.bed.now rough) ∙ e.if-bad_numbers.left),
+    record { state_is = f.now; next_is = f.next-1; bed_is = f.beds; friction_is = refl },
   )
 
   outcome_is : let p = start.args in tables_outcome (call m) p.bed.now p.friction.now p.state.now ≡ step_of (lent start)
   outcome_is = let p = start.args in
       (λ j. tables_outcome (call_is m j) p.bed.now p.friction.now p.state.now)
-      ∙ further p.state.now (room start) p.bed.now p.friction.now p.given (lengths (fit m)) (judged m ∙ e.if2.left)
+      ∙ further p.state.now (room start) p.bed.now p.friction.now p.given (lengths (fit m)) (judged m ∙ e.if-bad_numbers.left)
 
-returns-3 : tie.Need-returns-3
-returns-3 c = same_gives (outcome_is c.before.before.before.before) c.before.short-step.ensures
+returns-then-n-le-SHORT_CELLS : tie.Need-returns-then-n-le-SHORT_CELLS
+returns-then-n-le-SHORT_CELLS c = same_gives (outcome_is c.before.before.before.before) c.before.short_step.ensures
 
-returns-4 : tie.Need-returns-4
-returns-4 c = same_gives (outcome_is c.before.before.before.before) c.before.long-step.ensures
+returns : tie.Need-returns
+returns c = same_gives (outcome_is c.before.before.before.before) c.before.long_step.ensures
 
 pub step_spec : {M : Type 1} → statement M
 step_spec =
     tie.close
     (tie.spec
     (λ c κs. search rules)
-    returns
+    returns-then-bad_lengths
     (λ c κs. search rules) (λ c κs. search rules) (λ c κs. search rules) (λ c κs. search rules)
-    returns-2
+    returns-then-bad_numbers
     (λ c κs. asked c.before.before)
     (λ c. search rules)
-    returns-3
+    returns-then-n-le-SHORT_CELLS
     (λ c κs. asked c.before.before)
     (λ c. search rules)
-    returns-4)
+    returns)

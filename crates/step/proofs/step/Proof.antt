@@ -14,16 +14,16 @@ module _ (w : tie.After-work) where
   s = w.before.before.before
 
   abbrev call : Lent
-  call = let p = s.args in lent_by p.state.now (length p.next.now) p.bed.now p.friction.now p.call
+  call = let p = s.args in lent_by p.state.now (length p.next-1.now) p.bed.now p.friction.now p.call
 
-returns : tie.Need-returns
-returns c =
-    let told = c.before.k.given in let w = c.before.before.before.before in
+returns-in-Refused : tie.Need-returns-in-Refused
+returns-in-Refused c =
+    let told = c.before.k-1.given in let w = c.before.before.before.before in
     worked_none (call w) w.work.result (s w).args.next.now _ w.work.ensures told.0.0 told.0.1.0 told.1
 
-returns-2 : tie.Need-returns-2
-returns-2 c =
-    let told = c.before.w.given in let w = c.before.before.before.before in
+returns-in-Done : tie.Need-returns-in-Done
+returns-in-Done c =
+    let told = c.before.w-1.given in let w = c.before.before.before.before in
     let p = told.0.0 in let q = told.0.1.0 in
     let v = worked_volumes (call w) w.work.result (s w).args.next.now _ w.work.ensures p q told.1 in
     rw (to_z-of_z (fit v.0 tt), to_z-of_z (fit v.1 tt))
@@ -34,6 +34,6 @@ step_spec =
     tie.close
     (tie.spec
     (λ c κs. search rules) (λ c. search rules) (λ c. search rules) (λ c. search rules)
-    returns
+    returns-in-Refused
     (λ c. search rules)
-    returns-2)
+    returns-in-Done)

@@ -16,59 +16,59 @@ use Rattle.sums.proofs.read.Statement.{statement}
 use Rattle.sums.proofs.read.Tie as tie
 
 -- ---- the cut
-module _ (c : tie.After-split-between) where
+module _ (c : tie.After-split_between-s) where
   abbrev s : tie.Start
   s = c.before.before
 
   abbrev at : Split
-  at = c.split_between.result
+  at = c.split_between-s.result
 
   cut : Cut (cells_over s.args.bed.now) s.args.a s.args.b at.head at.first at.last at.tail
-  cut = rw (← c.before.cells_over.ensures) c.split_between.ensures
+  cut = rw (← c.before.cells_over.ensures) c.split_between-s.ensures
 
-depths-requires : tie.Need-depths-requires
-depths-requires c κs = let k = cut c in let p = (s c).requires in let f = p.0 in (
+depths-before-requires : tie.Need-depths-before-requires
+depths-before-requires c κs = let k = cut c in let p = (s c).requires in let f = p.0 in (
   k.before,
   omega (arith, k.inside, k.behind, p, f.most),
   omega (arith, k.inside, k.behind, p, f.state),
   omega (arith, k.inside, k.behind, p, f.some),
 )
 
-added-requires : tie.Need-added-requires
-added-requires c κs = let k = cut c.before in let f = (s c.before).pre.0 in
+added-whole-requires : tie.Need-added-whole-requires
+added-whole-requires c κs = let k = cut c.before in let f = (s c.before).requires.0 in
     (k.order, omega (arith, k.most, f.most), omega (arith, k.most, f.blocks))
 
-depths-requires-2 : tie.Need-depths-requires-2
-depths-requires-2 c κs = let k = cut c.before.before in let p = (s c.before.before).pre in let f = p.0 in
+depths-behind-requires : tie.Need-depths-behind-requires
+depths-behind-requires c κs = let k = cut c.before.before in let p = (s c.before.before).requires in let f = p.0 in
     (k.behind, omega (arith, p, f.most), omega (arith, p, f.state), omega (arith, p, f.some))
 
 -- ---- the three sums
-module _ (c : tie.After-depths2) where
-  abbrev blocks : tie.After-added
+module _ (c : tie.After-depths-behind) where
+  abbrev blocks : tie.After-added-whole
   blocks = c.before
 
-  abbrev head : tie.After-depths
+  abbrev head : tie.After-depths-before
   head = blocks.before
 
-  abbrev split : tie.After-split-between
+  abbrev split : tie.After-split_between-s
   split = head.before
 
   abbrev env : List Entry
   env =
-      let k = cut split in let p = (s split).pre in let f = p.0 in
-      entry (record { sfits = blocks.added.ok }) (added_most blocks.added.ensures (omega (arith, k.most, f.most)))
-      ∷ entry (record { sfits = head.depths.ok }) (added_most head.depths.ensures (omega (arith, k.inside, k.behind, p, f.most)))
-      ∷ entry (record { sfits = c.depths2.type-inv }) (added_most c.depths2.ensures (omega (arith, p, f.most)))
+      let k = cut split in let p = (s split).requires in let f = p.0 in
+      entry (record { sfits = blocks.added-whole.ok }) (added_most blocks.added-whole.ensures (omega (arith, k.most, f.most)))
+      ∷ entry (record { sfits = head.depths-before.ok }) (added_most head.depths-before.ensures (omega (arith, k.inside, k.behind, p, f.most)))
+      ∷ entry (record { sfits = c.depths-behind.type_inv }) (added_most c.depths-behind.ensures (omega (arith, p, f.most)))
       ∷ []
 
 abbrev all : X
 all = v 0 ⊕ (v 1 ⊕ v 2)
 
-add-cells : tie.Need-overflow-add-t11
-add-cells c = need (env c) (v 1 ⊕ v 2) tt
+overflow_add-result : tie.Need-overflow_add-result
+overflow_add-result c = need (env c) (v 1 ⊕ v 2) tt
 
-add-all : tie.Need-overflow-add-t12
-add-all c = need (env c) all tt
+overflow_add-result-2 : tie.Need-overflow_add-result-2
+overflow_add-result-2 c = need (env c) all tt
 
 returns : tie.Need-returns
 returns c =
@@ -76,7 +76,7 @@ returns c =
     let bed = p.bed.now in let state = p.state.now in let sums = p.sums.now in
     let is = cut_reading bed state sums (cut (split l)) in
     asked_read (reading bed state sums p.a p.b) _ _ _
-    (value (env l) all tt ∙ ap₂ ◌+ℤ◌ (blocks l).added.ensures.is (ap₂ ◌+ℤ◌ h.depths.ensures.is l.depths2.ensures.is)
+    (value (env l) all tt ∙ ap₂ ◌+ℤ◌ (blocks l).added-whole.ensures.is (ap₂ ◌+ℤ◌ h.depths-before.ensures.is l.depths-behind.ensures.is)
     ∙ sym (ap (λ (r : Reading). r.water) is))
     (sym (ap (λ (r : Reading). r.cells) is)) (sym (ap (λ (r : Reading). r.blocks) is))
 
@@ -85,10 +85,10 @@ read_spec =
     tie.close
     (tie.spec
     (λ c κs. search rules) (λ c κs. search rules)
-    depths-requires
-    added-requires
-    depths-requires-2
-    add-cells
-    add-all
+    depths-before-requires
+    added-whole-requires
+    depths-behind-requires
+    overflow_add-result
+    overflow_add-result-2
     (λ c. search rules) (λ c. search rules) (λ c. search rules) (λ c. search rules)
     returns)

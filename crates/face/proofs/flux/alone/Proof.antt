@@ -14,8 +14,8 @@ use Rattle.face.specs.Answers.{carries}
 use Rattle.face.proofs.flux.alone.Statement.{statement}
 use Rattle.face.proofs.flux.alone.Tie as tie
 
-discharge-requires : tie.Need-discharge-requires
-discharge-requires c κs = search rules
+discharge-m-requires : tie.Need-discharge-m-requires
+discharge-m-requires c κs = search rules
 
 -- the depth, the speed and the discharge of the side
 abbrev env : tie.Start → List Entry
@@ -26,24 +26,24 @@ env s =
 abbrev carried : X
 carried = v 2 ⊗ v 1 ⊘ k (pos 4096)
 
-m_is : (c : tie.After-discharge) → c.discharge.result ≡ mass (side c.before.args.h c.before.args.u)
-m_is c = simp (to_z-of_z, c.before.ranges.h, c.before.ranges.u) at c.discharge.ensures
+m_is : (c : tie.After-discharge-m) → c.discharge-m.result ≡ mass (side c.before.args.h c.before.args.u)
+m_is c = simp (to_z-of_z, c.before.ranges.h, c.before.ranges.u) at c.discharge-m.ensures
 
-mul-t5 : tie.Need-overflow-mul-t5
-mul-t5 c = need (env c.before) (v 0 ⊗ v 0) tt
+overflow_mul-result : tie.Need-overflow_mul-result
+overflow_mul-result c = need (env c.before) (v 0 ⊗ v 0) tt
 
-mul-t6 : tie.Need-overflow-mul-t6
-mul-t6 c = rw (m_is c) (need (env c.before) (v 2 ⊗ v 1) tt)
+overflow_mul-result-2 : tie.Need-overflow_mul-result-2
+overflow_mul-result-2 c = rw (m_is c) (need (env c.before) (v 2 ⊗ v 1) tt)
 
-div-t7 : tie.Need-nonzero-div-t7
-div-t7 c = (lit< tt, rw (m_is c) (need (env c.before) carried tt))
+nonzero_div-result : tie.Need-nonzero_div-result
+nonzero_div-result c = (lit< tt, rw (m_is c) (need (env c.before) carried tt))
 
 returns : tie.Need-returns
 unfolding alone
 returns c =
     let s = c.before in
-    carries _ _ _ _ (alone (side s.args.h s.args.u) s.args.s) (back64 c.discharge.type-inv (m_is c))
+    carries _ _ _ _ (alone (side s.args.h s.args.u) s.args.s) (back64 c.discharge-m.type_inv (m_is c))
     (value (env s) (v 0 ⊗ v 0) tt) (rw (m_is c) (value (env s) carried tt)) (to_z-of_z s.ranges.s)
 
-pub alone-spec : {M : Type 1} → statement M
-alone-spec = tie.close (tie.spec discharge-requires mul-t5 mul-t6 div-t7 returns)
+pub alone_spec : {M : Type 1} → statement M
+alone_spec = tie.close (tie.spec discharge-m-requires overflow_mul-result overflow_mul-result-2 nonzero_div-result returns)

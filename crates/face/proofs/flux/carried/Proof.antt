@@ -38,38 +38,38 @@ resting_is hl ul hr ur e =
     )
 
 abbrev depth : tie.Start → List Entry
-depth s = entry s.ranges.hl (depth_size s.requires.0.0) ∷ []
+depth s = entry s.ranges.hl (depth_size s.requires.sound.0) ∷ []
 
-mul-t8 : tie.Need-overflow-mul-t8
-mul-t8 c = need (depth c.before.before) (v 0 ⊗ v 0) tt
+overflow_mul-result : tie.Need-overflow_mul-result
+overflow_mul-result c = need (depth c.before.before) (v 0 ⊗ v 0) tt
 
-returns : tie.Need-returns
-returns c =
+returns-then-still : tie.Need-returns-then-still
+returns-then-still c =
     let s = c.before.before in let hl = s.args.hl in
-    let r = law.still hl s.requires.0.0.least in
+    let r = law.still hl s.requires.sound.0.least in
     carries _ _ _ _ (face (resting hl) (resting hl)) (sym r.F≡) (value (depth s) (v 0 ⊗ v 0) tt ∙ sym r.K≡) (sym r.A≡)
-    (to_z-of_z s.ranges.al ∙ s.requires.1.0 ∙ sym (law.still_top hl s.requires.0.0.least))
-    ∙ ap given (resting_is hl _ _ _ (sym (still_is c.before) ∙ c.if1.true))
+    (to_z-of_z s.ranges.al ∙ s.requires.al_value.0 ∙ sym (law.still_top hl s.requires.sound.0.least))
+    ∙ ap given (resting_is hl _ _ _ (sym (still_is c.before) ∙ c.if-still.true))
 
 -- ---- no water
-both-dry-requires : tie.Need-both-dry-requires
-both-dry-requires c κs = search rules
+both_dry-requires : tie.Need-both_dry-requires
+both_dry-requires c κs = search rules
 
-dry_is : (c : tie.After-both-dry) → let p = c.before.before.before.args in c.both-dry.result ≡ (none p.hl && none p.hr)
-dry_is c = let s = c.before.before.before in simp (to_z-of_z, s.ranges.hl, s.ranges.hr) at c.both-dry.ensures
+dry_is : (c : tie.After-both_dry) → let p = c.before.before.before.args in c.both_dry.result ≡ (none p.hl && none p.hr)
+dry_is c = let s = c.before.before.before in simp (to_z-of_z, s.ranges.hl, s.ranges.hr) at c.both_dry.ensures
 
-returns-2 : tie.Need-returns-2
+returns-then-both_dry : tie.Need-returns-then-both_dry
 unfolding face nothing flux
-returns-2 c = rw (sym (dry_is c.before) ∙ c.if2.true)
+returns-then-both_dry c = rw (sym (dry_is c.before) ∙ c.if-both_dry.true)
 
 wet-requires : tie.Need-wet-requires
 wet-requires c κs = search rules
 
-returns-3 : tie.Need-returns-3
+returns : tie.Need-returns
 unfolding face wet_of
-returns-3 c =
+returns c =
     let t = c.before.before in let f = t.before.before.before.ranges in
-    rw (sym (dry_is t) ∙ c.before.if2.false) (simp (to_z-of_z, f.hl, f.ul, f.hr, f.ur) at c.wet.ensures)
+    rw (sym (dry_is t) ∙ c.before.if-both_dry.false) (simp (to_z-of_z, f.hl, f.ul, f.hr, f.ur) at c.wet.ensures)
 
-pub carried-spec : {M : Type 1} → statement M
-carried-spec = tie.close (tie.spec still-requires mul-t8 returns both-dry-requires returns-2 wet-requires returns-3)
+pub carried_spec : {M : Type 1} → statement M
+carried_spec = tie.close (tie.spec still-requires overflow_mul-result returns-then-still both_dry-requires returns-then-both_dry wet-requires returns)

@@ -18,66 +18,66 @@ env s = waves s.requires
 abbrev front : X
 front = v 2 ⊝ k (pos 2) ⊗ v 3
 
-mul-result : tie.Need-overflow-mul-result
-mul-result c = need (env c.before) (k (pos 2) ⊗ v 3) tt
+overflow_mul-result : tie.Need-overflow_mul-result
+overflow_mul-result c = need (env c.before) (k (pos 2) ⊗ v 3) tt
 
-sub-result : tie.Need-overflow-sub-result
-sub-result c = need (env c.before) front tt
+overflow_sub-result : tie.Need-overflow_sub-result
+overflow_sub-result c = need (env c.before) front tt
 
-returns : tie.Need-returns
+returns-then-hl-le0 : tie.Need-returns-then-hl-le0
 unfolding left_of
-returns c =
+returns-then-hl-le0 c =
     let s = c.before in
-    rw (simp (to_z-of_z, s.ranges.hl) at c.if1.true) (value (env s) front tt)
+    rw (simp (to_z-of_z, s.ranges.hl) at c.if-hl-le0.true) (value (env s) front tt)
 
 -- ---- over water
-star-speed-requires : tie.Need-star-speed-requires
-star-speed-requires c κs = search rules
+star_speed-us-requires : tie.Need-star_speed-us-requires
+star_speed-us-requires c κs = search rules
 
-star-wave-requires : tie.Need-star-wave-requires
-star-wave-requires c κs = search rules
+star_wave-ws-requires : tie.Need-star_wave-ws-requires
+star_wave-ws-requires c κs = search rules
 
 abbrev own : X
 own = v 0 ⊝ v 1
 
-sub-least : tie.Need-overflow-sub-least
-sub-least c = need (env c.before.before.before) own tt
+overflow_sub-ul : tie.Need-overflow_sub-ul
+overflow_sub-ul c = need (env c.before.before.before) own tt
 
 -- u* - a*
 abbrev between : X
 between = v 4 ⊝ v 5
 
-module _ (c : tie.After-star-wave) where
-  u_is : let p = c.before.before.before.args in c.before.star-speed.result ≡ u_star_of p.ul p.al p.ur p.ar
-  u_is = read_back u_star_of c.before.before.before.requires c.before.star-speed.ensures
+module _ (c : tie.After-star_wave-ws) where
+  u_is : let p = c.before.before.before.args in c.before.star_speed-us.result ≡ u_star_of p.ul p.al p.ur p.ar
+  u_is = read_back u_star_of c.before.before.before.requires c.before.star_speed-us.ensures
 
-  a_is : let p = c.before.before.before.args in c.star-wave.result ≡ a_star_of p.ul p.al p.ur p.ar
-  a_is = read_back a_star_of c.before.before.before.requires c.star-wave.ensures
+  a_is : let p = c.before.before.before.args in c.star_wave-ws.result ≡ a_star_of p.ul p.al p.ur p.ar
+  a_is = read_back a_star_of c.before.before.before.requires c.star_wave-ws.ensures
 
-sub-least-2 : tie.Need-overflow-sub-least-2
-sub-least-2 c = rw (u_is c, a_is c) (need (env c.before.before.before) between tt)
+overflow_sub-us : tie.Need-overflow_sub-us
+overflow_sub-us c = rw (u_is c, a_is c) (need (env c.before.before.before) between tt)
 
 least-requires : tie.Need-least-requires
 least-requires c κs = search rules
 
-returns-2 : tie.Need-returns-2
+returns : tie.Need-returns
 unfolding left_of
-returns-2 c =
+returns c =
     let w = c.before in
     let s = w.before.before.before in
-    rw (to_z-of_z (record { sfits = c.least.type-inv }), simp (to_z-of_z, s.ranges.hl) at w.before.before.if1.false)
+    rw (to_z-of_z (record { sfits = c.least.type_inv }), simp (to_z-of_z, s.ranges.hl) at w.before.before.if-hl-le0.false)
     (c.least.ensures ∙ ap₂ min_z (value (env s) own tt) (rw (u_is w, a_is w) (value (env s) between tt)))
 
-pub left-wave-spec : {M : Type 1} → statement M
-left-wave-spec =
+pub left_wave_spec : {M : Type 1} → statement M
+left_wave_spec =
     tie.close
     (tie.spec
-    mul-result
-    sub-result
-    returns
-    star-speed-requires
-    star-wave-requires
-    sub-least
-    sub-least-2
+    overflow_mul-result
+    overflow_sub-result
+    returns-then-hl-le0
+    star_speed-us-requires
+    star_wave-ws-requires
+    overflow_sub-ul
+    overflow_sub-us
     least-requires
-    returns-2)
+    returns)

@@ -18,66 +18,66 @@ env s = waves s.requires
 abbrev front : X
 front = v 0 ⊕ k (pos 2) ⊗ v 1
 
-mul-result : tie.Need-overflow-mul-result
-mul-result c = need (env c.before) (k (pos 2) ⊗ v 1) tt
+overflow_mul-result : tie.Need-overflow_mul-result
+overflow_mul-result c = need (env c.before) (k (pos 2) ⊗ v 1) tt
 
-add-result : tie.Need-overflow-add-result
-add-result c = need (env c.before) front tt
+overflow_add-result : tie.Need-overflow_add-result
+overflow_add-result c = need (env c.before) front tt
 
-returns : tie.Need-returns
+returns-then-hr-le0 : tie.Need-returns-then-hr-le0
 unfolding right_of
-returns c =
+returns-then-hr-le0 c =
     let s = c.before in
-    rw (simp (to_z-of_z, s.ranges.hr) at c.if1.true) (value (env s) front tt)
+    rw (simp (to_z-of_z, s.ranges.hr) at c.if-hr-le0.true) (value (env s) front tt)
 
 -- ---- over water
-star-speed-requires : tie.Need-star-speed-requires
-star-speed-requires c κs = search rules
+star_speed-us-requires : tie.Need-star_speed-us-requires
+star_speed-us-requires c κs = search rules
 
-star-wave-requires : tie.Need-star-wave-requires
-star-wave-requires c κs = search rules
+star_wave-ws-requires : tie.Need-star_wave-ws-requires
+star_wave-ws-requires c κs = search rules
 
 abbrev own : X
 own = v 2 ⊕ v 3
 
-add-greatest : tie.Need-overflow-add-greatest
-add-greatest c = need (env c.before.before.before) own tt
+overflow_add-ur : tie.Need-overflow_add-ur
+overflow_add-ur c = need (env c.before.before.before) own tt
 
 -- u* + a*
 abbrev between : X
 between = v 4 ⊕ v 5
 
-module _ (c : tie.After-star-wave) where
-  u_is : let p = c.before.before.before.args in c.before.star-speed.result ≡ u_star_of p.ul p.al p.ur p.ar
-  u_is = read_back u_star_of c.before.before.before.requires c.before.star-speed.ensures
+module _ (c : tie.After-star_wave-ws) where
+  u_is : let p = c.before.before.before.args in c.before.star_speed-us.result ≡ u_star_of p.ul p.al p.ur p.ar
+  u_is = read_back u_star_of c.before.before.before.requires c.before.star_speed-us.ensures
 
-  a_is : let p = c.before.before.before.args in c.star-wave.result ≡ a_star_of p.ul p.al p.ur p.ar
-  a_is = read_back a_star_of c.before.before.before.requires c.star-wave.ensures
+  a_is : let p = c.before.before.before.args in c.star_wave-ws.result ≡ a_star_of p.ul p.al p.ur p.ar
+  a_is = read_back a_star_of c.before.before.before.requires c.star_wave-ws.ensures
 
-add-greatest-2 : tie.Need-overflow-add-greatest-2
-add-greatest-2 c = rw (u_is c, a_is c) (need (env c.before.before.before) between tt)
+overflow_add-us : tie.Need-overflow_add-us
+overflow_add-us c = rw (u_is c, a_is c) (need (env c.before.before.before) between tt)
 
 greatest-requires : tie.Need-greatest-requires
 greatest-requires c κs = search rules
 
-returns-2 : tie.Need-returns-2
+returns : tie.Need-returns
 unfolding right_of
-returns-2 c =
+returns c =
     let w = c.before in
     let s = w.before.before.before in
-    rw (to_z-of_z (record { sfits = c.greatest.type-inv }), simp (to_z-of_z, s.ranges.hr) at w.before.before.if1.false)
+    rw (to_z-of_z (record { sfits = c.greatest.type_inv }), simp (to_z-of_z, s.ranges.hr) at w.before.before.if-hr-le0.false)
     (c.greatest.ensures ∙ ap₂ max_z (value (env s) own tt) (rw (u_is w, a_is w) (value (env s) between tt)))
 
-pub right-wave-spec : {M : Type 1} → statement M
-right-wave-spec =
+pub right_wave_spec : {M : Type 1} → statement M
+right_wave_spec =
     tie.close
     (tie.spec
-    mul-result
-    add-result
-    returns
-    star-speed-requires
-    star-wave-requires
-    add-greatest
-    add-greatest-2
+    overflow_mul-result
+    overflow_add-result
+    returns-then-hr-le0
+    star_speed-us-requires
+    star_wave-ws-requires
+    overflow_add-ur
+    overflow_add-us
     greatest-requires
-    returns-2)
+    returns)

@@ -15,59 +15,56 @@ use Rattle.face.proofs.flux.Waves.{top_is}
 use Rattle.face.proofs.flux.sided.Statement.{statement}
 use Rattle.face.proofs.flux.sided.Tie as tie
 
-top-speed-requires : tie.Need-top-speed-requires
-top-speed-requires c κs = search rules
+top_speed-s-requires : tie.Need-top_speed-s-requires
+top_speed-s-requires c κs = search rules
 
-top_at : (c : tie.After-top-speed) → let p = c.before.args in
-    to_z w64 (of_z w64 c.top-speed.result) ≡ top (side p.hl p.ul) (side p.hr p.ur) p.sl p.sr
+top_at : (c : tie.After-top_speed-s) → let p = c.before.args in
+    to_z w64 (of_z w64 c.top_speed-s.result) ≡ top (side p.hl p.ul) (side p.hr p.ur) p.sl p.sr
 top_at c =
     let s = c.before in let p = s.args in
-    back64 c.top-speed.type-inv ((simp (to_z-of_z, s.ranges.sl, s.ranges.sr, s.ranges.ul, s.ranges.ur) at c.top-speed.ensures)
+    back64 c.top_speed-s.type_inv ((simp (to_z-of_z, s.ranges.sl, s.ranges.sr, s.ranges.ul, s.ranges.ur) at c.top_speed-s.ensures)
     ∙ top_is (side p.hl p.ul) (side p.hr p.ur) p.sl p.sr)
 
 alone-requires : tie.Need-alone-requires
 alone-requires c κs = search rules
 
-returns : tie.Need-returns
+returns-then-sl-ge0 : tie.Need-returns-then-sl-ge0
 unfolding wet sided
-returns c =
+returns-then-sl-ge0 c =
     let t = c.before.before in let s = t.before in
-    rw (simp (to_z-of_z, s.ranges.sl) at c.before.if1.true)
+    rw (simp (to_z-of_z, s.ranges.sl) at c.before.if-sl-ge0.true)
     (rw (to_z-of_z s.ranges.hl, to_z-of_z s.ranges.ul, top_at t) at c.alone.ensures)
 
-alone-requires-2 : tie.Need-alone-requires-2
-alone-requires-2 c κs = search rules
+alone-requires-then-sr-le0 : tie.Need-alone-requires-then-sr-le0
+alone-requires-then-sr-le0 c κs = search rules
 
-returns-2 : tie.Need-returns-2
+returns-then-sr-le0 : tie.Need-returns-then-sr-le0
 unfolding wet sided
-returns-2 c =
+returns-then-sr-le0 c =
     let e = c.before.before in let t = e.before in let s = t.before in
-    rw (simp (to_z-of_z, s.ranges.sl) at e.if1.false, simp (to_z-of_z, s.ranges.sr) at c.before.if2.true)
-    (rw (to_z-of_z s.ranges.hr, to_z-of_z s.ranges.ur, top_at t) at c.alone2.ensures)
+    rw (simp (to_z-of_z, s.ranges.sl) at e.if-sl-ge0.false, simp (to_z-of_z, s.ranges.sr) at c.before.if-sr-le0.true)
+    (rw (to_z-of_z s.ranges.hr, to_z-of_z s.ranges.ur, top_at t) at c.alone-then-sr-le0.ensures)
 
-module _ (c : tie.Else2) where
+module _ (c : tie.Else-sr-le0) where
   leftward : le_z (pos 0) c.before.before.before.args.sl ≡ false
-  leftward = simp (to_z-of_z, c.before.before.before.ranges.sl) at c.before.if1.false
+  leftward = simp (to_z-of_z, c.before.before.before.ranges.sl) at c.before.if-sl-ge0.false
 
   rightward : le_z c.before.before.before.args.sr (pos 0) ≡ false
-  rightward = simp (to_z-of_z, c.before.before.before.ranges.sr) at c.if2.false
+  rightward = simp (to_z-of_z, c.before.before.before.ranges.sr) at c.if-sr-le0.false
 
 between-requires : tie.Need-between-requires
 between-requires c κs =
     let s = c.before.before.before in
-    simp (to_z-of_z, s.ranges.hl, s.ranges.ul, s.ranges.hr, s.ranges.ur, s.ranges.sl, s.ranges.sr) (
-      s.requires.0,
-      record {
+    simp (to_z-of_z, s.ranges.hl, s.ranges.ul, s.ranges.hr, s.ranges.ur, s.ranges.sl, s.ranges.sr) record { sound = s.requires.sound; apart = record {
         left = le_no (pos 0) s.args.sl (leftward c);
         right = le_no s.args.sr (pos 0) (rightward c);
-        s_l_in = s.requires.1.s_l_in;
-        s_r_in = s.requires.1.s_r_in;
-      },
-    )
+        s_l_in = s.requires.edges.s_l_in;
+        s_r_in = s.requires.edges.s_r_in;
+      } }
 
-returns-3 : tie.Need-returns-3
+returns : tie.Need-returns
 unfolding wet sided
-returns-3 c =
+returns c =
     let e = c.before in let t = e.before.before in let s = t.before in
     rw (leftward e, rightward e)
     (rw (
@@ -80,14 +77,14 @@ returns-3 c =
       top_at t,
     ) at c.between.ensures)
 
-pub sided-spec : {M : Type 1} → statement M
-sided-spec =
+pub sided_spec : {M : Type 1} → statement M
+sided_spec =
     tie.close
     (tie.spec
-    top-speed-requires
+    top_speed-s-requires
     alone-requires
-    returns
-    alone-requires-2
-    returns-2
+    returns-then-sl-ge0
+    alone-requires-then-sr-le0
+    returns-then-sr-le0
     between-requires
-    returns-3)
+    returns)

@@ -20,43 +20,43 @@ abbrev bed : tie.Start → Bed
 bed s = bed_in s.args.b
 
 abbrev cell : tie.Start → Cell
-cell s = as_cell s.args.t2
+cell s = as_cell s.args.x
 
 -- the entry, from where the mean depth is known
 abbrev start : tie.After-z0 → tie.Start
 start c = c.before.before.before
 
-z1-requires : tie.Need-z1-requires
-z1-requires c κs = search rules
+z1-tilt-requires : tie.Need-z1-tilt-requires
+z1-tilt-requires c κs = search rules
 
-array-copy-out-mean : tie.Need-array-copy-out-mean
-array-copy-out-mean c = search rules
+bounds-x-0 : tie.Need-bounds-x-0
+bounds-x-0 c = search rules
 
 z0-requires : tie.Need-z0-requires
 z0-requires c κs = search rules
 
-sub-mean : tie.Need-overflow-sub-mean
-sub-mean c = let s = start c in depth_fits_lem s.pre.wide.e0 (z0_size (bed s) s.pre.ground) c.z0.ensures
+overflow_sub-mean : tie.Need-overflow_sub-mean
+overflow_sub-mean c = let s = start c in depth_fits_lem s.requires.wide.e0 (z0_size (bed s) s.requires.ground) c.z0.ensures
 
-array-copy-out-slope : tie.Need-array-copy-out-slope
-array-copy-out-slope c = search rules
+bounds-x-1 : tie.Need-bounds-x-1
+bounds-x-1 c = search rules
 
-sub-slope : tie.Need-overflow-sub-slope
-sub-slope c =
+overflow_sub-slope : tie.Need-overflow_sub-slope
+overflow_sub-slope c =
     let a = c.before in let s = start a in
-    depth_fits_lem s.pre.wide.e1 (z1_size (bed s) s.pre.ground) a.before.before.z1.ensures
+    depth_fits_lem s.requires.wide.e1 (z1_size (bed s) s.requires.ground) a.before.before.z1-tilt.ensures
 
 -- ---- the mean depth and the depth's slope
 mean : (c : tie.After-z0) → let s = start c in rd (rd (cell s).e0 -ℤ rd c.z0.result) ≡ h0 (bed s) (cell s)
 unfolding h0
-mean c = let s = start c in depth_is s.pre.wide.e0 (z0_size (bed s) s.pre.ground) c.z0.ensures
+mean c = let s = start c in depth_is s.requires.wide.e0 (z0_size (bed s) s.requires.ground) c.z0.ensures
 
-slope : (c : tie.After-z0) → let s = start c in rd (rd (cell s).e1 -ℤ rd c.before.before.z1.result) ≡ h1 (bed s) (cell s)
+slope : (c : tie.After-z0) → let s = start c in rd (rd (cell s).e1 -ℤ rd c.before.before.z1-tilt.result) ≡ h1 (bed s) (cell s)
 unfolding h1
-slope c = let s = start c in depth_is s.pre.wide.e1 (z1_size (bed s) s.pre.ground) c.before.before.z1.ensures
+slope c = let s = start c in depth_is s.requires.wide.e1 (z1_size (bed s) s.requires.ground) c.before.before.z1-tilt.ensures
 
 clip-requires : tie.Need-clip-requires
-clip-requires c κs = let a = c.before in let s = start a in rw (mean a) (h0_size (bed s) (cell s) s.pre)
+clip-requires c κs = let a = c.before in let s = start a in rw (mean a) (h0_size (bed s) (cell s) s.requires)
 
 -- ---- the slope after the cut, and that of the bed, which it is added to
 cut_to : (c : tie.After-clip) → let s = start c.before.before in
@@ -64,27 +64,27 @@ cut_to : (c : tie.After-clip) → let s = start c.before.before in
 cut_to c =
     let a = c.before.before in let s = start a in let b = bed s in let x = cell s in
     record {
-      same = back64 c.clip.type-inv (c.clip.ensures ∙ ap₂ clipped (mean a) (slope a));
-      bound = clip_size (h0 b x) (h1 b x) (h0_size b x s.pre) (h1_size b x s.pre);
+      same = back64 c.clip.type_inv (c.clip.ensures ∙ ap₂ clipped (mean a) (slope a));
+      bound = clip_size (h0 b x) (h1 b x) (h0_size b x s.requires) (h1_size b x s.requires);
     }
 
-tilt : (c : tie.After-z1) → Got (nat_abs highest_bed) (rd c.z1.result) (z1 (bed c.before))
-tilt c = let s = c.before in record { same = back64 c.z1.type-inv c.z1.ensures; bound = z1_size (bed s) s.requires.ground }
+tilt : (c : tie.After-z1-tilt) → Got (nat_abs highest_bed) (rd c.z1-tilt.result) (z1 (bed c.before))
+tilt c = let s = c.before in record { same = back64 c.z1-tilt.type_inv c.z1-tilt.ensures; bound = z1_size (bed s) s.requires.ground }
 
-add-e1 : tie.Need-overflow-add-e1
-add-e1 c = g_fits (g_add (cut_to c) (tilt c.before.before.before.before)) tt
+overflow_add-e1 : tie.Need-overflow_add-e1
+overflow_add-e1 c = g_fits (g_add (cut_to c) (tilt c.before.before.before.before)) tt
 
-array-copy-out-uncut : tie.Need-array-copy-out-uncut
-array-copy-out-uncut c = search rules
+bounds-x-3 : tie.Need-bounds-x-3
+bounds-x-3 c = search rules
 
-uncut-requires : tie.Need-uncut-requires
-uncut-requires c κs = clip-requires c.before.before κs
+uncut-q1-requires : tie.Need-uncut-q1-requires
+uncut-q1-requires c κs = clip-requires c.before.before κs
 
-array-copy-out-t12 : tie.Need-array-copy-out-t12
-array-copy-out-t12 c = search rules
+bounds-x-0-2 : tie.Need-bounds-x-0-2
+bounds-x-0-2 c = search rules
 
-array-copy-out-t11 : tie.Need-array-copy-out-t11
-array-copy-out-t11 c = search rules
+bounds-x-2 : tie.Need-bounds-x-2
+bounds-x-2 c = search rules
 
 returns : tie.Need-returns
 unfolding cut
@@ -92,27 +92,27 @@ returns c =
     let p = c.before in let q = p.before in let k = q.before.before in let m = k.before.before in
     let x = cell (start m) in
     let level = g_back (g_add (cut_to k) (tilt m.before.before)) tt in
-    let q1 = back {z = x.q1} q.before.uncut-arg.given in
-    λ i. back {z = x.e0} p.t12.given i
+    let q1 = back {z = x.q1} q.before.uncut-arg-1.given in
+    λ i. back {z = x.e0} p.result-1.given i
     ∷ level.same i
-    ∷ back {z = x.q0} c.t11.given i
-    ∷ back64 q.uncut.type-inv (q.uncut.ensures ∙ (λ j. cond (beyond (mean m j) (slope m j)) (pos 0) (q1 j))) i
+    ∷ back {z = x.q0} c.result-2-1.given i
+    ∷ back64 q.uncut-q1.type_inv (q.uncut-q1.ensures ∙ (λ j. cond (beyond (mean m j) (slope m j)) (pos 0) (q1 j))) i
     ∷ []
 
-pub cut-cell-spec : {M : Type 1} → statement M
-cut-cell-spec =
+pub cut_cell_spec : {M : Type 1} → statement M
+cut_cell_spec =
     tie.close
     (tie.spec
-    z1-requires
-    array-copy-out-mean
+    z1-tilt-requires
+    bounds-x-0
     z0-requires
-    sub-mean
-    array-copy-out-slope
-    sub-slope
+    overflow_sub-mean
+    bounds-x-1
+    overflow_sub-slope
     clip-requires
-    add-e1
-    array-copy-out-uncut
-    uncut-requires
-    array-copy-out-t12
-    array-copy-out-t11
+    overflow_add-e1
+    bounds-x-3
+    uncut-q1-requires
+    bounds-x-0-2
+    bounds-x-2
     returns)

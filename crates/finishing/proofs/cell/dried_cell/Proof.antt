@@ -12,23 +12,23 @@ use Rattle.finishing.proofs.cell.dried_cell.Statement.{statement}
 use Rattle.finishing.proofs.cell.dried_cell.Tie as tie
 
 -- what the test says
-test : (c : tie.After-is-shallow) → let s = c.before in
-    shallow s.args.dry (bed_in s.args.b) (as_cell s.args.t2) ≡ c.is_shallow.result
+test : (c : tie.After-is_shallow) → let s = c.before in
+    shallow s.args.dry (bed_in s.args.b) (as_cell s.args.x) ≡ c.is_shallow.result
 test c = let s = c.before in let a = s.args in
-    sym (c.is_shallow.ensures ∙ (λ k. shallow (to_z-of_z s.ranges.dry k) (bed_in a.b) (as_cell a.t2)))
+    sym (c.is_shallow.ensures ∙ (λ k. shallow (to_z-of_z s.ranges.dry k) (bed_in a.b) (as_cell a.x)))
+
+returns-then-is_shallow : tie.Need-returns-then-is_shallow
+unfolding dried
+returns-then-is_shallow c =
+    let a = c.before in let t = a.before in let x = as_cell t.before.before.args.x in
+    rw (test t.before ∙ t.if-is_shallow.true)
+    (λ i. back {z = x.e0} a.result-1.given i ∷ back {z = x.e1} c.result-then-is_shallow-1.given i ∷ pos 0 ∷ pos 0 ∷ [])
 
 returns : tie.Need-returns
 unfolding dried
 returns c =
-    let a = c.before in let t = a.before in let x = as_cell t.before.before.args.t2 in
-    rw (test t.before ∙ t.if1.true)
-    (λ i. back {z = x.e0} a.t9.given i ∷ back {z = x.e1} c.t12.given i ∷ pos 0 ∷ pos 0 ∷ [])
+    let s = c.before.before in let size = s.well_formed.1.0.1 in
+    rw (test c.before ∙ c.if-is_shallow.false) (of_four s.args.x size.0.1)
 
-returns-2 : tie.Need-returns-2
-unfolding dried
-returns-2 c =
-    let s = c.before.before in let size = s.well-formed.1.0.1 in
-    rw (test c.before ∙ c.if1.false) (of_four s.args.t2 size.0.1)
-
-pub dried-cell-spec : {M : Type 1} → statement M
-dried-cell-spec = tie.close (tie.spec (λ c κs. search rules) (λ c. search rules) (λ c. search rules) returns returns-2)
+pub dried_cell_spec : {M : Type 1} → statement M
+dried_cell_spec = tie.close (tie.spec (λ c κs. search rules) (λ c. search rules) (λ c. search rules) returns-then-is_shallow returns)

@@ -22,35 +22,35 @@ env s =
 abbrev rise : X
 rise = v 0 ⊝ v 1
 
-add-nearest : tie.Need-overflow-add-nearest
-add-nearest c = search rules
+overflow_add-i : tie.Need-overflow_add-i
+overflow_add-i c = search rules
 
-mul-nearest : tie.Need-overflow-mul-nearest
-mul-nearest c = search rules
+offset_bounds-u-i : tie.Need-offset_bounds-u-i
+offset_bounds-u-i c = search rules
 
-mul-nearest-2 : tie.Need-overflow-mul-nearest-2
-mul-nearest-2 c = search rules
+offset_bounds-u-m : tie.Need-offset_bounds-u-m
+offset_bounds-u-m c = search rules
 
-index-1-nearest : tie.Need-bounds-1-nearest
-index-1-nearest c = search rules
+bounds-u-i : tie.Need-bounds-u-i
+bounds-u-i c = search rules
 
-index-2-nearest : tie.Need-bounds-2-nearest
-index-2-nearest c = search rules
+bounds-u-m : tie.Need-bounds-u-m
+bounds-u-m c = search rules
 
-mul-nearest-3 : tie.Need-overflow-mul-nearest-3
-mul-nearest-3 c = search rules
+offset_bounds-u-i-2 : tie.Need-offset_bounds-u-i-2
+offset_bounds-u-i-2 c = search rules
 
-mul-nearest-4 : tie.Need-overflow-mul-nearest-4
-mul-nearest-4 c = search rules
+offset_bounds-u-m-2 : tie.Need-offset_bounds-u-m-2
+offset_bounds-u-m-2 c = search rules
 
-index-1-nearest-2 : tie.Need-bounds-1-nearest-2
-index-1-nearest-2 c = search rules
+bounds-u-i-2 : tie.Need-bounds-u-i-2
+bounds-u-i-2 c = search rules
 
-index-2-nearest-2 : tie.Need-bounds-2-nearest-2
-index-2-nearest-2 c = search rules
+bounds-u-m-2 : tie.Need-bounds-u-m-2
+bounds-u-m-2 c = search rules
 
-sub-nearest : tie.Need-overflow-sub-nearest
-sub-nearest c = let s = c.before.before in rw (add-one s.args.i) (need (env s) rise tt)
+overflow_sub-u : tie.Need-overflow_sub-u
+overflow_sub-u c = let s = c.before.before in rw (add-one s.args.i) (need (env s) rise tt)
 
 nearest-requires : tie.Need-nearest-requires
 nearest-requires c κs = search rules
@@ -58,22 +58,22 @@ nearest-requires c κs = search rules
 returns : tie.Need-returns
 returns c =
     let s = c.before.before.before in
-    back64 c.nearest.type-inv (c.nearest.ensures
+    back64 c.nearest.type_inv (c.nearest.ensures
     ∙ ap₂ minmod (to_z-of_z s.ranges.slope) (rw (add-one s.args.i) (value (env s) rise tt)))
 
-pub against-spec : {M : Type 1} → statement M
-against-spec =
+pub against_spec : {M : Type 1} → statement M
+against_spec =
     tie.close
     (tie.spec
-    add-nearest
-    mul-nearest
-    mul-nearest-2
-    index-1-nearest
-    index-2-nearest
-    mul-nearest-3
-    mul-nearest-4
-    index-1-nearest-2
-    index-2-nearest-2
-    sub-nearest
+    overflow_add-i
+    offset_bounds-u-i
+    offset_bounds-u-m
+    bounds-u-i
+    bounds-u-m
+    offset_bounds-u-i-2
+    offset_bounds-u-m-2
+    bounds-u-i-2
+    bounds-u-m-2
+    overflow_sub-u
     nearest-requires
     returns)

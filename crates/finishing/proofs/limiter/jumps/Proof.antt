@@ -17,26 +17,26 @@ env s =
 abbrev rise : X
 rise = v 2 ⊝ v 3 ⊝ (v 0 ⊕ v 1)
 
-array-copy-out-past : tie.Need-array-copy-out-past
-array-copy-out-past c = search rules
+bounds-y-0 : tie.Need-bounds-y-0
+bounds-y-0 c = search rules
 
-array-copy-out-past-2 : tie.Need-array-copy-out-past-2
-array-copy-out-past-2 c = search rules
+bounds-y-1 : tie.Need-bounds-y-1
+bounds-y-1 c = search rules
 
-sub-past : tie.Need-overflow-sub-past
-sub-past c = need (env c.before.before) (v 2 ⊝ v 3) tt
+overflow_sub-y : tie.Need-overflow_sub-y
+overflow_sub-y c = need (env c.before.before) (v 2 ⊝ v 3) tt
 
-array-copy-out-past-3 : tie.Need-array-copy-out-past-3
-array-copy-out-past-3 c = search rules
+bounds-x-0 : tie.Need-bounds-x-0
+bounds-x-0 c = search rules
 
-array-copy-out-past-4 : tie.Need-array-copy-out-past-4
-array-copy-out-past-4 c = search rules
+bounds-x-1 : tie.Need-bounds-x-1
+bounds-x-1 c = search rules
 
-add-past : tie.Need-overflow-add-past
-add-past c = need (env c.before.before.before.before) (v 0 ⊕ v 1) tt
+overflow_add-x : tie.Need-overflow_add-x
+overflow_add-x c = need (env c.before.before.before.before) (v 0 ⊕ v 1) tt
 
-sub-past-2 : tie.Need-overflow-sub-past-2
-sub-past-2 c = need (env c.before.before.before.before) rise tt
+overflow_sub-y-2 : tie.Need-overflow_sub-y-2
+overflow_sub-y-2 c = need (env c.before.before.before.before) rise tt
 
 past-requires : tie.Need-past-requires
 past-requires c κs = search rules
@@ -46,16 +46,16 @@ returns c =
     let t = c.before in let s = t.before.before.before.before.before in
     c.past.ensures ∙ ap₂ past (back {z = s.args.call.jump} (omega arith)) (value (env s) rise tt)
 
-pub jumps-spec : {M : Type 1} → statement M
-jumps-spec =
+pub jumps_spec : {M : Type 1} → statement M
+jumps_spec =
     tie.close
     (tie.spec
-    array-copy-out-past
-    array-copy-out-past-2
-    sub-past
-    array-copy-out-past-3
-    array-copy-out-past-4
-    add-past
-    sub-past-2
+    bounds-y-0
+    bounds-y-1
+    overflow_sub-y
+    bounds-x-0
+    bounds-x-1
+    overflow_add-x
+    overflow_sub-y-2
     past-requires
     returns)

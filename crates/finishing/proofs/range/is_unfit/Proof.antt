@@ -18,21 +18,21 @@ abbrev tests : tie.Start → List Bool
 tests s = hindrances s.args.reach s.args.call s.args.bed.now s.args.u.now s.args.room
 
 -- ---- where the first tests found nothing, the others decide
-after_1 : (c : tie.Else1) → any (tests c.before) ≡ any (drop 1 (tests c.before))
+after_1 : (c : tie.Else-u-n) → any (tests c.before) ≡ any (drop 1 (tests c.before))
 unfolding any
-after_1 c = rw (le-ltb _ _ c.if1.false)
+after_1 c = rw (le-ltb _ _ c.if-u-n.false)
 
-after_2 : (c : tie.Else2) → let s = c.before.before in any (tests s) ≡ any (drop 2 (tests s))
+after_2 : (c : tie.Else-room-n) → let s = c.before.before in any (tests s) ≡ any (drop 2 (tests s))
 unfolding any
-after_2 c = after_1 c.before ∙ rw (le-ltb _ _ c.if2.false)
+after_2 c = after_1 c.before ∙ rw (le-ltb _ _ c.if-room-n.false)
 
-after_3 : (c : tie.Else3) → let s = c.before.before.before in any (tests s) ≡ any (drop 3 (tests s))
+after_3 : (c : tie.Else-n-gt-CELLS) → let s = c.before.before.before in any (tests s) ≡ any (drop 3 (tests s))
 unfolding any
-after_3 c = after_2 c.before ∙ rw (le-ltb _ _ c.if3.false)
+after_3 c = after_2 c.before ∙ rw (le-ltb _ _ c.if-n-gt-CELLS.false)
 
-after_4 : (c : tie.Else4) → let s = c.before.before.before.before in any (tests s) ≡ any (drop 4 (tests s))
+after_4 : (c : tie.Else-bed-n) → let s = c.before.before.before.before in any (tests s) ≡ any (drop 4 (tests s))
 unfolding any
-after_4 c = after_3 c.before ∙ rw (eq-eqb _ _ c.if4.false)
+after_4 c = after_3 c.before ∙ rw (eq-eqb _ _ c.if-bed-n.false)
 
 -- what the test of the jump says
 jump : (c : tie.After-outside) → let s = c.before.before.before.before.before.before in
@@ -41,72 +41,72 @@ jump c =
     let t = c.before in let s = t.before.before.before.before.before in
     sym (c.outside.ensures ∙ ap (outside (pos 0) largest_jump) (back {z = s.args.call.jump} (omega arith)))
 
-abbrev start : tie.Else5 → tie.Start
+abbrev start : tie.Else-outside → tie.Start
 start c = c.before.before.before.before.before.before.before
 
-after_5 : (c : tie.Else5) → any (tests (start c)) ≡ any (drop 5 (tests (start c)))
+after_5 : (c : tie.Else-outside) → any (tests (start c)) ≡ any (drop 5 (tests (start c)))
 unfolding any
-after_5 c = let o = c.before in after_4 o.before.before ∙ rw (jump o ∙ c.if5.false)
+after_5 c = let o = c.before in after_4 o.before.before ∙ rw (jump o ∙ c.if-outside.false)
 
 -- what the test of the dry depth says
-dry : (c : tie.After-bad-dry) → bad_dry (start c.before.before).args.call.dry ≡ c.bad-dry.result
-dry c = sym (c.bad-dry.ensures ∙ ap bad_dry (back {z = (start c.before.before).args.call.dry} (omega arith)))
+dry : (c : tie.After-bad_dry) → bad_dry (start c.before.before).args.call.dry ≡ c.bad_dry.result
+dry c = sym (c.bad_dry.ensures ∙ ap bad_dry (back {z = (start c.before.before).args.call.dry} (omega arith)))
 
 -- ---- the answers
-returns : tie.Need-returns
+returns-then-u-n : tie.Need-returns-then-u-n
 unfolding unfit any
-returns c = rw (lt-ltb _ _ c.if1.true)
+returns-then-u-n c = rw (lt-ltb _ _ c.if-u-n.true)
 
-returns-2 : tie.Need-returns-2
+returns-then-room-n : tie.Need-returns-then-room-n
 unfolding unfit any
-returns-2 c = sym (after_1 c.before ∙ rw (lt-ltb _ _ c.if2.true))
+returns-then-room-n c = sym (after_1 c.before ∙ rw (lt-ltb _ _ c.if-room-n.true))
 
-returns-3 : tie.Need-returns-3
+returns-then-n-gt-CELLS : tie.Need-returns-then-n-gt-CELLS
 unfolding unfit any
-returns-3 c = sym (after_2 c.before ∙ rw (lt-ltb _ _ c.if3.true))
+returns-then-n-gt-CELLS c = sym (after_2 c.before ∙ rw (lt-ltb _ _ c.if-n-gt-CELLS.true))
 
-add-if4 : tie.Need-overflow-add-if4
-add-if4 c = search rules
+overflow_add-n : tie.Need-overflow_add-n
+overflow_add-n c = search rules
 
-returns-4 : tie.Need-returns-4
+returns-then-bed-n : tie.Need-returns-then-bed-n
 unfolding unfit any
-returns-4 c = sym (after_3 c.before ∙ rw (ne_eqb _ _ c.if4.true))
+returns-then-bed-n c = sym (after_3 c.before ∙ rw (ne_eqb _ _ c.if-bed-n.true))
 
 outside-requires : tie.Need-outside-requires
 outside-requires c κs = search rules
 
-returns-5 : tie.Need-returns-5
+returns-then-outside : tie.Need-returns-then-outside
 unfolding unfit any
-returns-5 c = let o = c.before in sym (after_4 o.before.before ∙ rw (jump o ∙ c.if5.true))
+returns-then-outside c = let o = c.before in sym (after_4 o.before.before ∙ rw (jump o ∙ c.if-outside.true))
 
-bad-dry-requires : tie.Need-bad-dry-requires
-bad-dry-requires c κs = search rules
+bad_dry-requires : tie.Need-bad_dry-requires
+bad_dry-requires c κs = search rules
 
-returns-6 : tie.Need-returns-6
+returns-then-bad_dry : tie.Need-returns-then-bad_dry
 unfolding unfit any
-returns-6 c = let o = c.before in sym (after_5 o.before.before ∙ rw (dry o ∙ c.if6.true))
+returns-then-bad_dry c = let o = c.before in sym (after_5 o.before.before ∙ rw (dry o ∙ c.if-bad_dry.true))
 
-large-table-requires : tie.Need-large-table-requires
-large-table-requires c κs = search rules
+large_table-requires : tie.Need-large_table-requires
+large_table-requires c κs = search rules
 
-returns-7 : tie.Need-returns-7
+returns : tie.Need-returns
 unfolding unfit any
-returns-7 c =
+returns c =
     let e = c.before in let o = e.before in
-    sym (after_5 o.before.before ∙ rw (dry o ∙ e.if6.false) (sym (c.large-table.ensures ∙ or_last _)))
+    sym (after_5 o.before.before ∙ rw (dry o ∙ e.if-bad_dry.false) (sym (c.large_table.ensures ∙ or_last _)))
 
-pub is-unfit-spec : {M : Type 1} → statement M
-is-unfit-spec =
+pub is_unfit_spec : {M : Type 1} → statement M
+is_unfit_spec =
     tie.close
     (tie.spec
-    returns
-    returns-2
-    returns-3
-    add-if4
-    returns-4
+    returns-then-u-n
+    returns-then-room-n
+    returns-then-n-gt-CELLS
+    overflow_add-n
+    returns-then-bed-n
     outside-requires
-    returns-5
-    bad-dry-requires
-    returns-6
-    large-table-requires
-    returns-7)
+    returns-then-outside
+    bad_dry-requires
+    returns-then-bad_dry
+    large_table-requires
+    returns)

@@ -14,64 +14,64 @@ use Rattle.finishing.proofs.range.large_table.Tie as tie
 abbrev large : List (List ℤ) → List ℤ → ℕ → Bool
 large u bed k = too_large (bed_at bed k) (seen u k)
 
-abbrev invariant-loop : tie.invariant-loop
+abbrev invariant-loop : tie.invariant-loop-i
 invariant-loop u bed n i₀ i = Scanned (large u bed) n i
 
-abbrev decreases-loop : tie.decreases-loop
+abbrev decreases-loop : tie.decreases-loop-i
 decreases-loop u bed n i₀ i = n - i
 
-loop-holds : tie.Need-loop-init invariant-loop decreases-loop
-loop-holds c = scan_none _ _
+loop-i-init : tie.Need-loop-i-init invariant-loop decreases-loop
+loop-i-init c = scan_none _ _
 
 under-requires : tie.Need-under-requires invariant-loop decreases-loop
 under-requires c κs = search rules
 
-mul-too-large : tie.Need-overflow-mul-too-large invariant-loop decreases-loop
-mul-too-large c = search rules
+offset_bounds-u-i : tie.Need-offset_bounds-u-i invariant-loop decreases-loop
+offset_bounds-u-i c = search rules
 
-shared-slice-copy-out-too-large : tie.Need-shared-slice-copy-out-too-large invariant-loop decreases-loop
-shared-slice-copy-out-too-large c = search rules
+bounds-u-i : tie.Need-bounds-u-i invariant-loop decreases-loop
+bounds-u-i c = search rules
 
-too-large-requires : tie.Need-too-large-requires invariant-loop decreases-loop
-too-large-requires c κs = search rules
+too_large-requires : tie.Need-too_large-requires invariant-loop decreases-loop
+too_large-requires c κs = search rules
 
 -- what the test of this turn says
-here : (c : tie.After-too-large invariant-loop decreases-loop) → let l = c.before.before.before.before in let s = l.before in
-    large s.args.u.now s.args.bed.now l.loop.i ≡ c.too_large.result
+here : (c : tie.After-too_large invariant-loop decreases-loop) → let l = c.before.before.before.before in let s = l.before in
+    large s.args.u.now s.args.bed.now l.loop-i.i ≡ c.too_large.result
 here c =
     let b = c.before.before in let l = b.before.before in
-    sym (c.too_large.ensures ∙ (λ k. too_large (b.under.ensures k) (seen l.before.args.u.now l.loop.i)))
+    sym (c.too_large.ensures ∙ (λ k. too_large (b.under.ensures k) (seen l.before.args.u.now l.loop-i.i)))
+
+returns-then-too_large : tie.Need-returns-then-too_large invariant-loop decreases-loop
+returns-then-too_large c = let b = c.before in let e = b.before.before.before in
+    scan_found e.before.loop-i.invariant e.loop-i-test.true (here b) c.if-too_large.true
+
+overflow_add-i : tie.Need-overflow_add-i invariant-loop decreases-loop
+overflow_add-i c = search rules
+
+loop-i-smaller : tie.Need-loop-i-smaller invariant-loop decreases-loop
+loop-i-smaller c = search rules
+
+loop-i-preserved : tie.Need-loop-i-preserved invariant-loop decreases-loop
+loop-i-preserved c = let b = c.before in let e = b.before.before.before in
+    scan_more e.before.loop-i.invariant e.loop-i-test.true (here b) c.if-too_large.false
 
 returns : tie.Need-returns invariant-loop decreases-loop
-returns c = let b = c.before in let e = b.before.before.before in
-    scan_found e.before.loop.invariant e.loop-test.true (here b) c.if1.true
+returns c = scan_all c.before.loop-i.invariant c.loop-i-test.false
 
-add-i : tie.Need-overflow-add-i invariant-loop decreases-loop
-add-i c = search rules
-
-loop-less : tie.Need-loop-smaller invariant-loop decreases-loop
-loop-less c = search rules
-
-loop-again : tie.Need-loop-preserved invariant-loop decreases-loop
-loop-again c = let b = c.before in let e = b.before.before.before in
-    scan_more e.before.loop.invariant e.loop-test.true (here b) c.if1.false
-
-returns-2 : tie.Need-returns-2 invariant-loop decreases-loop
-returns-2 c = scan_all c.before.loop.invariant c.loop-test.false
-
-pub large-table-spec : {M : Type 1} → statement M
-large-table-spec =
+pub large_table_spec : {M : Type 1} → statement M
+large_table_spec =
     tie.close
     (tie.spec
     invariant-loop
     decreases-loop
-    loop-holds
+    loop-i-init
     under-requires
-    mul-too-large
-    shared-slice-copy-out-too-large
-    too-large-requires
-    returns
-    add-i
-    loop-less
-    loop-again
-    returns-2)
+    offset_bounds-u-i
+    bounds-u-i
+    too_large-requires
+    returns-then-too_large
+    overflow_add-i
+    loop-i-smaller
+    loop-i-preserved
+    returns)

@@ -12,84 +12,84 @@ use Rattle.finishing.proofs.range.too_large.Statement.{statement}
 use Rattle.finishing.proofs.range.too_large.Tie as tie
 
 -- the entry, and the cell, from where the bed is tested
-abbrev start : tie.After-either-past → tie.Start
+abbrev start : tie.After-either_past → tie.Start
 start c = c.before.before.before.before.before
 
-abbrev cell : tie.After-either-past → Cell
-cell c = as_cell (start c).args.t2
+abbrev cell : tie.After-either_past → Cell
+cell c = as_cell (start c).args.x
 
-cast-either-past : tie.Need-overflow-cast-either-past
-cast-either-past c = widens c.before.before.args.b.zl (omega arith)
+overflow_cast-b : tie.Need-overflow_cast-b
+overflow_cast-b c = widens c.before.before.args.b.zl (omega arith)
 
-cast-either-past-2 : tie.Need-overflow-cast-either-past-2
-cast-either-past-2 c = widens c.before.before.before.before.args.b.zr (omega arith)
+overflow_cast-b-2 : tie.Need-overflow_cast-b-2
+overflow_cast-b-2 c = widens c.before.before.before.before.args.b.zr (omega arith)
 
-either-past-requires : tie.Need-either-past-requires
-either-past-requires c κs = search rules
+either_past-requires : tie.Need-either_past-requires
+either_past-requires c κs = search rules
 
 -- what the test of the bed says,
-ground : (c : tie.After-either-past) → let b = (start c).args.b in either_past highest_bed b.zl b.zr ≡ c.either-past.result
+ground : (c : tie.After-either_past) → let b = (start c).args.b in either_past highest_bed b.zl b.zr ≡ c.either_past.result
 ground c =
     let b = (start c).args.b in
-    sym (c.either-past.ensures ∙ ap₂ (either_past highest_bed) (widened {z = b.zl} (omega arith)) (widened {z = b.zr} (omega arith)))
+    sym (c.either_past.ensures ∙ ap₂ (either_past highest_bed) (widened {z = b.zl} (omega arith)) (widened {z = b.zr} (omega arith)))
+
+returns-then-either_past : tie.Need-returns-then-either_past
+unfolding too_large any
+returns-then-either_past c = rw (ground c.before ∙ c.if-either_past.true)
+
+bounds-x-0 : tie.Need-bounds-x-0
+bounds-x-0 c = search rules
+
+bounds-x-1 : tie.Need-bounds-x-1
+bounds-x-1 c = search rules
+
+either_past-requires-2 : tie.Need-either_past-requires-2
+either_past-requires-2 c κs = search rules
+
+-- and that of the level
+level : (c : tie.After-either_past-2) → let x = cell c.before.before.before.before in
+    either_past widest x.e0 x.e1 ≡ c.either_past-2.result
+level c =
+    let q = c.before in let p = q.before in let x = cell p.before.before in
+    let e0 = back {z = x.e0} p.either_past-arg-1.given in let e1 = back {z = x.e1} q.either_past-arg-2-1.given in
+    sym (c.either_past-2.ensures ∙ ap₂ (either_past widest) e0 e1)
+
+returns-then-either_past-2 : tie.Need-returns-then-either_past-2
+unfolding too_large any
+returns-then-either_past-2 c =
+    let p = c.before in let e = p.before.before.before in
+    rw (ground e.before ∙ e.if-either_past.false, level p ∙ c.if-either_past-2.true)
+
+bounds-x-2 : tie.Need-bounds-x-2
+bounds-x-2 c = search rules
+
+bounds-x-3 : tie.Need-bounds-x-3
+bounds-x-3 c = search rules
+
+either_past-requires-3 : tie.Need-either_past-requires-3
+either_past-requires-3 c κs = search rules
 
 returns : tie.Need-returns
 unfolding too_large any
-returns c = rw (ground c.before ∙ c.if1.true)
-
-array-copy-out-either-past : tie.Need-array-copy-out-either-past
-array-copy-out-either-past c = search rules
-
-array-copy-out-either-past-2 : tie.Need-array-copy-out-either-past-2
-array-copy-out-either-past-2 c = search rules
-
-either-past-requires-2 : tie.Need-either-past-requires-2
-either-past-requires-2 c κs = search rules
-
--- and that of the level
-level : (c : tie.After-either-past2) → let x = cell c.before.before.before.before in
-    either_past widest x.e0 x.e1 ≡ c.either-past2.result
-level c =
-    let q = c.before in let p = q.before in let x = cell p.before.before in
-    let e0 = back {z = x.e0} p.either-past-arg.given in let e1 = back {z = x.e1} q.either-past-arg2.given in
-    sym (c.either-past2.ensures ∙ ap₂ (either_past widest) e0 e1)
-
-returns-2 : tie.Need-returns-2
-unfolding too_large any
-returns-2 c =
-    let p = c.before in let e = p.before.before.before in
-    rw (ground e.before ∙ e.if1.false, level p ∙ c.if2.true)
-
-array-copy-out-either-past-3 : tie.Need-array-copy-out-either-past-3
-array-copy-out-either-past-3 c = search rules
-
-array-copy-out-either-past-4 : tie.Need-array-copy-out-either-past-4
-array-copy-out-either-past-4 c = search rules
-
-either-past-requires-3 : tie.Need-either-past-requires-3
-either-past-requires-3 c κs = search rules
-
-returns-3 : tie.Need-returns-3
-unfolding too_large any
-returns-3 c =
+returns c =
     let q = c.before in let p = q.before in let f = p.before in let l = f.before in let e = l.before.before.before in
     let x = cell e.before in
-    let q0 = back {z = x.q0} p.either-past-arg3.given in let q1 = back {z = x.q1} q.either-past-arg4.given in
-    rw (ground e.before ∙ e.if1.false, level l ∙ f.if2.false) (c.either-past3.ensures ∙ ap₂ (either_past widest) q0 q1 ∙ or_last _)
+    let q0 = back {z = x.q0} p.either_past-arg-3-1.given in let q1 = back {z = x.q1} q.either_past-arg-4-1.given in
+    rw (ground e.before ∙ e.if-either_past.false, level l ∙ f.if-either_past-2.false) (c.either_past-3.ensures ∙ ap₂ (either_past widest) q0 q1 ∙ or_last _)
 
-pub too-large-spec : {M : Type 1} → statement M
-too-large-spec =
+pub too_large_spec : {M : Type 1} → statement M
+too_large_spec =
     tie.close
     (tie.spec
-    cast-either-past
-    cast-either-past-2
-    either-past-requires
-    returns
-    array-copy-out-either-past
-    array-copy-out-either-past-2
-    either-past-requires-2
-    returns-2
-    array-copy-out-either-past-3
-    array-copy-out-either-past-4
-    either-past-requires-3
-    returns-3)
+    overflow_cast-b
+    overflow_cast-b-2
+    either_past-requires
+    returns-then-either_past
+    bounds-x-0
+    bounds-x-1
+    either_past-requires-2
+    returns-then-either_past-2
+    bounds-x-2
+    bounds-x-3
+    either_past-requires-3
+    returns)

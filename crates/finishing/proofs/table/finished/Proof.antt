@@ -14,15 +14,15 @@ use Rattle.finishing.specs.Laws.Sizes.{limit_wide}
 use Rattle.finishing.proofs.table.finished.Statement.{statement}
 use Rattle.finishing.proofs.table.finished.Tie as tie
 
-under-requires : tie.Need-under-requires
-under-requires c κs = search rules
+under-b-requires : tie.Need-under-b-requires
+under-b-requires c κs = search rules
 
 limit-requires : tie.Need-limit-requires
 limit-requires c κs = search rules
 
 -- the bed of the cell
-ground : (c : tie.After-under) → Ground (bed_in c.under.result)
-ground c = let s = c.before in subst Ground (sym c.under.ensures) (s.requires.grounds s.args.i s.requires.row.below)
+ground : (c : tie.After-under-b) → Ground (bed_in c.under-b.result)
+ground c = let s = c.before in subst Ground (sym c.under-b.ensures) (s.requires.grounds s.args.i s.requires.row.below)
 
 -- the cell as the limiter leaves it, of which any friction tells
 limit_in : (c : tie.After-limit) → Wide (as_cell c.limit.result)
@@ -32,23 +32,23 @@ limit_in c =
     subst (λ (l : List ℤ). Wide (as_cell l)) (sym (c.limit.ensures smooth))
     (limit_wide (reach_in s.args.reach z) (call_on s.args.call smooth) (seen s.args.u.now) i (t.wide i t.below))
 
-cut-cell-requires : tie.Need-cut-cell-requires
-cut-cell-requires c κs = record { ground = ground c.before; wide = limit_in c }
+cut_cell-requires : tie.Need-cut_cell-requires
+cut_cell-requires c κs = record { ground = ground c.before; wide = limit_in c }
 
-dried-cell-requires : tie.Need-dried-cell-requires
+dried_cell-requires : tie.Need-dried_cell-requires
 unfolding cut
-dried-cell-requires c κs =
+dried_cell-requires c κs =
     let k = c.before in let l = k.before in
-    (ground l.before, subst (λ (x : List ℤ). UpTo widest (as_cell x).e0) (sym k.cut-cell.ensures) (limit_in l).e0)
+    (ground l.before, subst (λ (x : List ℤ). UpTo widest (as_cell x).e0) (sym k.cut_cell.ensures) (limit_in l).e0)
 
 returns : tie.Need-returns
 unfolding finish
 returns c =
     let t = c.before in let k = t.before in let l = k.before in let b = l.before in let dry = b.before.args.call.dry in
-    let read = back {z = dry} (omega (arith, t.struct_told.given)) in
-    λ ρ. c.dried-cell.ensures
-    ∙ (λ x. as_list (dried (read x) (bed_in b.under.result) (as_cell (k.cut-cell.ensures x))))
-    ∙ (λ x. as_list (dried dry (b.under.ensures x) (cut (b.under.ensures x) (as_cell (l.limit.ensures ρ x)))))
+    let read = back {z = dry} (omega (arith, t.struct_told-1.given)) in
+    λ ρ. c.dried_cell.ensures
+    ∙ (λ x. as_list (dried (read x) (bed_in b.under-b.result) (as_cell (k.cut_cell.ensures x))))
+    ∙ (λ x. as_list (dried dry (b.under-b.ensures x) (cut (b.under-b.ensures x) (as_cell (l.limit.ensures ρ x)))))
 
-pub finished-spec : {M : Type 1} → statement M
-finished-spec = tie.close (tie.spec under-requires limit-requires cut-cell-requires dried-cell-requires returns)
+pub finished_spec : {M : Type 1} → statement M
+finished_spec = tie.close (tie.spec under-b-requires limit-requires cut_cell-requires dried_cell-requires returns)

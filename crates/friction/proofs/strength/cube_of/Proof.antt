@@ -18,19 +18,19 @@ answer c =
     let s = c.before in
     (simp (to_z-of_z, s.ranges.h) at c.cube.ensures) ∙ cube_given_lem s.args.h s.requires.0 s.requires.1
 
-enum-known-c : tie.Need-enum-known-c
-enum-known-c c = search rules
+enum_known-c : tie.Need-enum_known-c
+enum_known-c c = search rules
 
-enum_told : tie.Need-enum-told
-enum_told c = search rules
+enum_told-1 : tie.Need-enum_told-1
+enum_told-1 c = search rules
 
-returns : tie.Need-returns
-returns c =
+returns-in-Is : tie.Need-returns-in-Is
+returns-in-Is c =
     let a = c.before.before.before in
-    back64 c.known-told.given.0.1 (told a.cube.result _ _ c.before.c.given.1 (answer a))
+    back64 c.known_told-1.given.0.1 (told a.cube.result _ _ c.before.c-1.given.1 (answer a))
 
-returns-2 : tie.Need-returns-2
-returns-2 c = let a = c.before.before in untold a.cube.result _ c.enum_told.given.1 (answer a)
+returns-in-Refused : tie.Need-returns-in-Refused
+returns-in-Refused c = let a = c.before.before in untold a.cube.result _ c.enum_told-1.given.1 (answer a)
 
-pub cube-of-spec : {M : Type 1} → statement M
-cube-of-spec = tie.close (tie.spec cube-requires enum-known-c enum_told returns returns-2)
+pub cube_of_spec : {M : Type 1} → statement M
+cube_of_spec = tie.close (tie.spec cube-requires enum_known-c enum_told-1 returns-in-Is returns-in-Refused)

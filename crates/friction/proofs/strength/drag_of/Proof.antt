@@ -19,7 +19,7 @@ use Rattle.friction.proofs.strength.drag_of.Tie as tie
 
 module _ (s : tie.Start) where
   depth : (least_dry <ℤ s.args.h) × (s.args.h ≤ℤ deepest)
-  depth = s.requires.1.1.0
+  depth = s.requires.least_dry_lt_h
 
   low : pos 0 ≤ℤ s.args.h
   low = lt_le (wet s.args.h depth.0 depth.1)
@@ -32,36 +32,36 @@ module _ (s : tie.Start) where
       let h = s.args.h in
       b_nonneg (le_trans (nat_nonneg 322) (cube_least h depth.0 deep)) (cube_most h deep)
 
-cube-of-requires : tie.Need-cube-of-requires
-cube-of-requires c κs = simp (to_z-of_z, c.ranges.h) (low c, (depth c).1)
+cube_of-c-requires : tie.Need-cube_of-c-requires
+cube_of-c-requires c κs = simp (to_z-of_z, c.ranges.h) (low c, (depth c).1)
 
-c_is : (t : tie.After-cube-of) → t.cube-of.result ≡ cube t.before.args.h
-c_is t = simp (to_z-of_z, t.before.ranges.h) at t.cube-of.ensures
+c_is : (t : tie.After-cube_of-c) → t.cube_of-c.result ≡ cube t.before.args.h
+c_is t = simp (to_z-of_z, t.before.ranges.h) at t.cube_of-c.ensures
 
-s_is : (t : tie.After-size) → t.size.result ≡ size_z t.before.before.args.u
-s_is t = let s = t.before.before in size-got (g_var s.ranges.u s.requires.1.1.1) t.size.ensures tt
+s_is : (t : tie.After-size-s) → t.size-s.result ≡ size_z t.before.before.args.u
+s_is t = let s = t.before.before in size-got (g_var s.ranges.u s.requires.up_to) t.size-s.ensures tt
 
 -- ---- dt, f, |u|, h and c
-module _ (size : tie.After-size) where
+module _ (size : tie.After-size-s) where
   abbrev s : tie.Start
   s = size.before.before
 
-  size_in : UpTo fastest size.size.result
-  size_in = subst (UpTo fastest) (sym (s_is size)) (b_size s.args.u s.pre.1.1.1)
+  size_in : UpTo fastest size.size-s.result
+  size_in = subst (UpTo fastest) (sym (s_is size)) (b_size s.args.u s.requires.up_to)
 
-  cube_in : Within 16384 size.before.cube-of.result
+  cube_in : Within 16384 size.before.cube_of-c.result
   cube_in = subst (Within 16384) (sym (c_is size.before)) (cube_size s)
 
   abbrev env : List Entry
   env =
-      entry s.fits.dt s.pre.0.1
-      ∷ entry s.fits.f s.pre.1.0.1
+      entry s.ranges.dt s.requires.pos_bound.1
+      ∷ entry s.ranges.f s.requires.pos_bound_2.1
       ∷ entry (fit size_in tt) size_in
-      ∷ entry s.fits.h (deep s)
+      ∷ entry s.ranges.h (deep s)
       ∷ entry (fit cube_in tt) cube_in
       ∷ []
 
-  divided : pos 0 <ℤ (pos 390625 *ℤ s.args.h *ℤ size.before.cube-of.result)
+  divided : pos 0 <ℤ (pos 390625 *ℤ s.args.h *ℤ size.before.cube_of-c.result)
   divided = let h = depth s in
       subst (λ (z : ℤ). pos 0 <ℤ (pos 390625 *ℤ s.args.h *ℤ z)) (sym (c_is size.before)) (divisor_pos s.args.h h.0 h.1)
 
@@ -84,11 +84,11 @@ returns c =
     value (env c) (above ⊘ below) tt
     ∙ (λ j. quot_z (pos 256 *ℤ pos 981 *ℤ a.dt *ℤ (a.f *ℤ a.f) *ℤ s_is c j) (pos 390625 *ℤ a.h *ℤ c_is c.before j))
 
-pub drag-of-spec : {M : Type 1} → statement M
-drag-of-spec =
+pub drag_of_spec : {M : Type 1} → statement M
+drag_of_spec =
     tie.close
     (tie.spec
-    cube-of-requires
+    cube_of-c-requires
     (λ c κs. search rules)
     (λ c. search rules)
     (λ c. need (env c) per tt)

@@ -17,35 +17,35 @@ use Rattle.sill.proofs.checks.bad_bed.Tie as tie
 abbrev bad : List ℤ → ℕ → Bool
 bad bed k = bad_bed (get_or bed k (pos 0))
 
-abbrev invariant-loop : tie.invariant-loop
+abbrev invariant-loop : tie.invariant-loop-i
 invariant-loop bed i₀ i = Scanned (bad bed) (length bed) i
 
-abbrev decreases-loop : tie.decreases-loop
+abbrev decreases-loop : tie.decreases-loop-i
 decreases-loop bed i₀ i = length bed - i
 
 -- what the test of this turn says
 here : (c : tie.After-outside invariant-loop decreases-loop) →
-    let l = c.before.before.before in bad l.before.args.bed.now l.loop.i ≡ c.outside.result
+    let l = c.before.before.before in bad l.before.args.bed.now l.loop-i.i ≡ c.outside.result
 unfolding bad_bed
-here c = let a = c.before.bed-at in sym (c.outside.ensures ∙ ap (outside (pos 0) highest_bed) (back64 a.type-inv a.ensures))
+here c = let a = c.before.bed_at in sym (c.outside.ensures ∙ ap (outside (pos 0) highest_bed) (back64 a.type_inv a.ensures))
 
-returns : tie.Need-returns invariant-loop decreases-loop
-returns c = let b = c.before in let e = b.before.before in
-    scan_lowest e.before.loop.invariant e.loop-test.true (here b) c.if1.true
+returns-then-outside : tie.Need-returns-then-outside invariant-loop decreases-loop
+returns-then-outside c = let b = c.before in let e = b.before.before in
+    scan_lowest e.before.loop-i.invariant e.loop-i-test.true (here b) c.if-outside.true
 
-loop-again : tie.Need-loop-preserved invariant-loop decreases-loop
-loop-again c = let b = c.before in let e = b.before.before in
-    scan_more e.before.loop.invariant e.loop-test.true (here b) c.if1.false
+loop-i-preserved : tie.Need-loop-i-preserved invariant-loop decreases-loop
+loop-i-preserved c = let b = c.before in let e = b.before.before in
+    scan_more e.before.loop-i.invariant e.loop-i-test.true (here b) c.if-outside.false
 
-pub bad-bed-spec : {M : Type 1} → statement M
-bad-bed-spec =
+pub bad_bed_spec : {M : Type 1} → statement M
+bad_bed_spec =
     tie.close
     (tie.spec
     invariant-loop
     decreases-loop
     (λ c. scan_none _ _)
     (λ c κs. search rules) (λ c κs. search rules)
-    returns
+    returns-then-outside
     (λ c. search rules) (λ c. search rules)
-    loop-again
-    (λ c. scan_past c.before.loop.invariant c.loop-test.false))
+    loop-i-preserved
+    (λ c. scan_past c.before.loop-i.invariant c.loop-i-test.false))

@@ -12,78 +12,78 @@ use Rattle.sill.proofs.checks.bad_numbers.Statement.{statement}
 use Rattle.sill.proofs.checks.bad_numbers.Tie as tie
 
 -- ---- what stands before each test
-abbrev start : tie.Else1 → tie.Start
+abbrev start : tie.Else-outside → tie.Start
 start c = c.before.before.before
 
-abbrev first : tie.Else2 → tie.Else1
+abbrev first : tie.Else-outside-2 → tie.Else-outside
 first c = c.before.before.before
 
-abbrev second : tie.Else3 → tie.Else2
+abbrev second : tie.Else-bad_dry → tie.Else-outside-2
 second c = c.before.before.before
 
 -- ---- the three tests of numbers, and what is known past each
 length_test : (o : tie.After-outside) → outside (pos 1) longest_cell o.before.before.args.call.dx ≡ o.outside.result
 length_test o =
     let k = o.before in
-    sym (rw (back {z = k.before.args.call.dx} k.struct_told.given.0.1) at o.outside.ensures)
+    sym (rw (back {z = k.before.args.call.dx} k.struct_told-1.given.0.1) at o.outside.ensures)
 
-length_in : (c : tie.Else1) → outside (pos 1) longest_cell (start c).args.call.dx ≡ false
-length_in c = length_test c.before ∙ c.if1.false
+length_in : (c : tie.Else-outside) → outside (pos 1) longest_cell (start c).args.call.dx ≡ false
+length_in c = length_test c.before ∙ c.if-outside.false
 
-step_test : (o : tie.After-outside2) → outside (pos 1) longest_step (start o.before.before).args.call.dt ≡ o.outside2.result
+step_test : (o : tie.After-outside-2) → outside (pos 1) longest_step (start o.before.before).args.call.dt ≡ o.outside-2.result
 step_test o = let k = o.before in
-    sym (rw (back {z = (start k.before).args.call.dt} k.struct-told2.given.1.0.1) at o.outside2.ensures)
+    sym (rw (back {z = (start k.before).args.call.dt} k.struct_told-2-1.given.1.0.1) at o.outside-2.ensures)
 
-step_in : (c : tie.Else2) → outside (pos 1) longest_step (start (first c)).args.call.dt ≡ false
-step_in c = step_test c.before ∙ c.if2.false
+step_in : (c : tie.Else-outside-2) → outside (pos 1) longest_step (start (first c)).args.call.dt ≡ false
+step_in c = step_test c.before ∙ c.if-outside-2.false
 
-dry_test : (o : tie.After-bad-dry) → bad_dry (start (first o.before.before)).args.call.dry ≡ o.bad-dry.result
+dry_test : (o : tie.After-bad_dry) → bad_dry (start (first o.before.before)).args.call.dry ≡ o.bad_dry.result
 dry_test o = let k = o.before in let s = start (first k.before) in
-    sym (rw (back {z = s.args.call.dry} k.struct-told3.given.1.1.0.1) at o.bad-dry.ensures)
+    sym (rw (back {z = s.args.call.dry} k.struct_told-3-1.given.1.1.0.1) at o.bad_dry.ensures)
 
-dry_in : (c : tie.Else3) → bad_dry (start (first (second c))).args.call.dry ≡ false
-dry_in c = dry_test c.before ∙ c.if3.false
+dry_in : (c : tie.Else-bad_dry) → bad_dry (start (first (second c))).args.call.dry ≡ false
+dry_in c = dry_test c.before ∙ c.if-bad_dry.false
+
+returns-then-outside : tie.Need-returns-then-outside
+unfolding bad_call any
+returns-then-outside c bed ρ = rw (length_test c.before ∙ c.if-outside.true)
+
+returns-then-outside-2 : tie.Need-returns-then-outside-2
+unfolding bad_call any
+returns-then-outside-2 c bed ρ = let o = c.before in rw (length_in o.before.before, step_test o ∙ c.if-outside-2.true)
+
+returns-then-bad_dry : tie.Need-returns-then-bad_dry
+unfolding bad_call any
+returns-then-bad_dry c bed ρ =
+    let o = c.before in let e = o.before.before in rw (length_in (first e), step_in e, dry_test o ∙ c.if-bad_dry.true)
+
+returns-then-call-gt-OPEN : tie.Need-returns-then-call-gt-OPEN
+unfolding bad_call any
+returns-then-call-gt-OPEN c bed ρ =
+    let f = c.before.before in let e = second f in rw (length_in (first e), step_in e, dry_in f, lt-ltb _ _ c.if-call-gt-OPEN.true)
+
+returns-then-call-gt-OPEN-2 : tie.Need-returns-then-call-gt-OPEN-2
+unfolding bad_call any
+returns-then-call-gt-OPEN-2 c bed ρ =
+    let g = c.before.before in let f = g.before.before in let e = second f in
+    rw (length_in (first e), step_in e, dry_in f, le-ltb _ _ g.if-call-gt-OPEN.false, lt-ltb _ _ c.if-call-gt-OPEN-2.true)
 
 returns : tie.Need-returns
 unfolding bad_call any
-returns c bed ρ = rw (length_test c.before ∙ c.if1.true)
-
-returns-2 : tie.Need-returns-2
-unfolding bad_call any
-returns-2 c bed ρ = let o = c.before in rw (length_in o.before.before, step_test o ∙ c.if2.true)
-
-returns-3 : tie.Need-returns-3
-unfolding bad_call any
-returns-3 c bed ρ =
-    let o = c.before in let e = o.before.before in rw (length_in (first e), step_in e, dry_test o ∙ c.if3.true)
-
-returns-4 : tie.Need-returns-4
-unfolding bad_call any
-returns-4 c bed ρ =
-    let f = c.before.before in let e = second f in rw (length_in (first e), step_in e, dry_in f, lt-ltb _ _ c.if4.true)
-
-returns-5 : tie.Need-returns-5
-unfolding bad_call any
-returns-5 c bed ρ =
+returns c bed ρ =
     let g = c.before.before in let f = g.before.before in let e = second f in
-    rw (length_in (first e), step_in e, dry_in f, le-ltb _ _ g.if4.false, lt-ltb _ _ c.if5.true)
+    rw (length_in (first e), step_in e, dry_in f, le-ltb _ _ g.if-call-gt-OPEN.false, le-ltb _ _ c.if-call-gt-OPEN-2.false)
 
-returns-6 : tie.Need-returns-6
-unfolding bad_call any
-returns-6 c bed ρ =
-    let g = c.before.before in let f = g.before.before in let e = second f in
-    rw (length_in (first e), step_in e, dry_in f, le-ltb _ _ g.if4.false, le-ltb _ _ c.if5.false)
-
-pub bad-numbers-spec : {M : Type 1} → statement M
-bad-numbers-spec =
+pub bad_numbers_spec : {M : Type 1} → statement M
+bad_numbers_spec =
     tie.close
     (tie.spec
     (λ c κs. search rules)
-    returns
+    returns-then-outside
     (λ c κs. search rules)
-    returns-2
+    returns-then-outside-2
     (λ c κs. search rules)
-    returns-3
-    returns-4
-    returns-5
-    returns-6)
+    returns-then-bad_dry
+    returns-then-call-gt-OPEN
+    returns-then-call-gt-OPEN-2
+    returns)

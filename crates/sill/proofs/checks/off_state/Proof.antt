@@ -16,45 +16,45 @@ use Rattle.sill.proofs.checks.off_state.Tie as tie
 abbrev bad : List ℤ → List ℤ → ℕ → ℕ → Bool
 bad state bed n k = off_pool (get_or bed k (pos 0)) (pool_in n state k)
 
-abbrev invariant-loop : tie.invariant-loop
+abbrev invariant-loop : tie.invariant-loop-i
 invariant-loop state bed n i₀ i = Scanned (bad state bed n) n i
 
-abbrev decreases-loop : tie.decreases-loop
+abbrev decreases-loop : tie.decreases-loop-i
 decreases-loop state bed n i₀ i = n - i
 
-off-pool-requires : tie.Need-off-pool-requires invariant-loop decreases-loop
-off-pool-requires c κs =
+off_pool-requires : tie.Need-off_pool-requires invariant-loop decreases-loop
+off_pool-requires c κs =
     let u = c.before in let e = u.before in let l = e.before in
-    rw (back64 u.bed-at.type-inv u.bed-at.ensures, c.pool-of.ensures.0)
-    (l.before.requires.2 l.loop.i e.loop-test.true, c.pool-of.ensures.1)
+    rw (back64 u.bed_at.type_inv u.bed_at.ensures, c.pool_of.ensures.0)
+    (l.before.requires.2 l.loop-i.i e.loop-i-test.true, c.pool_of.ensures.1)
 
 -- what the test of this turn says
-here : (c : tie.After-off-pool invariant-loop decreases-loop) →
+here : (c : tie.After-off_pool invariant-loop decreases-loop) →
     let l = c.before.before.before.before in
     let a = l.before.args in
-    bad a.state.now a.bed.now a.n l.loop.i ≡ c.off-pool.result
-here c = let x = c.before in let z = x.before.bed-at in
-    sym (rw (back64 z.type-inv z.ensures, x.pool-of.ensures.0) at c.off-pool.ensures)
+    bad a.state.now a.bed.now a.n l.loop-i.i ≡ c.off_pool.result
+here c = let x = c.before in let z = x.before.bed_at in
+    sym (rw (back64 z.type_inv z.ensures, x.pool_of.ensures.0) at c.off_pool.ensures)
 
-returns : tie.Need-returns invariant-loop decreases-loop
-returns c = let o = c.before in let e = o.before.before.before in
-    scan_lowest e.before.loop.invariant e.loop-test.true (here o) c.if1.true
+returns-then-off_pool : tie.Need-returns-then-off_pool invariant-loop decreases-loop
+returns-then-off_pool c = let o = c.before in let e = o.before.before.before in
+    scan_lowest e.before.loop-i.invariant e.loop-i-test.true (here o) c.if-off_pool.true
 
-loop-again : tie.Need-loop-preserved invariant-loop decreases-loop
-loop-again c = let o = c.before in let e = o.before.before.before in
-    scan_more e.before.loop.invariant e.loop-test.true (here o) c.if1.false
+loop-i-preserved : tie.Need-loop-i-preserved invariant-loop decreases-loop
+loop-i-preserved c = let o = c.before in let e = o.before.before.before in
+    scan_more e.before.loop-i.invariant e.loop-i-test.true (here o) c.if-off_pool.false
 
-pub off-state-spec : {M : Type 1} → statement M
-off-state-spec =
+pub off_state_spec : {M : Type 1} → statement M
+off_state_spec =
     tie.close
     (tie.spec
     invariant-loop
     decreases-loop
     (λ c. scan_none _ _)
     (λ c κs. search rules) (λ c κs. search rules)
-    off-pool-requires
-    returns
+    off_pool-requires
+    returns-then-off_pool
     (λ c. search rules)
     (λ c. search rules)
-    loop-again
-    (λ c. scan_past c.before.loop.invariant c.loop-test.false))
+    loop-i-preserved
+    (λ c. scan_past c.before.loop-i.invariant c.loop-i-test.false))

@@ -22,21 +22,21 @@ at_inner r zero f = absurd (f (λ j. zero))
 at_inner r (suc i) f = let e : suc i - 1 ≡ i = omega arith in rw e
 
 -- the bed of the cell
-own : (c : tie.After-bed-at) → let a = c.before.args in c.bed-at.result ≡ get_or a.bed.now a.i (pos 0)
-own c = c.bed-at.ensures
+own : (c : tie.After-bed_at-own) → let a = c.before.args in c.bed_at-own.result ≡ get_or a.bed.now a.i (pos 0)
+own c = c.bed_at-own.ensures
+
+returns-then-i-eq0 : tie.Need-returns-then-i-eq0
+returns-then-i-eq0 c = let b = c.before in let a = b.before.args in
+    back64 b.bed_at-own.type_inv (own b) ∙ at_first (reach_in a.call a.bed.now) a.i c.if-i-eq0.true
 
 returns : tie.Need-returns
-returns c = let b = c.before in let a = b.before.args in
-    back64 b.bed-at.type-inv (own b) ∙ at_first (reach_in a.call a.bed.now) a.i c.if1.true
-
-returns-2 : tie.Need-returns-2
-returns-2 c =
+returns c =
     let d = c.before in let e = d.before in let b = e.before in let a = b.before.args in
-    back64 c.higher.type-inv (c.higher.ensures
-    ∙ ap₂ max_z (back64 d.bed-at2.type-inv d.bed-at2.ensures) (back64 b.bed-at.type-inv (own b)))
-    ∙ at_inner (reach_in a.call a.bed.now) a.i e.if1.false
+    back64 c.higher.type_inv (c.higher.ensures
+    ∙ ap₂ max_z (back64 d.bed_at.type_inv d.bed_at.ensures) (back64 b.bed_at-own.type_inv (own b)))
+    ∙ at_inner (reach_in a.call a.bed.now) a.i e.if-i-eq0.false
 
-pub crest-left-spec : {M : Type 1} → statement M
-crest-left-spec =
+pub crest_left_spec : {M : Type 1} → statement M
+crest_left_spec =
     tie.close
-    (tie.spec (λ c κs. search rules) returns (λ c. search rules) (λ c κs. search rules) (λ c κs. search rules) returns-2)
+    (tie.spec (λ c κs. search rules) returns-then-i-eq0 (λ c. search rules) (λ c κs. search rules) (λ c κs. search rules) returns)

@@ -24,25 +24,25 @@ at_inner r i f =
     rw (e, ne_eqb (suc i) r.n g)
 
 -- the bed of the cell
-own : (c : tie.After-bed-at) → let a = c.before.args in c.bed-at.result ≡ get_or a.bed.now a.i (pos 0)
-own c = c.bed-at.ensures
+own : (c : tie.After-bed_at-own) → let a = c.before.args in c.bed_at-own.result ≡ get_or a.bed.now a.i (pos 0)
+own c = c.bed_at-own.ensures
+
+returns-then-i-call : tie.Need-returns-then-i-call
+returns-then-i-call c = let b = c.before.before in let a = b.before.args in
+    back64 b.bed_at-own.type_inv (own b) ∙ at_last (reach_in a.call a.bed.now) a.i c.if-i-call.true
 
 returns : tie.Need-returns
-returns c = let b = c.before.before in let a = b.before.args in
-    back64 b.bed-at.type-inv (own b) ∙ at_last (reach_in a.call a.bed.now) a.i c.if1.true
-
-returns-2 : tie.Need-returns-2
-returns-2 c =
+returns c =
     let d = c.before in let e = d.before in let b = e.before.before in let a = b.before.args in
-    back64 c.higher.type-inv (c.higher.ensures
-    ∙ ap₂ max_z (back64 b.bed-at.type-inv (own b)) (back64 d.bed-at2.type-inv d.bed-at2.ensures))
-    ∙ at_inner (reach_in a.call a.bed.now) a.i e.if1.false
+    back64 c.higher.type_inv (c.higher.ensures
+    ∙ ap₂ max_z (back64 b.bed_at-own.type_inv (own b)) (back64 d.bed_at.type_inv d.bed_at.ensures))
+    ∙ at_inner (reach_in a.call a.bed.now) a.i e.if-i-call.false
 
-pub crest-right-spec : {M : Type 1} → statement M
-crest-right-spec =
+pub crest_right_spec : {M : Type 1} → statement M
+crest_right_spec =
     tie.close
     (tie.spec
     (λ c κs. search rules) (λ c. search rules)
-    returns
+    returns-then-i-call
     (λ c. search rules) (λ c κs. search rules) (λ c κs. search rules)
-    returns-2)
+    returns)

@@ -36,9 +36,9 @@ crossed c =
     at c.face.ensures)
     ∙ face_given_lem l r p q)
 
-returns : tie.Need-returns
-returns c =
-    let g = c.before.f.given in let z = g.0 in let t = c.known-told.given in
+returns-in-Flux : tie.Need-returns-in-Flux
+returns-in-Flux c =
+    let g = c.before.f-1.given in let z = g.0 in let t = c.known_told-1.given in
     let y = z.1.1 in let v = t.1.1 in
     (λ j. record {
       F = back {z = z.0} t.0.1 j;
@@ -49,8 +49,8 @@ returns c =
     ∙ ap made (sym g.1)
     ∙ crossed c.before.before.before
 
-returns-2 : tie.Need-returns-2
-returns-2 c = ap made (sym c.enum_told.given.1) ∙ crossed c.before.before
+returns-in-Refused : tie.Need-returns-in-Refused
+returns-in-Refused c = ap made (sym c.enum_told-1.given.1) ∙ crossed c.before.before
 
-pub crossing-spec : {M : Type 1} → statement M
-crossing-spec = tie.close (tie.spec (λ c κs. search rules) (λ c. search rules) (λ c. search rules) returns returns-2)
+pub crossing_spec : {M : Type 1} → statement M
+crossing_spec = tie.close (tie.spec (λ c κs. search rules) (λ c. search rules) (λ c. search rules) returns-in-Flux returns-in-Refused)

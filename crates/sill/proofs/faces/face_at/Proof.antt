@@ -12,67 +12,67 @@ use Rattle.sill.proofs.faces.face_at.Statement.{statement}
 use Rattle.sill.proofs.faces.face_at.Tie as tie
 
 -- ---- the left end
-module _ (f : tie.After-left-side) where
+module _ (f : tie.After-left_side-first) where
   abbrev left_start : tie.Start
   left_start = f.before.before.before
 
-  first_sound : Sound (side_in f.left_side.result)
-  first_sound = let s = left_start in subst Sound (sym f.left_side.ensures) (s.pre.1 0 s.pre.0.0.some).left
+  first_sound : Sound (side_in f.left_side-first.result)
+  first_sound = let s = left_start in subst Sound (sym f.left_side-first.ensures) (s.requires.rows 0 s.requires.numbers.0.some).left
 
-returns : tie.Need-returns
-returns c =
+returns-then-i-eq0 : tie.Need-returns-then-i-eq0
+returns-then-i-eq0 c =
     let o = c.before in let f = o.before in let t = f.before.before in let a = (left_start f).args in
     c.crossing.ensures
-    ∙ ap₂ face (o.outer.ensures.0 ∙ ap (outer a.call.left) f.left_side.ensures) f.left_side.ensures
-    ∙ sym (at_left a.call a.b.now a.i t.if1.true)
+    ∙ ap₂ face (o.outer.ensures.0 ∙ ap (outer a.call.left) f.left_side-first.ensures) f.left_side-first.ensures
+    ∙ sym (at_left a.call a.b.now a.i t.if-i-eq0.true)
 
 -- ---- a face behind a cell
-module _ (b : tie.After-right-side) where
-  abbrev else : tie.Else1
+module _ (b : tie.After-right_side-before) where
+  abbrev else : tie.Else-i-eq0
   else = b.before.before
 
   abbrev start : tie.Start
   start = else.before
 
-  before_sound : Sound (side_in b.right_side.result)
+  before_sound : Sound (side_in b.right_side-before.result)
   before_sound =
-      let s = start in let i = s.args.i - 1 in let l : i < s.args.call.n = omega (arith, else.if1.left, s.pre.0) in
-      subst Sound (sym b.right_side.ensures) (s.pre.1 i l).right
+      let s = start in let i = s.args.i - 1 in let l : i < s.args.call.n = omega (arith, else.if-i-eq0.left, s.requires.numbers) in
+      subst Sound (sym b.right_side-before.ensures) (s.requires.rows i l).right
 
-returns-2 : tie.Need-returns-2
-returns-2 c =
+returns-then-i-call : tie.Need-returns-then-i-call
+returns-then-i-call c =
     let o = c.before in let t = o.before in let b = t.before.before in let a = (start b).args in
-    c.crossing2.ensures
-    ∙ ap₂ face b.right_side.ensures (o.outer2.ensures.0 ∙ ap (outer a.call.right) b.right_side.ensures)
-    ∙ sym (at_right a.call a.b.now a.i (else b).if1.false t.if2.true)
+    c.crossing-then-i-call.ensures
+    ∙ ap₂ face b.right_side-before.ensures (o.outer-then-i-call.ensures.0 ∙ ap (outer a.call.right) b.right_side-before.ensures)
+    ∙ sym (at_right a.call a.b.now a.i (else b).if-i-eq0.false t.if-i-call.true)
 
 -- ---- and before another
-crossing-requires-3 : tie.Need-crossing-requires-3
-crossing-requires-3 c κs =
+crossing-requires-2 : tie.Need-crossing-requires-2
+crossing-requires-2 c κs =
     let e = c.before.before in let b = e.before.before in let s = start b in
-    let l : s.args.i < s.args.call.n = omega (arith, e.if2.false, s.pre.0) in
-    (before_sound b, subst Sound (sym c.left-side2.ensures) (s.pre.1 s.args.i l).left)
+    let l : s.args.i < s.args.call.n = omega (arith, e.if-i-call.false, s.requires.numbers) in
+    (before_sound b, subst Sound (sym c.left_side.ensures) (s.requires.rows s.args.i l).left)
 
-returns-3 : tie.Need-returns-3
-returns-3 c =
+returns : tie.Need-returns
+returns c =
     let f = c.before in let e = f.before.before in let b = e.before.before in let a = (start b).args in
-    c.crossing3.ensures
-    ∙ ap₂ face b.right_side.ensures f.left-side2.ensures
-    ∙ sym (at_inner a.call a.b.now a.i (else b).if1.false e.if2.false)
+    c.crossing-2.ensures
+    ∙ ap₂ face b.right_side-before.ensures f.left_side.ensures
+    ∙ sym (at_inner a.call a.b.now a.i (else b).if-i-eq0.false e.if-i-call.false)
 
-pub face-at-spec : {M : Type 1} → statement M
-face-at-spec =
+pub face_at_spec : {M : Type 1} → statement M
+face_at_spec =
     tie.close
     (tie.spec
     (λ c. search rules)
     (λ c κs. search rules)
     (λ c κs. first_sound c)
     (λ c κs. (c.outer.ensures.1, first_sound c.before))
-    returns
+    returns-then-i-eq0
     (λ c. search rules) (λ c. search rules) (λ c. search rules) (λ c κs. search rules)
     (λ c κs. before_sound c.before.before)
-    (λ c κs. (before_sound c.before.before.before, c.outer2.ensures.1))
-    returns-2
+    (λ c κs. (before_sound c.before.before.before, c.outer-then-i-call.ensures.1))
+    returns-then-i-call
     (λ c. search rules) (λ c. search rules) (λ c κs. search rules)
-    crossing-requires-3
-    returns-3)
+    crossing-requires-2
+    returns)

@@ -12,72 +12,72 @@ use Rattle.sill.specs.Laws.FaceSizes.{cross_sized}
 use Rattle.sill.proofs.faces.faces.Statement.{statement}
 use Rattle.sill.proofs.faces.faces.Tie as tie
 
-abbrev invariant-loop : tie.invariant-loop
+abbrev invariant-loop : tie.invariant-loop-i
 invariant-loop b call f₀ n i₀ f i = Filling [] (suc n) (long_at call b) (face_row_at call b) f₀ f i
 
-abbrev decreases-loop : tie.decreases-loop
+abbrev decreases-loop : tie.decreases-loop-i
 decreases-loop b call f₀ n i₀ f i = suc n - i
 
-face-at-requires : tie.Need-face-at-requires invariant-loop decreases-loop
-face-at-requires c κs = let p = c.before.before.requires in ((p.0.0, p.0.1, c.loop-test.true), p.1)
+face_at-x-requires : tie.Need-face_at-x-requires invariant-loop decreases-loop
+face_at-x-requires c κs = let p = c.before.before.requires in record { numbers = (p.0.0, p.0.1, c.loop-i-test.true); rows = p.1 }
 
 -- what crosses face i, and whether the step is too long for it
-sized_here : (c : tie.After-face-at invariant-loop decreases-loop) → Sized (flux_in c.face-at.result)
+sized_here : (c : tie.After-face_at-x invariant-loop decreases-loop) → Sized (flux_in c.face_at-x.result)
 sized_here c =
     let e = c.before in let l = e.before in let s = l.before in
-    subst Sized (sym c.face-at.ensures)
-    (cross_sized s.args.call s.args.b.now s.requires.0.0 s.requires.1 l.loop.i e.loop-test.true)
+    subst Sized (sym c.face_at-x.ensures)
+    (cross_sized s.args.call s.args.b.now s.requires.numbers.0 s.requires.rows l.loop-i.i e.loop-i-test.true)
 
 -- the turn of a face
-module _ (c : tie.After-too-long invariant-loop decreases-loop) where
-  abbrev crossed : tie.After-face-at invariant-loop decreases-loop
+module _ (c : tie.After-too_long invariant-loop decreases-loop) where
+  abbrev crossed : tie.After-face_at-x invariant-loop decreases-loop
   crossed = c.before.before
 
-  abbrev turn : tie.In-loop invariant-loop decreases-loop
+  abbrev turn : tie.In-loop-i invariant-loop decreases-loop
   turn = crossed.before
 
   abbrev start : tie.Start invariant-loop decreases-loop
   start = turn.before.before
 
-  long_here : let a = start.args in long_at a.call a.b.now turn.before.loop.i ≡ c.too_long.result
+  long_here : let a = start.args in long_at a.call a.b.now turn.before.loop-i.i ≡ c.too_long.result
   long_here = let a = start.args in
-      ap (is_long a.call.dx a.call.dt) (sym crossed.face-at.ensures) ∙ sym c.too_long.ensures
+      ap (is_long a.call.dx a.call.dt) (sym crossed.face_at-x.ensures) ∙ sym c.too_long.ensures
 
-  row_here : let a = start.args in c.before.face-row.result ≡ face_row_at a.call a.b.now turn.before.loop.i
+  row_here : let a = start.args in c.before.face_row.result ≡ face_row_at a.call a.b.now turn.before.loop-i.i
   row_here = let a = start.args in
-      c.before.face-row.ensures ∙ ap (face_row a.call.dx a.call.dt) crossed.face-at.ensures
+      c.before.face_row.ensures ∙ ap (face_row a.call.dx a.call.dt) crossed.face_at-x.ensures
+
+returns-then-too_long : tie.Need-returns-then-too_long invariant-loop decreases-loop
+returns-then-too_long c =
+    let t = c.before in let e = turn t in let l = e.before in
+    fill_stops [] _ _ _ _ l.loop-i.f l.loop-i.i _ (start t).requires.numbers.2 (omega (arith, e.loop-i-test.taken)) l.loop-i.inv
+    (row_here t) (long_here t ∙ c.if-too_long.true)
+
+loop-i-preserved : tie.Need-loop-i-preserved invariant-loop decreases-loop
+loop-i-preserved c =
+    let t = c.before in let e = turn t in let l = e.before in
+    fill_more [] _ _ _ _ l.loop-i.f l.loop-i.i _ (start t).requires.numbers.2 (omega (arith, e.loop-i-test.taken)) l.loop-i.inv
+    (row_here t) (long_here t ∙ c.if-too_long.false)
 
 returns : tie.Need-returns invariant-loop decreases-loop
-returns c =
-    let t = c.before in let e = turn t in let l = e.before in
-    fill_stops [] _ _ _ _ l.loop.f l.loop.i _ (start t).requires.0.2 (omega (arith, e.loop-test.taken)) l.loop.inv
-    (row_here t) (long_here t ∙ c.if1.true)
+returns c = let l = c.before.loop-i in let n = c.before.before.args.call.n in
+    let e : suc n ≡ n + 1 = omega arith in rw (sym e) (fill_ends [] _ _ _ _ l.f l.i (omega (arith, c.loop-i-test.false)) l.invariant)
 
-loop-again : tie.Need-loop-preserved invariant-loop decreases-loop
-loop-again c =
-    let t = c.before in let e = turn t in let l = e.before in
-    fill_more [] _ _ _ _ l.loop.f l.loop.i _ (start t).requires.0.2 (omega (arith, e.loop-test.taken)) l.loop.inv
-    (row_here t) (long_here t ∙ c.if1.false)
-
-returns-2 : tie.Need-returns-2 invariant-loop decreases-loop
-returns-2 c = let l = c.before.loop in let n = c.before.before.args.call.n in
-    let e : suc n ≡ n + 1 = omega arith in rw (sym e) (fill_ends [] _ _ _ _ l.f l.i (omega (arith, c.loop-test.false)) l.invariant)
-
-pub faces-spec : {M : Type 1} → statement M
-faces-spec =
+pub faces_spec : {M : Type 1} → statement M
+faces_spec =
     tie.close
     (tie.spec
     invariant-loop
     decreases-loop
     (λ c. fill_none [] _ _ _ c.args.f.now)
-    face-at-requires
-    (λ c κs. (sized_here c, c.before.before.before.requires.0.0))
+    face_at-x-requires
+    (λ c κs. (sized_here c, c.before.before.before.requires.numbers.0))
     (λ c. search rules) (λ c. search rules)
-    (λ c κs. let f = c.before in (sized_here f, f.before.before.before.requires.0.0))
+    (λ c κs. let f = c.before in (sized_here f, f.before.before.before.requires.numbers.0))
     (λ c. search rules)
-    returns
+    returns-then-too_long
     (λ c. search rules) (λ c. omega arith)
-    loop-again
+    loop-i-preserved
     (λ c. search rules)
     (λ c. search rules)
-    returns-2)
+    returns)

@@ -13,32 +13,32 @@ use Rattle.sill_rules.specs.Refusals.{off_pool}
 use Rattle.sill.proofs.pool.off_pool.Statement.{statement}
 use Rattle.sill.proofs.pool.off_pool.Tie as tie
 
-depth-of-requires : tie.Need-depth-of-requires
-depth-of-requires c κs = rw (to_z-of_z c.ranges.z) c.requires
+depth_of-requires : tie.Need-depth_of-requires
+depth_of-requires c κs = rw (to_z-of_z c.ranges.z) c.requires
 
 deep_test : (c : tie.After-outside) → let a = c.before.before.args in
     outside (pos 0) deepest (depth a.z (as_pool a.t2)) ≡ c.outside.result
 deep_test c = let d = c.before in let s = d.before in
     sym (c.outside.ensures
-    ∙ ap (outside (pos 0) deepest) (back64 d.depth-of.type-inv (rw (to_z-of_z s.ranges.z) at d.depth-of.ensures)))
+    ∙ ap (outside (pos 0) deepest) (back64 d.depth_of.type_inv (rw (to_z-of_z s.ranges.z) at d.depth_of.ensures)))
+
+returns-then-outside : tie.Need-returns-then-outside
+unfolding off_pool any
+returns-then-outside c = rw (deep_test c.before ∙ c.if-outside.true)
 
 returns : tie.Need-returns
 unfolding off_pool any
-returns c = rw (deep_test c.before ∙ c.if1.true)
-
-returns-2 : tie.Need-returns-2
-unfolding off_pool any
-returns-2 c =
+returns c =
     let a = c.before in let e = a.before in
-    rw (deep_test e.before ∙ e.if1.false, sym (rw (back a.past-arg.given) at c.past.ensures)) (or_last c.past.result)
+    rw (deep_test e.before ∙ e.if-outside.false, sym (rw (back a.past-arg-1.given) at c.past.ensures)) (or_last c.past.result)
 
-pub off-pool-spec : {M : Type 1} → statement M
-off-pool-spec =
+pub off_pool_spec : {M : Type 1} → statement M
+off_pool_spec =
     tie.close
     (tie.spec
-    depth-of-requires
+    depth_of-requires
     (λ c κs. search rules)
-    returns
+    returns-then-outside
     (λ c. search rules)
     (λ c κs. search rules)
-    returns-2)
+    returns)

@@ -16,23 +16,23 @@ speed-requires c κs = search rules
 answer : (c : tie.After-speed) → let a = c.before.args in value_of c.speed.result ≡ given (speed a.dry a.q a.h)
 answer c =
     let s = c.before in
-    let depth = s.requires.1.0 in
+    let depth = s.requires.pos_bound in
     (simp (to_z-of_z, s.ranges.q, s.ranges.h, s.ranges.dry) at c.speed.ensures)
-    ∙ speed_given_lem s.args.q s.args.h s.args.dry s.requires.0 depth.0 depth.1 s.requires.1.1
+    ∙ speed_given_lem s.args.q s.args.h s.args.dry s.requires.up_to depth.0 depth.1 s.requires.dry_depth
 
-enum-known-u : tie.Need-enum-known-u
-enum-known-u c = search rules
+enum_known-u : tie.Need-enum_known-u
+enum_known-u c = search rules
 
-enum_told : tie.Need-enum-told
-enum_told c = search rules
+enum_told-1 : tie.Need-enum_told-1
+enum_told-1 c = search rules
 
-returns : tie.Need-returns
-returns c =
+returns-in-Is : tie.Need-returns-in-Is
+returns-in-Is c =
     let a = c.before.before.before in
-    back64 c.known-told.given.0.1 (told a.speed.result _ _ c.before.u.given.1 (answer a))
+    back64 c.known_told-1.given.0.1 (told a.speed.result _ _ c.before.u-1.given.1 (answer a))
 
-returns-2 : tie.Need-returns-2
-returns-2 c = let a = c.before.before in untold a.speed.result _ c.enum_told.given.1 (answer a)
+returns-in-Refused : tie.Need-returns-in-Refused
+returns-in-Refused c = let a = c.before.before in untold a.speed.result _ c.enum_told-1.given.1 (answer a)
 
-pub speed-of-spec : {M : Type 1} → statement M
-speed-of-spec = tie.close (tie.spec speed-requires enum-known-u enum_told returns returns-2)
+pub speed_of_spec : {M : Type 1} → statement M
+speed_of_spec = tie.close (tie.spec speed-requires enum_known-u enum_told-1 returns-in-Is returns-in-Refused)

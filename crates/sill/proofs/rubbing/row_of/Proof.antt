@@ -22,88 +22,88 @@ module _ (s : tie.Start) where
   bed = s.args.bed.now
 
   inside : Inside (get_or bed s.args.i (pos 0)) pool
-  inside = s.pre.1
+  inside = s.requires.inside
 
   sizes : PoolSizes (get_or bed s.args.i (pos 0)) pool
   sizes = pool_sizes inside
 
 -- ---- the depths over the crests
-module _ (a : tie.After-over-arg) where
+module _ (a : tie.After-over-arg-1) where
   abbrev from_left : tie.Start
   from_left = a.before.before
 
-  left_is : rd a.before.crest-left.result ≡ crest_left (reach_in from_left.args.call (bed from_left)) from_left.args.i
-  left_is = back64 a.before.crest-left.ok a.before.crest-left.ensures
+  left_is : rd a.before.crest_left.result ≡ crest_left (reach_in from_left.args.call (bed from_left)) from_left.args.i
+  left_is = back64 a.before.crest_left.ok a.before.crest_left.ensures
 
-over-requires : tie.Need-over-requires
-over-requires c κs = let s = from_left c in
-    rw (left_is c, back c.over-arg.given)
-    (left_size s.args.call (bed s) s.pre.0.2 s.args.i s.pre.0.1, (pool_wide (inside s)).e)
+over-l-requires : tie.Need-over-l-requires
+over-l-requires c κs = let s = from_left c in
+    rw (left_is c, back c.over-arg-1.given)
+    (left_size s.args.call (bed s) s.requires.numbers.2 s.args.i s.requires.numbers.1, (pool_wide (inside s)).e)
 
-module _ (a : tie.After-over-arg2) where
-  abbrev first : tie.After-over-arg
+module _ (a : tie.After-over-arg-2-1) where
+  abbrev first : tie.After-over-arg-1
   first = a.before.before.before
 
   abbrev from_right : tie.Start
   from_right = from_left first
 
-  right_is : rd a.before.crest-right.result ≡ crest_right (reach_in from_right.args.call (bed from_right)) from_right.args.i
-  right_is = back64 a.before.crest-right.ok a.before.crest-right.ensures
+  right_is : rd a.before.crest_right.result ≡ crest_right (reach_in from_right.args.call (bed from_right)) from_right.args.i
+  right_is = back64 a.before.crest_right.ok a.before.crest_right.ensures
 
-over-requires-2 : tie.Need-over-requires-2
-over-requires-2 c κs = let s = from_right c in
-    rw (right_is c, back c.over-arg2.given)
-    (right_size s.args.call (bed s) s.pre.0.2 s.args.i s.pre.0.1, (pool_wide (inside s)).e)
+over-r-requires : tie.Need-over-r-requires
+over-r-requires c κs = let s = from_right c in
+    rw (right_is c, back c.over-arg-2-1.given)
+    (right_size s.args.call (bed s) s.requires.numbers.2 s.args.i s.requires.numbers.1, (pool_wide (inside s)).e)
 
 -- ---- the speed
-module _ (b : tie.After-bed-at) where
-  abbrev second : tie.After-over-arg2
+module _ (b : tie.After-bed_at) where
+  abbrev second : tie.After-over-arg-2-1
   second = b.before.before.before
 
   abbrev start : tie.Start
   start = from_right second
 
-  z_is : rd b.bed-at.result ≡ get_or (bed start) start.args.i (pos 0)
-  z_is = back64 b.bed-at.ok b.bed-at.ensures
+  z_is : rd b.bed_at.result ≡ get_or (bed start) start.args.i (pos 0)
+  z_is = back64 b.bed_at.ok b.bed_at.ensures
 
-depth-of-requires : tie.Need-depth-of-requires
-depth-of-requires c κs = let i = inside (start c) in rw (z_is c) (i.ground, pool_wide i)
+depth_of-requires : tie.Need-depth_of-requires
+depth_of-requires c κs = let i = inside (start c) in rw (z_is c) (i.ground, pool_wide i)
 
-module _ (d : tie.After-depth-of) where
-  h_is : let s = start d.before in rd d.depth-of.result ≡ depth (get_or (bed s) s.args.i (pos 0)) (pool s)
-  h_is = back64 d.depth-of.type-inv (rw (z_is d.before) at d.depth-of.ensures)
+module _ (d : tie.After-depth_of) where
+  h_is : let s = start d.before in rd d.depth_of.result ≡ depth (get_or (bed s) s.args.i (pos 0)) (pool s)
+  h_is = back64 d.depth_of.type_inv (rw (z_is d.before) at d.depth_of.ensures)
 
-speed-of-requires : tie.Need-speed-of-requires
-speed-of-requires c κs =
+speed_of-u-requires : tie.Need-speed_of-u-requires
+speed_of-u-requires c κs =
     let d = c.before in let s = start d.before in let k = sizes s in
-    rw (back d.before.before.speed-of-arg.given, h_is d, back {z = s.args.call.dry} c.struct_told.given.1.1.0.1)
-    (k.flow, ((k.least, k.most), s.pre.0.0.dry))
+    rw (back d.before.before.speed_of-arg-1.given, h_is d, back {z = s.args.call.dry} c.struct_told-1.given.1.1.0.1)
+    record { up_to = k.flow; pos_bound = (k.least, k.most); dry_depth = s.requires.numbers.0.dry }
 
 returns : tie.Need-returns
 unfolding over pace
 returns c =
     let t = c.before in let sp = t.before in let k = sp.before in let d = k.before in let b = d.before in let o2 = b.before.before in
     let a2 = second b in let o1 = a2.before.before in let a1 = first a2 in let s = start b in let x = s.args.t4 in
-    let l = rw (left_is a1, back {z = get_or x 0 (pos 0)} a1.over-arg.given) at o1.over.ensures in
-    let r = rw (right_is a2, back {z = get_or x 0 (pos 0)} a2.over-arg2.given) at o2.over2.ensures in
+    let l = rw (left_is a1, back {z = get_or x 0 (pos 0)} a1.over-arg-1.given) at o1.over-l.ensures in
+    let r = rw (right_is a2, back {z = get_or x 0 (pos 0)} a2.over-arg-2-1.given) at o2.over-r.ensures in
     let u = rw (
-      back {z = get_or x 1 (pos 0)} b.before.speed-of-arg.given,
+      back {z = get_or x 1 (pos 0)} b.before.speed_of-arg-1.given,
       h_is d,
-      back {z = s.args.call.dry} k.struct_told.given.1.1.0.1,
-    ) at sp.speed-of.ensures in
-    λ j. back {z = get_or x 0 (pos 0)} t.t9.given j ∷ back {z = get_or x 1 (pos 0)} c.t12.given j
-    ∷ back64 o1.over.ok l j ∷ back64 o2.over2.type-inv r j ∷ back64 sp.speed-of.type-inv u j ∷ []
+      back {z = s.args.call.dry} k.struct_told-1.given.1.1.0.1,
+    ) at sp.speed_of-u.ensures in
+    λ j. back {z = get_or x 0 (pos 0)} t.result-1.given j ∷ back {z = get_or x 1 (pos 0)} c.result-2-1.given j
+    ∷ back64 o1.over-l.ok l j ∷ back64 o2.over-r.type_inv r j ∷ back64 sp.speed_of-u.type_inv u j ∷ []
 
-pub row-of-spec : {M : Type 1} → statement M
-row-of-spec =
+pub row_of_spec : {M : Type 1} → statement M
+row_of_spec =
     tie.close
     (tie.spec
     (λ c κs. search rules) (λ c. search rules)
-    over-requires
+    over-l-requires
     (λ c κs. search rules) (λ c. search rules)
-    over-requires-2
+    over-r-requires
     (λ c. search rules) (λ c κs. search rules)
-    depth-of-requires
-    speed-of-requires
+    depth_of-requires
+    speed_of-u-requires
     (λ c. search rules) (λ c. search rules)
     returns)

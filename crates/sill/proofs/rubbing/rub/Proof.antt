@@ -35,29 +35,29 @@ abbrev row : List ℤ → List ℤ → List ℕ → Call → ℕ → List ℤ
 row state bed friction call = let r = reach_in call bed in
     row_at r call.dry (rubbed r (call_in call (λ i. pos (get_or friction i 0))) (pool_in call.n state))
 
-abbrev invariant-loop : tie.invariant-loop
+abbrev invariant-loop : tie.invariant-loop-i
 invariant-loop state bed friction call b₀ n i₀ b i =
     Scanned (fast state bed friction call) n i × (length b ≡ length b₀) × Written [] b i (row state bed friction call)
 
-abbrev decreases-loop : tie.decreases-loop
+abbrev decreases-loop : tie.decreases-loop-i
 decreases-loop state bed friction call b₀ n i₀ b i = n - i
 
 -- ---- the cell of this turn
-module _ (a : tie.After-speed-of-arg invariant-loop decreases-loop) where
-  abbrev bedded : tie.After-bed-at invariant-loop decreases-loop
+module _ (a : tie.After-speed_of-arg-1 invariant-loop decreases-loop) where
+  abbrev bedded : tie.After-bed_at-z invariant-loop decreases-loop
   bedded = a.before
 
-  abbrev read : tie.After-pool-of invariant-loop decreases-loop
+  abbrev read : tie.After-pool_of-x invariant-loop decreases-loop
   read = bedded.before
 
-  abbrev turn : tie.In-loop invariant-loop decreases-loop
+  abbrev turn : tie.In-loop-i invariant-loop decreases-loop
   turn = read.before
 
   abbrev start : tie.Start invariant-loop decreases-loop
   start = turn.before.before.before
 
   abbrev i : ℕ
-  i = turn.before.loop.i
+  i = turn.before.loop-i.i
 
   abbrev z : ℤ
   z = get_or start.args.bed.now i (pos 0)
@@ -66,84 +66,78 @@ module _ (a : tie.After-speed-of-arg invariant-loop decreases-loop) where
   cell = pool_in start.args.call.n start.args.state.now i
 
   inside : Inside z cell
-  inside = start.pre.1.1 i turn.loop-test.taken
+  inside = start.requires.smooth.1 i turn.loop-i-test.taken
 
-  z_is : rd bedded.bed-at.result ≡ z
-  z_is = back64 bedded.bed-at.ok bedded.bed-at.ensures
+  z_is : rd bedded.bed_at-z.result ≡ z
+  z_is = back64 bedded.bed_at-z.ok bedded.bed_at-z.ensures
 
-  cell_is : as_pool read.pool-of.result ≡ cell
-  cell_is = ap as_pool read.pool-of.ensures.0
+  cell_is : as_pool read.pool_of-x.result ≡ cell
+  cell_is = ap as_pool read.pool_of-x.ensures.0
 
-depth-of-requires : tie.Need-depth-of-requires invariant-loop decreases-loop
-depth-of-requires c κs = (
+depth_of-requires : tie.Need-depth_of-requires invariant-loop decreases-loop
+depth_of-requires c κs = (
   subst (UpTo highest_bed) (sym (z_is c)) (inside c).ground,
   subst Wide (sym (cell_is c)) (pool_wide (inside c)),
 )
 
 -- ---- its speed
-module _ (k : tie.After-struct-told invariant-loop decreases-loop) where
-  abbrev deep : tie.After-depth-of invariant-loop decreases-loop
+module _ (k : tie.After-struct_told-1 invariant-loop decreases-loop) where
+  abbrev deep : tie.After-depth_of invariant-loop decreases-loop
   deep = k.before
 
-  abbrev here : tie.After-speed-of-arg invariant-loop decreases-loop
+  abbrev here : tie.After-speed_of-arg-1 invariant-loop decreases-loop
   here = deep.before
 
-  h_is : rd deep.depth-of.result ≡ depth (z here) (cell here)
-  h_is = back64 deep.depth-of.ok (deep.depth-of.ensures ∙ (λ j. depth (z_is here j) (cell_is here j)))
+  h_is : rd deep.depth_of.result ≡ depth (z here) (cell here)
+  h_is = back64 deep.depth_of.ok (deep.depth_of.ensures ∙ (λ j. depth (z_is here j) (cell_is here j)))
 
-  q_is : rd (get_or (read here).pool-of.result 1 (pos 0)) ≡ (cell here).q
-  q_is = back here.speed-of-arg.given ∙ ap (λ (x : Pool). x.q) (cell_is here)
+  q_is : rd (get_or (read here).pool_of-x.result 1 (pos 0)) ≡ (cell here).q
+  q_is = back here.speed_of-arg-1.given ∙ ap (λ (x : Pool). x.q) (cell_is here)
 
   dry_is : let d = (start here).args.call.dry in rd d ≡ d
-  dry_is = back {z = (start here).args.call.dry} k.struct_told.given.1.1.0.1
+  dry_is = back {z = (start here).args.call.dry} k.struct_told-1.given.1.1.0.1
 
-speed-of-requires : tie.Need-speed-of-requires invariant-loop decreases-loop
-speed-of-requires c κs = let m = pool_sizes (inside (here c)) in (
-  subst (UpTo fullest) (sym (q_is c)) m.flow,
-  (
-    subst (λ (h : ℤ). (pos 0 ≤ℤ h) × (h ≤ℤ deepest)) (sym (h_is c)) (m.least, m.most),
-    subst DryDepth (sym (dry_is c)) (start (here c)).pre.0.0.dry,
-  ),
-)
+speed_of-u-requires : tie.Need-speed_of-u-requires invariant-loop decreases-loop
+speed_of-u-requires c κs = let m = pool_sizes (inside (here c)) in record { up_to = subst (UpTo fullest) (sym (q_is c)) m.flow; pos_bound = subst (λ (h : ℤ). (pos 0 ≤ℤ h) × (h ≤ℤ deepest)) (sym (h_is c)) (m.least, m.most); dry_depth = subst DryDepth (sym (dry_is c)) (start (here c)).requires.numbers.0.dry }
 
 -- ---- the test of this turn
 module _ (t : tie.After-past invariant-loop decreases-loop) where
-  abbrev sped : tie.After-speed-of invariant-loop decreases-loop
+  abbrev sped : tie.After-speed_of-u invariant-loop decreases-loop
   sped = t.before
 
-  abbrev told : tie.After-struct-told invariant-loop decreases-loop
+  abbrev told : tie.After-struct_told-1 invariant-loop decreases-loop
   told = sped.before
 
-  abbrev place : tie.After-speed-of-arg invariant-loop decreases-loop
+  abbrev place : tie.After-speed_of-arg-1 invariant-loop decreases-loop
   place = here told
 
   abbrev begun : tie.Start invariant-loop decreases-loop
   begun = start place
 
-  u_is : rd sped.speed-of.result ≡ pace begun.args.call.dry (z place) (cell place)
+  u_is : rd sped.speed_of-u.result ≡ pace begun.args.call.dry (z place) (cell place)
   unfolding pace
-  u_is = back64 sped.speed-of.ok (sped.speed-of.ensures ∙ (λ j. speed (dry_is told j) (q_is told j) (h_is told j)))
+  u_is = back64 sped.speed_of-u.ok (sped.speed_of-u.ensures ∙ (λ j. speed (dry_is told j) (q_is told j) (h_is told j)))
 
   fast_here : let a = begun.args in fast a.state.now a.bed.now a.friction.now a.call (i place) ≡ t.past.result
   unfolding fast_friction fast_pool
   fast_here = sym (t.past.ensures ∙ ap (past fastest) u_is)
 
-pool-of-requires : tie.Need-pool-of-requires invariant-loop decreases-loop
-pool-of-requires c κs = let s = c.before.before.before in (s.requires.0.0.most, c.loop-test.true, s.requires.0.2)
+pool_of-x-requires : tie.Need-pool_of-x-requires invariant-loop decreases-loop
+pool_of-x-requires c κs = let s = c.before.before.before in (s.requires.numbers.0.most, c.loop-i-test.true, s.requires.numbers.2)
 
-returns : tie.Need-returns invariant-loop decreases-loop
-returns c =
-    let t = c.before in let e = turn (place t) in let below = e.loop-test.taken in record {
-      stops = scan_lowest e.before.loop.inv.0 below (fast_here t) c.if1.true;
+returns-then-past : tie.Need-returns-then-past invariant-loop decreases-loop
+returns-then-past c =
+    let t = c.before in let e = turn (place t) in let below = e.loop-i-test.taken in record {
+      stops = scan_lowest e.before.loop-i.inv.0 below (fast_here t) c.if-past.true;
       rows = λ m. let y : ⊥ = omega (arith, m) in absurd y;
     }
 
 -- ---- the cell after friction
-module _ (r : tie.After-rough-at invariant-loop decreases-loop) where
+module _ (r : tie.After-rough_at invariant-loop decreases-loop) where
   abbrev tried : tie.After-past invariant-loop decreases-loop
   tried = r.before.before
 
-  abbrev at : tie.After-speed-of-arg invariant-loop decreases-loop
+  abbrev at : tie.After-speed_of-arg-1 invariant-loop decreases-loop
   at = place tried
 
   abbrev dry : ℤ
@@ -152,35 +146,26 @@ module _ (r : tie.After-rough-at invariant-loop decreases-loop) where
   abbrev rough : ℤ
   rough = pos (get_or (begun tried).args.friction.now (i at) 0)
 
-  rough_is : rd r.rough-at.result ≡ rough
-  rough_is = back64 r.rough-at.ok r.rough-at.ensures
+  rough_is : rd r.rough_at.result ≡ rough
+  rough_is = back64 r.rough_at.ok r.rough_at.ensures
 
   slow : fast_pool dry (z at) (cell at) ≡ false
   unfolding fast_friction
-  slow = fast_here tried ∙ r.before.if1.left
+  slow = fast_here tried ∙ r.before.if-past.left
 
-rubbed-pool-requires : tie.Need-rubbed-pool-requires invariant-loop decreases-loop
-rubbed-pool-requires c κs =
-    let a = at c in let s = start a in let x = as_pool (read a).pool-of.result in (
-      s.pre.0.0,
-      (
-        subst (λ (f : ℤ). (pos 0 ≤ℤ f) × UpTo roughest f) (sym (rough_is c))
-            (nat_nonneg _, record { abs = s.pre.1.0 (i a) (turn a).loop-test.taken }),
-        (
-          subst (λ (b : ℤ). Inside b x) (sym (z_is a)) (subst (Inside (z a)) (sym (cell_is a)) (inside a)),
-          (
+rubbed_pool-requires : tie.Need-rubbed_pool-requires invariant-loop decreases-loop
+rubbed_pool-requires c κs =
+    let a = at c in let s = start a in let x = as_pool (read a).pool_of-x.result in record { numbers = s.requires.numbers.0; pos_bound = subst (λ (f : ℤ). (pos 0 ≤ℤ f) × UpTo roughest f) (sym (rough_is c))
+            (nat_nonneg _, record { abs = s.requires.smooth.0 (i a) (turn a).loop-i-test.taken }); inside = subst (λ (b : ℤ). Inside b x) (sym (z_is a)) (subst (Inside (z a)) (sym (cell_is a)) (inside a)); u_value = (
             u_is (tried c) ∙ sym (λ j. pace (dry c) (z_is a j) (cell_is a j)),
             (λ j. fast_pool (dry c) (z_is a j) (cell_is a j)) ∙ slow c,
-          ),
-        ),
-      ),
-    )
+          ) }
 
-module _ (y : tie.After-rubbed-pool invariant-loop decreases-loop) where
-  abbrev roughened : tie.After-rough-at invariant-loop decreases-loop
+module _ (y : tie.After-rubbed_pool invariant-loop decreases-loop) where
+  abbrev roughened : tie.After-rough_at invariant-loop decreases-loop
   roughened = y.before
 
-  abbrev own : tie.After-speed-of-arg invariant-loop decreases-loop
+  abbrev own : tie.After-speed_of-arg-1 invariant-loop decreases-loop
   own = at roughened
 
   abbrev given : Call
@@ -189,56 +174,56 @@ module _ (y : tie.After-rubbed-pool invariant-loop decreases-loop) where
   abbrev end : Pool
   end = rubbed_pool given.dt given.dry (rough roughened) (z own) (cell own)
 
-  end_is : as_pool y.rubbed-pool.result ≡ end
-  end_is = ap as_pool y.rubbed-pool.ensures
+  end_is : as_pool y.rubbed_pool.result ≡ end
+  end_is = ap as_pool y.rubbed_pool.ensures
       ∙ (λ j. rubbed_pool given.dt given.dry (rough_is roughened j) (z_is own j) (cell_is own j))
 
   end_inside : Inside (z own) end
-  end_inside = let num = (start own).pre.0.0 in
+  end_inside = let num = (start own).requires.numbers.0 in
       rubbed_inside given.dt given.dry (rough roughened) (z own) (cell own) num.dt_pos num.dry.least (inside own)
 
-row-of-requires : tie.Need-row-of-requires invariant-loop decreases-loop
-row-of-requires c κs = let o = own c in let s = start o in
-    ((s.pre.0.0, (turn o).loop-test.taken, s.pre.0.1), subst (Inside (z o)) (sym (end_is c)) (end_inside c))
+row_of-requires : tie.Need-row_of-requires invariant-loop decreases-loop
+row_of-requires c κs = let o = own c in let s = start o in
+    record { numbers = (s.requires.numbers.0, (turn o).loop-i-test.taken, s.requires.numbers.1); inside = subst (Inside (z o)) (sym (end_is c)) (end_inside c) }
 
-row_is : (w : tie.After-row-of invariant-loop decreases-loop) → let o = own w.before in let p = (start o).args in
+row_is : (w : tie.After-row_of invariant-loop decreases-loop) → let o = own w.before in let p = (start o).args in
     w.row_of.result ≡ row p.state.now p.bed.now p.friction.now p.call (i o)
 unfolding rubbed
 row_is w = let y = w.before in let o = own y in let p = (start o).args in
     w.row_of.ensures ∙ ap (row_by (reach_in p.call p.bed.now) p.call.dry (i o)) (end_is y)
 
-loop-again : tie.Need-loop-preserved invariant-loop decreases-loop
-loop-again c =
-    let y = c.before in let r = roughened y in let t = tried r in let e = turn (own y) in let l = e.before in let v = l.loop.inv in
-    let room : l.loop.i < length l.loop.b = omega (arith, v.1, (start (own y)).pre.0.3, e.loop-test.taken) in (
-      scan_more v.0 e.loop-test.taken (fast_here t) r.before.if1.left,
-      length-set l.loop.b l.loop.i _ ∙ v.1,
-      written_more [] l.loop.b l.loop.i _ _ room v.2 (row_is c),
+loop-i-preserved : tie.Need-loop-i-preserved invariant-loop decreases-loop
+loop-i-preserved c =
+    let y = c.before in let r = roughened y in let t = tried r in let e = turn (own y) in let l = e.before in let v = l.loop-i.inv in
+    let room : l.loop-i.i < length l.loop-i.b = omega (arith, v.1, (start (own y)).requires.numbers.3, e.loop-i-test.taken) in (
+      scan_more v.0 e.loop-i-test.taken (fast_here t) r.before.if-past.left,
+      length-set l.loop-i.b l.loop-i.i _ ∙ v.1,
+      written_more [] l.loop-i.b l.loop-i.i _ _ room v.2 (row_is c),
     )
 
-returns-2 : tie.Need-returns-2 invariant-loop decreases-loop
-returns-2 c = let l = c.before.loop in record {
-  stops = scan_past l.invariant.0 c.loop-test.false;
-  rows = λ m k h. l.invariant.2 k (omega (arith, c.loop-test.false));
+returns : tie.Need-returns invariant-loop decreases-loop
+returns c = let l = c.before.loop-i in record {
+  stops = scan_past l.invariant.0 c.loop-i-test.false;
+  rows = λ m k h. l.invariant.2 k (omega (arith, c.loop-i-test.false));
 }
 
-pub rub-spec : {M : Type 1} → statement M
-rub-spec =
+pub rub_spec : {M : Type 1} → statement M
+rub_spec =
     tie.close
     (tie.spec
     invariant-loop
     decreases-loop
     (λ c. (scan_none _ _, refl, written_none [] c.before.args.b.now _))
-    pool-of-requires
+    pool_of-x-requires
     (λ c κs. search rules) (λ c. search rules)
-    depth-of-requires
-    speed-of-requires
+    depth_of-requires
+    speed_of-u-requires
     (λ c κs. search rules) (λ c. search rules)
-    returns
+    returns-then-past
     (λ c κs. search rules)
-    rubbed-pool-requires
-    row-of-requires
+    rubbed_pool-requires
+    row_of-requires
     (λ c. search rules) (λ c. search rules) (λ c. search rules) (λ c. search rules)
-    loop-again
+    loop-i-preserved
     (λ c. search rules)
-    returns-2)
+    returns)

@@ -30,26 +30,26 @@ module _ (s : tie.Start) where
   pool = as_pool s.args.t4
 
   inside : Inside s.args.z pool
-  inside = s.pre.1.1.0
+  inside = s.requires.inside
 
-depth-of-requires : tie.Need-depth-of-requires
-depth-of-requires c κs = rw (to_z-of_z c.ranges.z) ((inside c).ground, pool_wide (inside c))
+depth_of-h-requires : tie.Need-depth_of-h-requires
+depth_of-h-requires c κs = rw (to_z-of_z c.ranges.z) ((inside c).ground, pool_wide (inside c))
 
 -- ---- what the two tests say
-module _ (k : tie.After-struct-told) where
-  abbrev measured : tie.After-depth-of
+module _ (k : tie.After-struct_told-1) where
+  abbrev measured : tie.After-depth_of-h
   measured = k.before.before
 
   abbrev begun : tie.Start
   begun = measured.before
 
-  h_is : rd measured.depth-of.result ≡ depth begun.args.z (pool begun)
-  h_is = back64 measured.depth-of.ok (rw (to_z-of_z begun.fits.z) at measured.depth-of.ensures)
+  h_is : rd measured.depth_of-h.result ≡ depth begun.args.z (pool begun)
+  h_is = back64 measured.depth_of-h.ok (rw (to_z-of_z begun.ranges.z) at measured.depth_of-h.ensures)
 
   -- the first of them is the rule's
   test_is : let a = begun.args in
-      shallow a.call.dry a.z (pool begun) ≡ le_z (rd measured.depth-of.result) (rd a.call.dry)
-  test_is = sym (ap₂ le_z h_is (back {z = begun.args.call.dry} k.struct_told.given.1.1.0.1))
+      shallow a.call.dry a.z (pool begun) ≡ le_z (rd measured.depth_of-h.result) (rd a.call.dry)
+  test_is = sym (ap₂ le_z h_is (back {z = begun.args.call.dry} k.struct_told-1.given.1.1.0.1))
 
 -- ---- a cell that is left as it is
 module _ (s : tie.Start) where
@@ -74,53 +74,53 @@ module _ (s : tie.Start) where
   unfolding rubbed_pool pace
   wet_left e = let told = s.pre.1.1 in rw (e, told.1.0)
 
-returns : tie.Need-returns
-returns c =
+returns-then-h-call : tie.Need-returns-then-h-call
+returns-then-h-call c =
     let k = c.before in let s = begun k in let good = s.good.1.1 in let size = good.1.0.1 in let q = (pool s).q in
     of_two s.args.t4 size.0.1
     ∙ sym (ap as_row (left s (⊎_elim
     (λ w. dry_left s (test_is k ∙ w.taken))
     (λ w. calm_left s (eq_yes q (pos 0)
     (sym (same_test {a = q} (record { sfits = w.1.given }) (sfits_lit tt)) ∙ w.2.taken)))
-    c.if1.branch)))
+    c.then-h-call.branch)))
 
 -- ---- water that moves
-module _ (c : tie.After-struct-told2) where
-  abbrev deep : tie.Else1
+module _ (c : tie.After-struct_told-2-1) where
+  abbrev deep : tie.Else-h-call
   deep = c.before.before.before.before.before
 
-  abbrev shown : tie.After-struct-told
+  abbrev shown : tie.After-struct_told-1
   shown = deep.before
 
   abbrev start : tie.Start
   start = begun shown
 
   wet : shallow start.args.call.dry start.args.z (pool start) ≡ false
-  wet = test_is shown ∙ deep.if1.left
+  wet = test_is shown ∙ deep.then-h-call.left
 
   low : least_dry <ℤ depth start.args.z (pool start)
   low = let s = start in
-      le_lt_trans s.pre.0.dry.least (le_no (depth s.args.z (pool s)) s.args.call.dry wet)
+      le_lt_trans s.requires.numbers.dry.least (le_no (depth s.args.z (pool s)) s.args.call.dry wet)
 
   slow : past fastest start.args.u ≡ false
   unfolding fast_pool
   slow = let told = start.pre.1.1 in ap (past fastest) told.1.0 ∙ told.1.1
 
-slowed-of-requires : tie.Need-slowed-of-requires
-slowed-of-requires c κs =
-    let s = start c in let num = s.pre.0 in let k = pool_sizes (inside s) in
-    simp (to_z-of_z, fit num.dt_in tt, s.fits.f, s.fits.u, fit k.flow tt, h_is (shown c))
-    ((num.dt_pos, num.dt_in), (s.pre.1.0, ((low c, k.most), (within_past 131072 s.args.u (slow c), k.flow))))
+slowed_of-requires : tie.Need-slowed_of-requires
+slowed_of-requires c κs =
+    let s = start c in let num = s.requires.numbers in let k = pool_sizes (inside s) in
+    simp (to_z-of_z, fit num.dt_in tt, s.ranges.f, s.ranges.u, fit k.flow tt, h_is (shown c))
+    record { pos_bound = (num.dt_pos, num.dt_in); pos_bound_2 = s.requires.pos_bound; least_dry_lt_h = (low c, k.most); up_to = (within_past 131072 s.args.u (slow c), k.flow) }
 
-returns-2 : tie.Need-returns-2
+returns : tie.Need-returns
 unfolding rubbed_pool
-returns-2 c =
-    let k = c.before in let s = start k in let num = s.pre.0 in let m = pool_sizes (inside s) in
-    let q = (simp (to_z-of_z, fit num.dt_in tt, s.fits.f, s.fits.u, fit m.flow tt, h_is (shown k)) at c.slowed-of.ensures)
+returns c =
+    let k = c.before in let s = start k in let num = s.requires.numbers in let m = pool_sizes (inside s) in
+    let q = (simp (to_z-of_z, fit num.dt_in tt, s.ranges.f, s.ranges.u, fit m.flow tt, h_is (shown k)) at c.slowed_of.ensures)
     ∙ sym (wet_left s (wet k)) in
-    λ j. to_z-of_z (fit m.level tt) j ∷ back64 c.slowed-of.type-inv q j ∷ []
+    λ j. to_z-of_z (fit m.level tt) j ∷ back64 c.slowed_of.type_inv q j ∷ []
 
-pub rubbed-pool-spec : {M : Type 1} → statement M
-rubbed-pool-spec =
+pub rubbed_pool_spec : {M : Type 1} → statement M
+rubbed_pool_spec =
     tie.close
-    (tie.spec depth-of-requires (λ c. search rules) returns (λ c. search rules) (λ c. search rules) slowed-of-requires returns-2)
+    (tie.spec depth_of-h-requires (λ c. search rules) returns-then-h-call (λ c. search rules) (λ c. search rules) slowed_of-requires returns)

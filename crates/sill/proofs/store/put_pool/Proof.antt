@@ -20,13 +20,13 @@ module _ (s : tie.Start) where
   flow = get_or s.args.t4 1 (pos 0)
 
   level_fits : mag level < 2 ^ 31
-  level_fits = omega (arith, mag_abs level, s.pre.3.e.abs)
+  level_fits = omega (arith, mag_abs level, s.requires.3.e.abs)
 
   flow_fits : mag flow < 2 ^ 31
-  flow_fits = omega (arith, mag_abs flow, s.pre.3.q.abs)
+  flow_fits = omega (arith, mag_abs flow, s.requires.3.q.abs)
 
-inside-2 : tie.Need-slice-set-from-next-2
-inside-2 c = let s = c.before.before in let t = s.args.next.now in
+bounds-next-n : tie.Need-bounds-next-n
+bounds-next-n c = let s = c.before.before in let t = s.args.next.now in
     subst (λ (m : ℕ). s.args.n + s.args.i < m) (sym (length-set t s.args.i _)) (omega (arith, s.requires.2))
 
 returns : tie.Need-returns
@@ -36,8 +36,8 @@ returns c =
     let e = narrowed {z = level s} (level_fits s) in let q = narrowed {z = flow s} (flow_fits s) in
     λ j. set (set s.args.next.now (first j) (e j)) (then j) (q j)
 
-pub put-pool-spec : {M : Type 1} → statement M
-put-pool-spec =
+pub put_pool_spec : {M : Type 1} → statement M
+put_pool_spec =
     tie.close
     (tie.spec
     (λ c. search rules)
@@ -45,6 +45,6 @@ put-pool-spec =
     (λ c. search rules) (λ c. search rules) (λ c. search rules)
     (λ c. let s = c.before.before in narrows (flow s) (flow_fits s))
     (λ c. search rules) (λ c. search rules)
-    inside-2
+    bounds-next-n
     (λ c. search rules)
     returns)

@@ -13,25 +13,25 @@ use Rattle.sill_rules.specs.Step.{dried_pool}
 use Rattle.sill.proofs.update.dried.Statement.{statement}
 use Rattle.sill.proofs.update.dried.Tie as tie
 
-depth-of-requires : tie.Need-depth-of-requires
-depth-of-requires c κs = rw (to_z-of_z c.ranges.z) c.requires
+depth_of-requires : tie.Need-depth_of-requires
+depth_of-requires c κs = rw (to_z-of_z c.ranges.z) c.requires
 
-test_is : (d : tie.After-depth-of) → let s = d.before in
-    shallow s.args.dry s.args.z (as_pool s.args.t2) ≡ le_z (rd d.depth-of.result) (rd s.args.dry)
+test_is : (d : tie.After-depth_of) → let s = d.before in
+    shallow s.args.dry s.args.z (as_pool s.args.x) ≡ le_z (rd d.depth_of.result) (rd s.args.dry)
 test_is d = let s = d.before in
-    sym (ap₂ le_z (back64 d.depth-of.type-inv (rw (to_z-of_z s.ranges.z) at d.depth-of.ensures)) (to_z-of_z s.ranges.dry))
+    sym (ap₂ le_z (back64 d.depth_of.type_inv (rw (to_z-of_z s.ranges.z) at d.depth_of.ensures)) (to_z-of_z s.ranges.dry))
+
+returns-then-depth_of-dry : tie.Need-returns-then-depth_of-dry
+unfolding dried_pool
+returns-then-depth_of-dry c =
+    let t = c.before in let d = t.before in let x = d.before.args.x in
+    rw (test_is d ∙ t.if-depth_of-dry.true) (λ j. back {z = get_or x 0 (pos 0)} c.result-1.given j ∷ pos 0 ∷ [])
 
 returns : tie.Need-returns
 unfolding dried_pool
 returns c =
-    let t = c.before in let d = t.before in let x = d.before.args.t2 in
-    rw (test_is d ∙ t.if1.true) (λ j. back {z = get_or x 0 (pos 0)} c.t10.given j ∷ pos 0 ∷ [])
+    let d = c.before in let s = d.before in let good = s.well_formed.1.0.1 in
+    rw (test_is d ∙ c.if-depth_of-dry.false) (of_two s.args.x good.0.1)
 
-returns-2 : tie.Need-returns-2
-unfolding dried_pool
-returns-2 c =
-    let d = c.before in let s = d.before in let good = s.well-formed.1.0.1 in
-    rw (test_is d ∙ c.if1.false) (of_two s.args.t2 good.0.1)
-
-pub dried-spec : {M : Type 1} → statement M
-dried-spec = tie.close (tie.spec depth-of-requires (λ c. search rules) returns returns-2)
+pub dried_spec : {M : Type 1} → statement M
+dried_spec = tie.close (tie.spec depth_of-requires (λ c. search rules) returns-then-depth_of-dry returns)

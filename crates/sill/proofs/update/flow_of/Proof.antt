@@ -13,11 +13,11 @@ use Rattle.sill.proofs.update.flow_of.Statement.{statement}
 use Rattle.sill.proofs.update.flow_of.Tie as tie
 
 abbrev given : (s : tie.Start) → Numbers s.args.call
-given s = s.requires.1.1
+given s = s.requires.up_to.1
 
 -- the five numbers of the line, in their order, and then others
 abbrev and_then : tie.Start → List Entry → List Entry
-and_then s l = let rows = s.requires.0 in
+and_then s l = let rows = s.requires.row in
     sized rows.0.q tt ∷ sized rows.1.A tt ∷ sized rows.2.A tt ∷ sized (given s).dx_in tt ∷ sized (given s).dt_in tt ∷ l
 
 abbrev env : tie.Start → List Entry
@@ -26,54 +26,54 @@ env s = and_then s []
 abbrev carried : X
 carried = (v 1 ⊝ v 2) ⊗ v 4 ⊘ v 3
 
-sub-result : tie.Need-overflow-sub-result
-sub-result c = need (env c.before.before.before) (v 1 ⊝ v 2) tt
+overflow_sub-result : tie.Need-overflow_sub-result
+overflow_sub-result c = need (env c.before.before.before) (v 1 ⊝ v 2) tt
 
-mul-result : tie.Need-overflow-mul-result
-mul-result c = need (env c.before.before.before.before.before) ((v 1 ⊝ v 2) ⊗ v 4) tt
+overflow_mul-result : tie.Need-overflow_mul-result
+overflow_mul-result c = need (env c.before.before.before.before.before) ((v 1 ⊝ v 2) ⊗ v 4) tt
 
-div-result : tie.Need-nonzero-div-result
-div-result c =
+nonzero_div-result : tie.Need-nonzero_div-result
+nonzero_div-result c =
     let s = c.before.before.before.before.before.before.before in
     (divisor (env s) (v 3) tt (given s).dx_pos, need (env s) carried tt)
 
-add-result : tie.Need-overflow-add-result
-add-result c = need (env c.before.before.before.before.before.before.before) (v 0 ⊕ carried) tt
+overflow_add-result : tie.Need-overflow_add-result
+overflow_add-result c = need (env c.before.before.before.before.before.before.before) (v 0 ⊕ carried) tt
 
-thrust-of-requires : tie.Need-thrust-of-requires
-thrust-of-requires c κs =
-    let s = c.before.before.before.before.before.before.before in rw (to_z-of_z s.ranges.e) s.requires.1
+thrust_of-requires : tie.Need-thrust_of-requires
+thrust_of-requires c κs =
+    let s = c.before.before.before.before.before.before.before in rw (to_z-of_z s.ranges.e) s.requires.up_to
 
 -- what the call gave
-abbrev start : tie.After-thrust-of → tie.Start
+abbrev start : tie.After-thrust_of → tie.Start
 start c = c.before.before.before.before.before.before.before.before
 
-moved : (c : tie.After-thrust-of) → c.thrust-of.result ≡ thrust (start c).args.e (start c).args.call.dx (start c).args.call.dt
-moved c = let s = start c in rw (to_z-of_z s.fits.e) at c.thrust-of.ensures
+moved : (c : tie.After-thrust_of) → c.thrust_of.result-1 ≡ thrust (start c).args.e (start c).args.call.dx (start c).args.call.dt
+moved c = let s = start c in rw (to_z-of_z s.ranges.e) at c.thrust_of.ensures
 
-moved_size : (c : tie.After-thrust-of) → UpTo most_thrust c.thrust-of.result
+moved_size : (c : tie.After-thrust_of) → UpTo most_thrust c.thrust_of.result-1
 moved_size c =
     let s = start c in
-    subst (UpTo most_thrust) (sym (moved c)) (thrust_size _ _ _ s.pre.1.0 (given s).dx_pos (given s).dt_in)
+    subst (UpTo most_thrust) (sym (moved c)) (thrust_size _ _ _ s.requires.up_to.0 (given s).dx_pos (given s).dt_in)
 
-abbrev after : tie.After-thrust-of → List Entry
+abbrev after : tie.After-thrust_of → List Entry
 after c = and_then (start c) (sized (moved_size c) tt ∷ [])
 
-add-result-2 : tie.Need-overflow-add-result-2
-add-result-2 c = need (after c) (v 0 ⊕ carried ⊕ v 5) tt
+overflow_add-result-2 : tie.Need-overflow_add-result-2
+overflow_add-result-2 c = need (after c) (v 0 ⊕ carried ⊕ v 5) tt
 
 returns : tie.Need-returns
 returns c = value (after c) (v 0 ⊕ carried ⊕ v 5) tt ∙ ap (λ (z : ℤ). ideal (env (start c)) (v 0 ⊕ carried) +ℤ z) (moved c)
 
-pub flow-of-spec : {M : Type 1} → statement M
-flow-of-spec =
+pub flow_of_spec : {M : Type 1} → statement M
+flow_of_spec =
     tie.close
     (tie.spec
     (λ c. search rules) (λ c. search rules) (λ c. search rules)
-    sub-result
-    mul-result
-    div-result
-    add-result
-    thrust-of-requires
-    add-result-2
+    overflow_sub-result
+    overflow_mul-result
+    nonzero_div-result
+    overflow_add-result
+    thrust_of-requires
+    overflow_add-result-2
     returns)

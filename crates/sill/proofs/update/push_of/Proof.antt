@@ -19,33 +19,33 @@ left = v 0 ⊝ v 1 ⊗ v 1
 abbrev right : X
 right = v 2 ⊝ v 3 ⊗ v 3
 
-mul-result : tie.Need-overflow-mul-result
-mul-result c = need (env c.before.before.before) (v 1 ⊗ v 1) tt
+overflow_mul-result : tie.Need-overflow_mul-result
+overflow_mul-result c = need (env c.before.before.before) (v 1 ⊗ v 1) tt
 
-sub-result : tie.Need-overflow-sub-result
-sub-result c = need (env c.before.before.before) left tt
+overflow_sub-result : tie.Need-overflow_sub-result
+overflow_sub-result c = need (env c.before.before.before) left tt
 
-mul-result-2 : tie.Need-overflow-mul-result-2
-mul-result-2 c = need (env c.before.before.before.before.before.before) (v 3 ⊗ v 3) tt
+overflow_mul-result-2 : tie.Need-overflow_mul-result-2
+overflow_mul-result-2 c = need (env c.before.before.before.before.before.before) (v 3 ⊗ v 3) tt
 
-sub-result-2 : tie.Need-overflow-sub-result-2
-sub-result-2 c = need (env c.before.before.before.before.before.before) right tt
+overflow_sub-result-2 : tie.Need-overflow_sub-result-2
+overflow_sub-result-2 c = need (env c.before.before.before.before.before.before) right tt
 
-sub-result-3 : tie.Need-overflow-sub-result-3
-sub-result-3 c = need (env c.before.before.before.before.before.before) (left ⊝ right) tt
+overflow_sub-result-3 : tie.Need-overflow_sub-result-3
+overflow_sub-result-3 c = need (env c.before.before.before.before.before.before) (left ⊝ right) tt
 
 returns : tie.Need-returns
 unfolding push_by
 returns c = value (env c.before.before.before.before.before.before) (left ⊝ right) tt
 
-pub push-of-spec : {M : Type 1} → statement M
-push-of-spec =
+pub push_of_spec : {M : Type 1} → statement M
+push_of_spec =
     tie.close
     (tie.spec
     (λ c. search rules) (λ c. search rules) (λ c. search rules)
-    mul-result
-    sub-result (λ c. search rules) (λ c. search rules) (λ c. search rules)
-    mul-result-2
-    sub-result-2
-    sub-result-3
+    overflow_mul-result
+    overflow_sub-result (λ c. search rules) (λ c. search rules) (λ c. search rules)
+    overflow_mul-result-2
+    overflow_sub-result-2
+    overflow_sub-result-3
     returns)

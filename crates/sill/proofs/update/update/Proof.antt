@@ -19,29 +19,29 @@ use Rattle.sill.specs.Rows.{update_by, end_at}
 use Rattle.sill.proofs.update.update.Statement.{statement}
 use Rattle.sill.proofs.update.update.Tie as tie
 
-abbrev invariant-loop : tie.invariant-loop
+abbrev invariant-loop : tie.invariant-loop-i
 invariant-loop b bed f call a₀ n i₀ a i =
     Filling [] n (λ k. off_pool (get_or bed k (pos 0)) (end_at call bed b f k)) (λ k. as_row (end_at call bed b f k)) a₀ a i
 
-abbrev decreases-loop : tie.decreases-loop
+abbrev decreases-loop : tie.decreases-loop-i
 decreases-loop b bed f call a₀ n i₀ a i = n - i
 
 -- ---- the turn of a cell
 module _ (u : tie.After-updated invariant-loop decreases-loop) where
-  abbrev read : tie.After-bed-at invariant-loop decreases-loop
+  abbrev read : tie.After-bed_at-z invariant-loop decreases-loop
   read = u.before.before.before.before
 
-  abbrev turn : tie.In-loop invariant-loop decreases-loop
+  abbrev turn : tie.In-loop-i invariant-loop decreases-loop
   turn = read.before
 
   abbrev start : tie.Start invariant-loop decreases-loop
   start = turn.before.before
 
   abbrev i : ℕ
-  i = turn.before.loop.i
+  i = turn.before.loop-i.i
 
-  z_is : rd read.bed-at.result ≡ get_or start.args.bed.now i (pos 0)
-  z_is = back64 read.bed-at.ok read.bed-at.ensures
+  z_is : rd read.bed_at-z.result ≡ get_or start.args.bed.now i (pos 0)
+  z_is = back64 read.bed_at-z.ok read.bed_at-z.ensures
 
   -- the cell after the stage
   abbrev moved : Pool
@@ -55,25 +55,25 @@ module _ (u : tie.After-updated invariant-loop decreases-loop) where
       (get_or a.f.now (next j) [])))
 
   moved_wide : Wide moved
-  moved_wide = let s = start in let num = s.pre.0.0 in let below = turn.loop-test.taken in
-      let rows = s.pre.1.1 in
+  moved_wide = let s = start in let num = s.requires.numbers.0 in let below = turn.loop-i-test.taken in
+      let rows = s.requires.rows in
       update_wide s.args.call.dx s.args.call.dt (rows.0 i below) (rows.1 i (omega arith))
       (rows.1 (suc i) (omega arith)) num.dx_pos num.dt_in
 
-  ground : UpTo highest_bed (rd read.bed-at.result)
-  ground = subst (UpTo highest_bed) (sym z_is) (start.pre.0.1 i turn.loop-test.taken)
+  ground : UpTo highest_bed (rd read.bed_at-z.result)
+  ground = subst (UpTo highest_bed) (sym z_is) (start.requires.numbers.1 i turn.loop-i-test.taken)
 
 updated-requires : tie.Need-updated-requires invariant-loop decreases-loop
 updated-requires c κs =
-    let e = c.before.before.before.before in let l = e.before in let s = l.before in let i = l.loop.i in let rows = s.requires.1.1 in
-    ((rows.0 i e.loop-test.true, rows.1 i (omega arith), rows.1 (i + 1) (omega arith)), s.requires.0.0)
+    let e = c.before.before.before.before in let l = e.before in let s = l.before in let i = l.loop-i.i in let rows = s.requires.rows in
+    record { row = (rows.0 i e.loop-i-test.true, rows.1 i (omega arith), rows.1 (i + 1) (omega arith)); numbers = s.requires.numbers.0 }
 
-dried-requires : tie.Need-dried-requires invariant-loop decreases-loop
-dried-requires c κs = let u = c.before in
+dried-x-requires : tie.Need-dried-x-requires invariant-loop decreases-loop
+dried-x-requires c κs = let u = c.before in
     (ground u, subst (λ (l : List ℤ). Wide (as_pool l)) (sym (moved_is u)) (moved_wide u))
 
-module _ (d : tie.After-dried invariant-loop decreases-loop) where
-  abbrev told : tie.After-struct-told invariant-loop decreases-loop
+module _ (d : tie.After-dried-x invariant-loop decreases-loop) where
+  abbrev told : tie.After-struct_told-1 invariant-loop decreases-loop
   told = d.before
 
   abbrev moving : tie.After-updated invariant-loop decreases-loop
@@ -85,35 +85,35 @@ module _ (d : tie.After-dried invariant-loop decreases-loop) where
   abbrev end : Pool
   end = let a = begun.args in end_at a.call a.bed.now a.b.now a.f.now (i moving)
 
-  end_is : d.dried.result ≡ as_row end
-  end_is = let dry = back {z = begun.args.call.dry} told.struct_told.given.1.1.0.1 in
-      d.dried.ensures ∙ (λ j. as_row (dried_pool (dry j) (z_is moving j) (as_pool (moved_is moving j))))
+  end_is : d.dried-x.result ≡ as_row end
+  end_is = let dry = back {z = begun.args.call.dry} told.struct_told-1.given.1.1.0.1 in
+      d.dried-x.ensures ∙ (λ j. as_row (dried_pool (dry j) (z_is moving j) (as_pool (moved_is moving j))))
 
   end_wide : Wide end
   end_wide = dried_wide begun.args.call.dry _ (moved moving) (moved_wide moving)
 
-off-pool-requires : tie.Need-off-pool-requires invariant-loop decreases-loop
-off-pool-requires c κs = (ground (moving c), subst (λ (l : List ℤ). Wide (as_pool l)) (sym (end_is c)) (end_wide c))
+off_pool-requires : tie.Need-off_pool-requires invariant-loop decreases-loop
+off_pool-requires c κs = (ground (moving c), subst (λ (l : List ℤ). Wide (as_pool l)) (sym (end_is c)) (end_wide c))
 
 -- what the test of this turn says
-off_here : (o : tie.After-off-pool invariant-loop decreases-loop) → let d = o.before in
-    off_pool (get_or (begun d).args.bed.now (i (moving d)) (pos 0)) (end d) ≡ o.off-pool.result
-off_here o = let d = o.before in sym (o.off-pool.ensures ∙ (λ j. off_pool (z_is (moving d) j) (as_pool (end_is d j))))
+off_here : (o : tie.After-off_pool invariant-loop decreases-loop) → let d = o.before in
+    off_pool (get_or (begun d).args.bed.now (i (moving d)) (pos 0)) (end d) ≡ o.off_pool.result
+off_here o = let d = o.before in sym (o.off_pool.ensures ∙ (λ j. off_pool (z_is (moving d) j) (as_pool (end_is d j))))
 
-returns : tie.Need-returns invariant-loop decreases-loop
-returns c =
+returns-then-off_pool : tie.Need-returns-then-off_pool invariant-loop decreases-loop
+returns-then-off_pool c =
     let o = c.before in let d = o.before in let t = turn (moving d) in let l = t.before in
-    fill_stops [] _ _ _ _ l.loop.a l.loop.i _ (begun d).requires.1.0.2 t.loop-test.taken l.loop.inv
-    (end_is d) (off_here o ∙ c.if1.true)
+    fill_stops [] _ _ _ _ l.loop-i.a l.loop-i.i _ (begun d).requires.n_in_bounds.2 t.loop-i-test.taken l.loop-i.inv
+    (end_is d) (off_here o ∙ c.if-off_pool.true)
 
-loop-again : tie.Need-loop-preserved invariant-loop decreases-loop
-loop-again c =
+loop-i-preserved : tie.Need-loop-i-preserved invariant-loop decreases-loop
+loop-i-preserved c =
     let o = c.before in let d = o.before in let t = turn (moving d) in let l = t.before in
-    fill_more [] _ _ _ _ l.loop.a l.loop.i _ (begun d).requires.1.0.2 t.loop-test.taken l.loop.inv
-    (end_is d) (off_here o ∙ c.if1.false)
+    fill_more [] _ _ _ _ l.loop-i.a l.loop-i.i _ (begun d).requires.n_in_bounds.2 t.loop-i-test.taken l.loop-i.inv
+    (end_is d) (off_here o ∙ c.if-off_pool.false)
 
-pub update-spec : {M : Type 1} → statement M
-update-spec =
+pub update_spec : {M : Type 1} → statement M
+update_spec =
     tie.close
     (tie.spec
     invariant-loop
@@ -123,12 +123,12 @@ update-spec =
     (λ c. search rules) (λ c. search rules) (λ c. search rules) (λ c. search rules) (λ c. search rules) (λ c. search rules)
     (λ c. search rules)
     updated-requires
-    dried-requires
+    dried-x-requires
     (λ c. search rules) (λ c. search rules)
-    off-pool-requires
+    off_pool-requires
     (λ c. search rules)
-    returns
+    returns-then-off_pool
     (λ c. search rules) (λ c. search rules)
-    loop-again
+    loop-i-preserved
     (λ c. search rules)
-    (λ c. let l = c.before.loop in fill_ends [] _ _ _ _ l.a l.i c.loop-test.false l.invariant))
+    (λ c. let l = c.before.loop-i in fill_ends [] _ _ _ _ l.a l.i c.loop-i-test.false l.invariant))

@@ -35,21 +35,15 @@ module _ (s : tie.Start) where
   state = s.args.state.now
 
   clear : Clear (ready_checks call.n bed friction state)
-  clear = s.pre.1.1
+  clear = s.requires.clear
 
-stage-requires : tie.Need-stage-requires
-stage-requires c κs =
+stage-m-requires : tie.Need-stage-m-requires
+stage-m-requires c κs =
     let s = c.before.before.before.before in let k = clear s in
-    let n = (call s).n in let z = bed s in let f = friction s in let t = state s in let room = s.requires.1.0 in (
-      (s.requires.0.0, s.requires.0.1.state_is),
-      (
-        (omega (arith, room), omega (arith, room), omega (arith, room)),
-        (lent_grounds n z f t k, lent_smooth n z f t k, lent_ranged n z f t k),
-      ),
-    )
+    let n = (call s).n in let z = bed s in let f = friction s in let t = state s in let room = s.requires.n_in_bounds in record { numbers = (s.requires.numbers.0, s.requires.numbers.1.state_is); n_in_bounds = (omega (arith, room), omega (arith, room), omega (arith, room)); grounds = (lent_grounds n z f t k, lent_smooth n z f t k, lent_ranged n z f t k) }
 
 -- ---- the stage
-module _ (m : tie.After-stage) where
+module _ (m : tie.After-stage-m) where
   abbrev opened : tie.Start
   opened = m.before.before.before.before.before
 
@@ -59,63 +53,63 @@ module _ (m : tie.After-stage) where
 
   -- the tables of the faces and of the end state
   abbrev f : List (List ℤ)
-  f = let tables = m.stage.last.1.1.1 in tables.1.1.0
+  f = let tables = m.stage-m.last.1.1.1 in tables.1.1.0
 
   abbrev a : List (List ℤ)
-  a = let tables = m.stage.last.1.1.1 in let later = tables.1.1 in later.1.0
+  a = let tables = m.stage-m.last.1.1.1 in let later = tables.1.1 in later.1.0
 
   said : let s = opened in StageSays (reach_in (call s) (bed s)) (call_in (call s) (λ i. pos (get_or (friction s) i 0)))
-      (pool_in (call s).n (state s)) (found_in m.stage.result) f a
-  said = m.stage.ensures
+      (pool_in (call s).n (state s)) (found_in m.stage-m.result) f a
+  said = m.stage-m.ensures
 
-returns : tie.Need-returns
-returns c = let m = c.before.before.before.before.before in let s = opened m in
-    stage_stops (call s) (bed s) (friction s) (state s) (passed m) refl (said m) c.if1.true _
+returns-then-m-ne0 : tie.Need-returns-then-m-ne0
+returns-then-m-ne0 c = let m = c.before.before.before.before.before in let s = opened m in
+    stage_stops (call s) (bed s) (friction s) (state s) (passed m) refl (said m) c.if-m-ne0.true _
 
 -- ---- what is stored
-module _ (h : tie.Else1) where
-  abbrev made : tie.After-stage
+module _ (h : tie.Else-m-ne0) where
+  abbrev made : tie.After-stage-m
   made = h.before.before.before.before.before
 
   fits : let s = opened made in (i : ℕ) → i < (call s).n → Fits (pools_seen (a made) i)
-  fits i l = let d = (said made).done h.if1.left in subst Fits (sym (ap as_pool (d.pools i l))) (d.fits i l)
+  fits i l = let d = (said made).done h.if-m-ne0.left in subst Fits (sym (ap as_pool (d.pools i l))) (d.fits i l)
 
 store-requires : tie.Need-store-requires
 store-requires c κs = let h = c.before.before in let m = made h in let s = opened m in
-    ((omega (arith, m.stage.kept, s.pre.1.0), s.pre.0.0.most, s.pre.0.1.next_is), fits h)
+    record { n_in_bounds = (omega (arith, m.stage-m.kept, s.requires.n_in_bounds), s.requires.numbers.0.most, s.requires.numbers.1.next_is); by_index = fits h }
 
 module _ (t : tie.After-store) where
-  abbrev last : tie.Else1
+  abbrev last : tie.Else-m-ne0
   last = t.before.before.before
 
-volume-at-requires : tie.Need-volume-at-requires
-volume-at-requires c κs = let m = made (last c.before.before) in omega (arith, m.stage.kept, (opened m).pre.1.0)
+volume_at-requires : tie.Need-volume_at-requires
+volume_at-requires c κs = let m = made (last c.before.before) in omega (arith, m.stage-m.kept, (opened m).requires.n_in_bounds)
 
-volume-at-requires-2 : tie.Need-volume-at-requires-2
-volume-at-requires-2 c κs = let m = made (last c.before.before.before.before) in omega (arith, m.stage.kept, (opened m).pre.1.0)
+volume_at-requires-2 : tie.Need-volume_at-requires-2
+volume_at-requires-2 c κs = let m = made (last c.before.before.before.before) in omega (arith, m.stage-m.kept, (opened m).requires.n_in_bounds)
 
 -- ---- the end
-abbrev stored : tie.After-volume-at2 → tie.After-store
+abbrev stored : tie.After-volume_at-2 → tie.After-store
 stored c = c.before.before.before.before.before
 
-returns-2 : tie.Need-returns-2
-returns-2 c =
+returns : tie.Need-returns
+returns c =
     let w = c.before.before in let t = stored c in let h = last t in let m = made h in let s = opened m in
-    stage_done (call s) (bed s) (friction s) (state s) (passed m) refl (said m) h.if1.left s.args.next.now
-    t.store.ensures (back64 w.volume-at.type-inv w.volume-at.ensures) (back64 c.volume-at2.type-inv c.volume-at2.ensures)
+    stage_done (call s) (bed s) (friction s) (state s) (passed m) refl (said m) h.if-m-ne0.left s.args.next.now
+    t.store.ensures (back64 w.volume_at.type_inv w.volume_at.ensures) (back64 c.volume_at-2.type_inv c.volume_at-2.ensures)
 
-pub on-tables-spec : {M : Type 1} → statement M
-on-tables-spec =
+pub on_tables_spec : {M : Type 1} → statement M
+on_tables_spec =
     tie.close
     (tie.spec
-    stage-requires
+    stage-m-requires
     (λ c. search rules) (λ c. search rules) (λ c. search rules)
-    returns
+    returns-then-m-ne0
     store-requires
-    volume-at-requires
-    volume-at-requires-2
+    volume_at-requires
+    volume_at-requires-2
     (λ c. search (rules, (stored c).store.auto))
-    (λ c. search (rules, (made (last (stored c))).stage.kept))
-    (λ c. search (rules, (made (last (stored c))).stage.kept))
-    (λ c. search (rules, (made (last (stored c))).stage.kept))
-    returns-2)
+    (λ c. search (rules, (made (last (stored c))).stage-m.kept))
+    (λ c. search (rules, (made (last (stored c))).stage-m.kept))
+    (λ c. search (rules, (made (last (stored c))).stage-m.kept))
+    returns)

@@ -19,55 +19,55 @@ abbrev list : tie.Start → List Check
 list s = let a = s.args in ready_checks a.n a.bed.now a.friction.now a.state.now
 
 -- ---- the tests of the lent tables, which go over as many values as there are
-bed_test : (c : tie.After-bad-bed) → c.bad-bed.result ≡ lowest_of (check_at (list c.before.before) 0)
+bed_test : (c : tie.After-bad_bed-z) → c.bad_bed-z.result ≡ lowest_of (check_at (list c.before.before) 0)
 bed_test c = let s = c.before.before in
-    c.bad-bed.ensures ∙ ap (lowest (λ i. bad_bed (get_or s.args.bed.now i (pos 0)))) s.requires.2
+    c.bad_bed-z.ensures ∙ ap (lowest (λ i. bad_bed (get_or s.args.bed.now i (pos 0)))) s.requires.2
 
-rough_test : (c : tie.After-bad-friction) → c.bad-friction.result ≡ lowest_of (check_at (list c.before.before.before.before) 1)
+rough_test : (c : tie.After-bad_friction-f) → c.bad_friction-f.result ≡ lowest_of (check_at (list c.before.before.before.before) 1)
 rough_test c = let s = c.before.before.before.before in
-    c.bad-friction.ensures ∙ ap (lowest (λ i. bad_rough (pos (get_or s.args.friction.now i 0)))) s.requires.3
+    c.bad_friction-f.ensures ∙ ap (lowest (λ i. bad_rough (pos (get_or s.args.friction.now i 0)))) s.requires.3
 
 -- ---- past each of them
-module _ (c : tie.Else1) where
+module _ (c : tie.Else-z-n) where
   abbrev one : tie.Start
   one = c.before.before.before
 
   bed_passed : applies (check_at (list one) 0) ≡ false
-  bed_passed = passes (check_at (list one) 0) _ (bed_test c.before) c.if1.false
+  bed_passed = passes (check_at (list one) 0) _ (bed_test c.before) c.if-z-n.false
 
-module _ (c : tie.Else2) where
-  abbrev two : tie.Else1
+module _ (c : tie.Else-f-n) where
+  abbrev two : tie.Else-z-n
   two = c.before.before
 
   rough_passed : applies (check_at (list (one two)) 1) ≡ false
-  rough_passed = passes (check_at (list (one two)) 1) _ (rough_test c.before) c.if2.false
+  rough_passed = passes (check_at (list (one two)) 1) _ (rough_test c.before) c.if-f-n.false
+
+returns-then-z-n : tie.Need-returns-then-z-n
+returns-then-z-n c = stops_at (list c.before.before.before) 0 _ tt (bed_test c.before) c.if-z-n.true
+
+returns-then-f-n : tie.Need-returns-then-f-n
+returns-then-f-n c = let e = c.before.before in stops_at (list (one e)) 1 _ (bed_passed e, tt) (rough_test c.before) c.if-f-n.true
+
+off_state-i-requires : tie.Need-off_state-i-requires
+off_state-i-requires c κs = let s = one (two c) in (s.requires.0, s.requires.1, grounds s.args.n s.args.bed.now (bed_passed (two c)))
+
+returns-then-i-n : tie.Need-returns-then-i-n
+returns-then-i-n c = let e = c.before.before in let d = two e in
+    stops_at (list (one d)) 2 _ (bed_passed d, (rough_passed e, tt)) c.before.off_state-i.ensures c.if-i-n.true
 
 returns : tie.Need-returns
-returns c = stops_at (list c.before.before.before) 0 _ tt (bed_test c.before) c.if1.true
-
-returns-2 : tie.Need-returns-2
-returns-2 c = let e = c.before.before in stops_at (list (one e)) 1 _ (bed_passed e, tt) (rough_test c.before) c.if2.true
-
-off-state-requires : tie.Need-off-state-requires
-off-state-requires c κs = let s = one (two c) in (s.pre.0, s.pre.1, grounds s.args.n s.args.bed.now (bed_passed (two c)))
-
-returns-3 : tie.Need-returns-3
-returns-3 c = let e = c.before.before in let d = two e in
-    stops_at (list (one d)) 2 _ (bed_passed d, (rough_passed e, tt)) c.before.off-state.ensures c.if3.true
-
-returns-4 : tie.Need-returns-4
-returns-4 c = let e = c.before.before in let d = two e in let s = one d in
+returns c = let e = c.before.before in let d = two e in let s = one d in
     none_stops (list s)
-    (bed_passed d, (rough_passed e, (passes (check_at (list s) 2) _ c.before.off-state.ensures c.if3.false, tt)))
+    (bed_passed d, (rough_passed e, (passes (check_at (list s) 2) _ c.before.off_state-i.ensures c.if-i-n.false, tt)))
 
-pub ready-spec : {M : Type 1} → statement M
-ready-spec =
+pub ready_spec : {M : Type 1} → statement M
+ready_spec =
     tie.close
     (tie.spec
     (λ c κs. search rules)
-    returns
+    returns-then-z-n
     (λ c κs. search rules)
-    returns-2
-    off-state-requires
-    returns-3
-    returns-4)
+    returns-then-f-n
+    off_state-i-requires
+    returns-then-i-n
+    returns)

@@ -15,22 +15,22 @@ use Rattle.sill.proofs.worked.stage.Statement.{statement}
 use Rattle.sill.proofs.worked.stage.Tie as tie
 
 -- ---- friction
-module _ (w : tie.After-rub) where
+module _ (w : tie.After-rub-fast) where
   abbrev start : tie.Start
   start = w.before.before.before
 
   -- the table of the cells
   abbrev b : List (List ℤ)
-  b = let tables = w.rub.last.1.1.1 in tables.1.0
+  b = let tables = w.rub-fast.last.1.1.1 in tables.1.0
 
   said : let a = start.args in
       RubSays (reach_in a.call a.bed.now) (call_in a.call (λ i. pos (get_or a.friction.now i 0)))
-      (pool_in a.call.n a.state.now) w.rub.result b
-  said = w.rub.ensures
+      (pool_in a.call.n a.state.now) w.rub-fast.result b
+  said = w.rub-fast.ensures
 
-rub-requires : tie.Need-rub-requires
-rub-requires c κs = let s = c.before.before in let tables = s.requires.1.1 in
-    ((s.requires.0.0, tables.0, s.requires.0.1, s.requires.1.0.0), (tables.1, tables.2))
+rub-fast-requires : tie.Need-rub-fast-requires
+rub-fast-requires c κs = let s = c.before.before in let tables = s.requires.grounds in
+    record { numbers = (s.requires.numbers.0, tables.0, s.requires.numbers.1, s.requires.n_in_bounds.0); smooth = (tables.1, tables.2) }
 
 -- what the law of the stage asks
 module _ (s : tie.Start) where
@@ -47,40 +47,40 @@ module _ (s : tie.Start) where
   state = s.args.state.now
 
   ranged : Ranged bed call.n state
-  ranged = s.pre.1.1.2
+  ranged = s.requires.grounds.2
 
-returns : tie.Need-returns
-returns c = let w = c.before.before in let s = start w in record {
-  found = fast_stops (call s) s.pre.0.0 (bed s) (friction s) (state s) (ranged s) (said w) c.if1.true;
+returns-then-fast-n : tie.Need-returns-then-fast-n
+returns-then-fast-n c = let w = c.before.before in let s = start w in record {
+  found = fast_stops (call s) s.requires.numbers.0 (bed s) (friction s) (state s) (ranged s) (said w) c.if-fast-n.true;
   done = λ z. let y : ⊥ = omega arith in absurd y;
 }
 
 -- ---- the faces
-module _ (e : tie.Else1) where
-  abbrev rubbed : tie.After-rub
+module _ (e : tie.Else-fast-n) where
+  abbrev rubbed : tie.After-rub-fast
   rubbed = e.before.before
 
   rows : Rows (b rubbed) (call (start rubbed)).n
   rows = let s = start rubbed in
-      rows_in (call s) s.pre.0.0 (bed s) (friction s) (state s) (ranged s) (said rubbed) e.if1.left
+      rows_in (call s) s.requires.numbers.0 (bed s) (friction s) (state s) (ranged s) (said rubbed) e.if-fast-n.left
 
-faces-requires : tie.Need-faces-requires
-faces-requires c κs = let e = c.before.before in let s = start (rubbed e) in
-    ((s.pre.0.0, omega (arith, (rubbed e).rub.auto, s.pre.1.0), omega (arith, s.pre.1.0)), rows e)
+faces-long-requires : tie.Need-faces-long-requires
+faces-long-requires c κs = let e = c.before.before in let s = start (rubbed e) in
+    record { numbers = (s.requires.numbers.0, omega (arith, (rubbed e).rub-fast.auto, s.requires.n_in_bounds), omega (arith, s.requires.n_in_bounds)); rows = rows e }
 
-returns-2 : tie.Need-returns-2
-returns-2 c = let g = c.before.before in let e = g.before.before.before in let s = start (rubbed e) in record {
-  found = long_stops (call s) s.pre.0.0 (bed s) (friction s) (state s) (ranged s) (said (rubbed e)) e.if1.false
-      g.faces.ensures c.if2.true;
+returns-then-long-n : tie.Need-returns-then-long-n
+returns-then-long-n c = let g = c.before.before in let e = g.before.before.before in let s = start (rubbed e) in record {
+  found = long_stops (call s) s.requires.numbers.0 (bed s) (friction s) (state s) (ranged s) (said (rubbed e)) e.if-fast-n.false
+      g.faces-long.ensures c.if-long-n.true;
   done = λ z. let y : ⊥ = omega arith in absurd y;
 }
 
 -- ---- the cells
-module _ (t : tie.Else2) where
-  abbrev faced : tie.After-faces
+module _ (t : tie.Else-long-n) where
+  abbrev faced : tie.After-faces-long
   faced = t.before.before
 
-  abbrev slow : tie.Else1
+  abbrev slow : tie.Else-fast-n
   slow = faced.before.before.before
 
   abbrev begun : tie.Start
@@ -88,53 +88,47 @@ module _ (t : tie.Else2) where
 
   -- the table of the faces
   abbrev f : List (List ℤ)
-  f = faced.faces.last.1.1.0
+  f = faced.faces-long.last.1.1.0
 
   face_rows : FaceRows f (call begun).n
   face_rows = let s = begun in
-      faces_in (call s) s.pre.0.0 (bed s) (friction s) (state s) (ranged s) (said (rubbed slow)) slow.if1.left
-      faced.faces.ensures t.if2.left
+      faces_in (call s) s.requires.numbers.0 (bed s) (friction s) (state s) (ranged s) (said (rubbed slow)) slow.if-fast-n.left
+      faced.faces-long.ensures t.if-long-n.left
 
-update-requires : tie.Need-update-requires
-update-requires c κs = let t = c.before.before.before in let s = begun t in let e = slow t in (
-  (s.pre.0.0, s.pre.1.1.0),
-  (
-    (
-      omega (arith, (rubbed e).rub.kept, s.pre.1.0),
-      omega (arith, (faced t).faces.auto, s.pre.1.0),
-      omega (arith, s.pre.1.0),
-    ),
-    (rows e, face_rows t),
-  ),
-)
+update-off-requires : tie.Need-update-off-requires
+update-off-requires c κs = let t = c.before.before.before in let s = begun t in let e = slow t in record { numbers = (s.requires.numbers.0, s.requires.grounds.0); n_in_bounds = (
+      omega (arith, (rubbed e).rub-fast.kept, s.requires.n_in_bounds),
+      omega (arith, (faced t).faces-long.auto, s.requires.n_in_bounds),
+      omega (arith, s.requires.n_in_bounds),
+    ); rows = (rows e, face_rows t) }
 
-returns-3 : tie.Need-returns-3
-returns-3 c = let u = c.before.before in let t = u.before.before.before.before in let s = begun t in let e = slow t in record {
-  found = off_stops (call s) s.pre.0.0 (bed s) (friction s) (state s) (ranged s) (said (rubbed e)) e.if1.left
-      (faced t).faces.ensures t.if2.false u.update.ensures c.if3.true;
+returns-then-off-n : tie.Need-returns-then-off-n
+returns-then-off-n c = let u = c.before.before in let t = u.before.before.before.before in let s = begun t in let e = slow t in record {
+  found = off_stops (call s) s.requires.numbers.0 (bed s) (friction s) (state s) (ranged s) (said (rubbed e)) e.if-fast-n.left
+      (faced t).faces-long.ensures t.if-long-n.false u.update-off.ensures c.if-off-n.true;
   done = λ z. let y : ⊥ = omega arith in absurd y;
 }
 
-returns-4 : tie.Need-returns-4
-returns-4 c = let u = c.before.before in let t = u.before.before.before.before in let s = begun t in let e = slow t in record {
-  found = none_found (call s) s.pre.0.0 (bed s) (friction s) (state s) (ranged s) (said (rubbed e)) e.if1.left
-      (faced t).faces.ensures t.if2.false u.update.ensures c.if3.false;
-  done = λ z. stage_done (call s) s.pre.0.0 (bed s) (friction s) (state s) (ranged s) (said (rubbed e)) e.if1.left
-      (faced t).faces.ensures t.if2.false u.update.ensures c.if3.false;
+returns : tie.Need-returns
+returns c = let u = c.before.before in let t = u.before.before.before.before in let s = begun t in let e = slow t in record {
+  found = none_found (call s) s.requires.numbers.0 (bed s) (friction s) (state s) (ranged s) (said (rubbed e)) e.if-fast-n.left
+      (faced t).faces-long.ensures t.if-long-n.false u.update-off.ensures c.if-off-n.false;
+  done = λ z. stage_done (call s) s.requires.numbers.0 (bed s) (friction s) (state s) (ranged s) (said (rubbed e)) e.if-fast-n.left
+      (faced t).faces-long.ensures t.if-long-n.false u.update-off.ensures c.if-off-n.false;
 }
 
-pub stage-spec : {M : Type 1} → statement M
-stage-spec =
+pub stage_spec : {M : Type 1} → statement M
+stage_spec =
     tie.close
     (tie.spec
-    rub-requires
+    rub-fast-requires
     (λ c. search rules)
-    returns
-    faces-requires
+    returns-then-fast-n
+    faces-long-requires
     (λ c. search rules) (λ c. search rules)
-    returns-2
-    update-requires
+    returns-then-long-n
+    update-off-requires
     (λ c. search rules) (λ c. search rules) (λ c. search rules)
-    returns-3
+    returns-then-off-n
     (λ c. search rules) (λ c. search rules) (λ c. search rules)
-    returns-4)
+    returns)

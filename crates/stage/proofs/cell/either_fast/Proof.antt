@@ -13,14 +13,14 @@ past-requires c κs = search rules
 first : (c : tie.After-past) → past fastest c.before.args.u ≡ c.past.result
 first c = sym (simp (to_z-of_z, c.before.ranges.u) at c.past.ensures)
 
-returns : tie.Need-returns
-returns c = rw (first c.before ∙ c.if1.true)
+returns-then-past : tie.Need-returns-then-past
+returns-then-past c = rw (first c.before ∙ c.if-past.true)
 
 past-requires-2 : tie.Need-past-requires-2
 past-requires-2 c κs = search rules
 
-returns-2 : tie.Need-returns-2
-returns-2 c = let e = c.before in rw (first e.before ∙ e.if1.false) (simp (to_z-of_z, e.before.before.ranges.w) at c.past2.ensures)
+returns : tie.Need-returns
+returns c = let e = c.before in rw (first e.before ∙ e.if-past.false) (simp (to_z-of_z, e.before.before.ranges.w) at c.past-2.ensures)
 
-pub either-fast-spec : {M : Type 1} → statement M
-either-fast-spec = tie.close (tie.spec past-requires returns past-requires-2 returns-2)
+pub either_fast_spec : {M : Type 1} → statement M
+either_fast_spec = tie.close (tie.spec past-requires returns-then-past past-requires-2 returns)

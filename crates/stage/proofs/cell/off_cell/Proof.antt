@@ -44,60 +44,60 @@ abbrev bed : tie.Start → Bed
 bed s = bed_in s.args.b
 
 abbrev cell : tie.Start → Cell
-cell s = as_cell s.args.t2
+cell s = as_cell s.args.x
 
-module _ (a : tie.After-off-depths-arg2) where
-  abbrev told : tie.After-depths
+module _ (a : tie.After-off_depths-arg-2-1) where
+  abbrev told : tie.After-depths-h
   told = a.before.before
 
   -- the two depths as they are read back
-  mean : rd (get_or told.depths.result 0 (pos 0)) ≡ h0 (bed told.before) (cell told.before)
-  mean = back a.before.off-depths-arg.given ∙ ap (λ (l : List ℤ). get_or l 0 (pos 0)) told.depths.ensures
+  mean : rd (get_or told.depths-h.result 0 (pos 0)) ≡ h0 (bed told.before) (cell told.before)
+  mean = back a.before.off_depths-arg-1.given ∙ ap (λ (l : List ℤ). get_or l 0 (pos 0)) told.depths-h.ensures
 
-  slope : rd (get_or told.depths.result 1 (pos 0)) ≡ h1 (bed told.before) (cell told.before)
-  slope = back a.off-depths-arg2.given ∙ ap (λ (l : List ℤ). get_or l 1 (pos 0)) told.depths.ensures
+  slope : rd (get_or told.depths-h.result 1 (pos 0)) ≡ h1 (bed told.before) (cell told.before)
+  slope = back a.off_depths-arg-2-1.given ∙ ap (λ (l : List ℤ). get_or l 1 (pos 0)) told.depths-h.ensures
 
-module _ (c : tie.After-off-depths) where
+module _ (c : tie.After-off_depths) where
   abbrev s : tie.Start
   s = c.before.before.before.before
 
-  first : c.off-depths.result ≡ off_depths (bed s) (cell s)
+  first : c.off_depths.result ≡ off_depths (bed s) (cell s)
   unfolding hl hr
-  first = c.off-depths.ensures
+  first = c.off_depths.ensures
       ∙ ap₂ (λ (m d : ℤ). outside (pos 0) deepest (m -ℤ d) || outside (pos 0) deepest (m +ℤ d)) (mean c.before) (slope c.before)
 
-off-depths-requires : tie.Need-off-depths-requires
-off-depths-requires c κs = let s = c.before.before.before in
-    let w : Unfinished (bed s) (cell s) = record { ground = s.requires.0; wide = s.requires.1 } in (
+off_depths-requires : tie.Need-off_depths-requires
+off_depths-requires c κs = let s = c.before.before.before in
+    let w : Unfinished (bed s) (cell s) = record { ground = s.requires.ground; wide = s.requires.wide } in (
       subst (UpTo widest_depth) (sym (mean c)) (h0_size (bed s) (cell s) w),
       subst (UpTo widest_depth) (sym (slope c)) (h1_size (bed s) (cell s) w),
     )
 
-returns : tie.Need-returns
-returns c = let d = c.before in off_is (bed (s d)) (cell (s d)) true (sym c.if1.true ∙ first d)
+returns-then-off_depths : tie.Need-returns-then-off_depths
+returns-then-off_depths c = let d = c.before in off_is (bed (s d)) (cell (s d)) true (sym c.if-off_depths.true ∙ first d)
 
-off-flows-requires : tie.Need-off-flows-requires
-off-flows-requires c κs = let w = (s c.before.before.before).pre.1 in
-    rw (back c.before.off-flows-arg.given, back c.off-flows-arg2.given)
+off_flows-requires : tie.Need-off_flows-requires
+off_flows-requires c κs = let w = (s c.before.before.before).requires.wide in
+    rw (back c.before.off_flows-arg-1.given, back c.off_flows-arg-2-1.given)
     (b_up 70368745226240 w.q0 tt, b_up 70368745226240 w.q1 tt)
 
-returns-2 : tie.Need-returns-2
-returns-2 c =
+returns : tie.Need-returns
+returns c =
     let b = c.before in let a = b.before in let e = a.before in let d = e.before in let x = cell (s d) in
-    c.off-flows.ensures
+    c.off_flows.ensures
     ∙ ap₂ (λ (m d : ℤ). past fullest (m -ℤ d) || past fullest (m +ℤ d))
-    (back {z = x.q0} a.off-flows-arg.given)
-    (back {z = x.q1} b.off-flows-arg2.given)
-    ∙ off_is (bed (s d)) x false (sym e.if1.false ∙ first d)
+    (back {z = x.q0} a.off_flows-arg-1.given)
+    (back {z = x.q1} b.off_flows-arg-2-1.given)
+    ∙ off_is (bed (s d)) x false (sym e.if-off_depths.false ∙ first d)
 
-pub off-cell-spec : {M : Type 1} → statement M
-off-cell-spec =
+pub off_cell_spec : {M : Type 1} → statement M
+off_cell_spec =
     tie.close
     (tie.spec
     (λ c κs. search rules) (λ c. search rules) (λ c. search rules)
-    off-depths-requires
-    returns
+    off_depths-requires
+    returns-then-off_depths
     (λ c. search rules)
     (λ c. search rules)
-    off-flows-requires
-    returns-2)
+    off_flows-requires
+    returns)

@@ -16,25 +16,25 @@ env s = entry s.ranges.m s.requires.0 ∷ entry s.ranges.s s.requires.1 ∷ []
 first : (c : tie.After-outside) → let s = c.before in outside (pos 0) deepest (s.args.m -ℤ s.args.s) ≡ c.outside.result
 first c = sym (c.outside.ensures ∙ ap (λ (z : ℤ). outside (pos 0) deepest z) (value (env c.before) (v 0 ⊝ v 1) tt))
 
-sub-outside : tie.Need-overflow-sub-outside
-sub-outside c = need (env c) (v 0 ⊝ v 1) tt
+overflow_sub-m : tie.Need-overflow_sub-m
+overflow_sub-m c = need (env c) (v 0 ⊝ v 1) tt
 
 outside-requires : tie.Need-outside-requires
 outside-requires c κs = search rules
 
-returns : tie.Need-returns
-returns c = rw (first c.before ∙ c.if1.true)
+returns-then-outside : tie.Need-returns-then-outside
+returns-then-outside c = rw (first c.before ∙ c.if-outside.true)
 
-add-outside : tie.Need-overflow-add-outside
-add-outside c = need (env c.before.before) (v 0 ⊕ v 1) tt
+overflow_add-m : tie.Need-overflow_add-m
+overflow_add-m c = need (env c.before.before) (v 0 ⊕ v 1) tt
 
 outside-requires-2 : tie.Need-outside-requires-2
 outside-requires-2 c κs = search rules
 
-returns-2 : tie.Need-returns-2
-returns-2 c = let b = c.before in
-    rw (first b.before ∙ b.if1.false)
-    (c.outside2.ensures ∙ ap (λ (z : ℤ). outside (pos 0) deepest z) (value (env b.before.before) (v 0 ⊕ v 1) tt))
+returns : tie.Need-returns
+returns c = let b = c.before in
+    rw (first b.before ∙ b.if-outside.false)
+    (c.outside-2.ensures ∙ ap (λ (z : ℤ). outside (pos 0) deepest z) (value (env b.before.before) (v 0 ⊕ v 1) tt))
 
-pub off-depths-spec : {M : Type 1} → statement M
-off-depths-spec = tie.close (tie.spec sub-outside outside-requires returns add-outside outside-requires-2 returns-2)
+pub off_depths_spec : {M : Type 1} → statement M
+off_depths_spec = tie.close (tie.spec overflow_sub-m outside-requires returns-then-outside overflow_add-m outside-requires-2 returns)

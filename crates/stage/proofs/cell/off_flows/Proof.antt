@@ -16,25 +16,25 @@ env s = entry s.ranges.m s.requires.0 ∷ entry s.ranges.s s.requires.1 ∷ []
 first : (c : tie.After-past) → let s = c.before in past fullest (s.args.m -ℤ s.args.s) ≡ c.past.result
 first c = sym (c.past.ensures ∙ ap (λ (z : ℤ). past fullest z) (value (env c.before) (v 0 ⊝ v 1) tt))
 
-sub-past : tie.Need-overflow-sub-past
-sub-past c = need (env c) (v 0 ⊝ v 1) tt
+overflow_sub-m : tie.Need-overflow_sub-m
+overflow_sub-m c = need (env c) (v 0 ⊝ v 1) tt
 
 past-requires : tie.Need-past-requires
 past-requires c κs = search rules
 
-returns : tie.Need-returns
-returns c = rw (first c.before ∙ c.if1.true)
+returns-then-past : tie.Need-returns-then-past
+returns-then-past c = rw (first c.before ∙ c.if-past.true)
 
-add-past : tie.Need-overflow-add-past
-add-past c = need (env c.before.before) (v 0 ⊕ v 1) tt
+overflow_add-m : tie.Need-overflow_add-m
+overflow_add-m c = need (env c.before.before) (v 0 ⊕ v 1) tt
 
 past-requires-2 : tie.Need-past-requires-2
 past-requires-2 c κs = search rules
 
-returns-2 : tie.Need-returns-2
-returns-2 c = let b = c.before in
-    rw (first b.before ∙ b.if1.false)
-    (c.past2.ensures ∙ ap (λ (z : ℤ). past fullest z) (value (env b.before.before) (v 0 ⊕ v 1) tt))
+returns : tie.Need-returns
+returns c = let b = c.before in
+    rw (first b.before ∙ b.if-past.false)
+    (c.past-2.ensures ∙ ap (λ (z : ℤ). past fullest z) (value (env b.before.before) (v 0 ⊕ v 1) tt))
 
-pub off-flows-spec : {M : Type 1} → statement M
-off-flows-spec = tie.close (tie.spec sub-past past-requires returns add-past past-requires-2 returns-2)
+pub off_flows_spec : {M : Type 1} → statement M
+off_flows_spec = tie.close (tie.spec overflow_sub-m past-requires returns-then-past overflow_add-m past-requires-2 returns)

@@ -15,54 +15,54 @@ use Rattle.stage.proofs.checks.bad_bed.Tie as tie
 abbrev bad : List ℤ → ℕ → Bool
 bad bed k = bad_bed (get_or bed k (pos 0))
 
-abbrev invariant-loop : tie.invariant-loop
+abbrev invariant-loop : tie.invariant-loop-i
 invariant-loop bed i₀ i = Scanned (bad bed) (length bed) i
 
-abbrev decreases-loop : tie.decreases-loop
+abbrev decreases-loop : tie.decreases-loop-i
 decreases-loop bed i₀ i = length bed - i
 
-loop-holds : tie.Need-loop-init invariant-loop decreases-loop
-loop-holds c = scan_none _ _
+loop-i-init : tie.Need-loop-i-init invariant-loop decreases-loop
+loop-i-init c = scan_none _ _
 
-bed-at-requires : tie.Need-bed-at-requires invariant-loop decreases-loop
-bed-at-requires c κs = search rules
+bed_at-requires : tie.Need-bed_at-requires invariant-loop decreases-loop
+bed_at-requires c κs = search rules
 
-bad-value-requires : tie.Need-bad-value-requires invariant-loop decreases-loop
-bad-value-requires c κs = search rules
+bad_value-requires : tie.Need-bad_value-requires invariant-loop decreases-loop
+bad_value-requires c κs = search rules
 
 -- what the test of this turn says
-here : (c : tie.After-bad-value invariant-loop decreases-loop) →
-    let l = c.before.before.before in bad l.before.args.bed.now l.loop.i ≡ c.bad-value.result
-here c = let a = c.before.bed-at in sym (c.bad-value.ensures ∙ ap bad_bed (back64 a.type-inv a.ensures))
+here : (c : tie.After-bad_value invariant-loop decreases-loop) →
+    let l = c.before.before.before in bad l.before.args.bed.now l.loop-i.i ≡ c.bad_value.result
+here c = let a = c.before.bed_at in sym (c.bad_value.ensures ∙ ap bad_bed (back64 a.type_inv a.ensures))
+
+returns-then-bad_value : tie.Need-returns-then-bad_value invariant-loop decreases-loop
+returns-then-bad_value c = let b = c.before in let e = b.before.before in
+    scan_lowest e.before.loop-i.invariant e.loop-i-test.true (here b) c.if-bad_value.true
+
+overflow_add-i : tie.Need-overflow_add-i invariant-loop decreases-loop
+overflow_add-i c = search rules
+
+loop-i-smaller : tie.Need-loop-i-smaller invariant-loop decreases-loop
+loop-i-smaller c = search rules
+
+loop-i-preserved : tie.Need-loop-i-preserved invariant-loop decreases-loop
+loop-i-preserved c = let b = c.before in let e = b.before.before in
+    scan_more e.before.loop-i.invariant e.loop-i-test.true (here b) c.if-bad_value.false
 
 returns : tie.Need-returns invariant-loop decreases-loop
-returns c = let b = c.before in let e = b.before.before in
-    scan_lowest e.before.loop.invariant e.loop-test.true (here b) c.if1.true
+returns c = scan_past c.before.loop-i.invariant c.loop-i-test.false
 
-add-i : tie.Need-overflow-add-i invariant-loop decreases-loop
-add-i c = search rules
-
-loop-less : tie.Need-loop-smaller invariant-loop decreases-loop
-loop-less c = search rules
-
-loop-again : tie.Need-loop-preserved invariant-loop decreases-loop
-loop-again c = let b = c.before in let e = b.before.before in
-    scan_more e.before.loop.invariant e.loop-test.true (here b) c.if1.false
-
-returns-2 : tie.Need-returns-2 invariant-loop decreases-loop
-returns-2 c = scan_past c.before.loop.invariant c.loop-test.false
-
-pub bad-bed-spec : {M : Type 1} → statement M
-bad-bed-spec =
+pub bad_bed_spec : {M : Type 1} → statement M
+bad_bed_spec =
     tie.close
     (tie.spec
     invariant-loop
     decreases-loop
-    loop-holds
-    bed-at-requires
-    bad-value-requires
-    returns
-    add-i
-    loop-less
-    loop-again
-    returns-2)
+    loop-i-init
+    bed_at-requires
+    bad_value-requires
+    returns-then-bad_value
+    overflow_add-i
+    loop-i-smaller
+    loop-i-preserved
+    returns)

@@ -11,95 +11,95 @@ use Rattle.stage.proofs.checks.bad_numbers.Statement.{statement}
 use Rattle.stage.proofs.checks.bad_numbers.Tie as tie
 
 -- ---- what stands before each test
-abbrev start : tie.Else1 → tie.Start
+abbrev start : tie.Else-outside → tie.Start
 start c = c.before.before.before
 
-abbrev first : tie.Else2 → tie.Else1
+abbrev first : tie.Else-outside-2 → tie.Else-outside
 first c = c.before.before.before
 
-abbrev second : tie.Else3 → tie.Else2
+abbrev second : tie.Else-outside-3 → tie.Else-outside-2
 second c = c.before.before.before
 
-abbrev third : tie.Else4 → tie.Else3
+abbrev third : tie.Else-bad_dry → tie.Else-outside-3
 third c = c.before.before.before
 
 -- ---- the four tests of numbers, and what is known past each
 length_test : (o : tie.After-outside) → outside (pos 1) longest_cell o.before.before.args.reach.dx ≡ o.outside.result
 length_test o =
     let k = o.before in
-    sym (rw (back {z = k.before.args.reach.dx} k.struct_told.given.1.0.1) at o.outside.ensures)
+    sym (rw (back {z = k.before.args.reach.dx} k.struct_told-1.given.1.0.1) at o.outside.ensures)
 
-length_in : (c : tie.Else1) → outside (pos 1) longest_cell (start c).args.reach.dx ≡ false
-length_in c = length_test c.before ∙ c.if1.false
+length_in : (c : tie.Else-outside) → outside (pos 1) longest_cell (start c).args.reach.dx ≡ false
+length_in c = length_test c.before ∙ c.if-outside.false
 
-step_test : (o : tie.After-outside2) → outside (pos 1) longest_step (start o.before.before).args.call.dt ≡ o.outside2.result
+step_test : (o : tie.After-outside-2) → outside (pos 1) longest_step (start o.before.before).args.call.dt ≡ o.outside-2.result
 step_test o = let k = o.before in
-    sym (rw (back {z = (start k.before).args.call.dt} k.struct-told2.given.0.1) at o.outside2.ensures)
+    sym (rw (back {z = (start k.before).args.call.dt} k.struct_told-2-1.given.0.1) at o.outside-2.ensures)
 
-step_in : (c : tie.Else2) → outside (pos 1) longest_step (start (first c)).args.call.dt ≡ false
-step_in c = step_test c.before ∙ c.if2.false
+step_in : (c : tie.Else-outside-2) → outside (pos 1) longest_step (start (first c)).args.call.dt ≡ false
+step_in c = step_test c.before ∙ c.if-outside-2.false
 
-jump_test : (o : tie.After-outside3)
-    → outside (pos 0) largest_jump (start (first o.before.before)).args.call.jump ≡ o.outside3.result
+jump_test : (o : tie.After-outside-3)
+    → outside (pos 0) largest_jump (start (first o.before.before)).args.call.jump ≡ o.outside-3.result
 jump_test o = let k = o.before in
-    sym (rw (back {z = (start (first k.before)).args.call.jump} k.struct-told3.given.1.0.1) at o.outside3.ensures)
+    sym (rw (back {z = (start (first k.before)).args.call.jump} k.struct_told-3-1.given.1.0.1) at o.outside-3.ensures)
 
-jump_in : (c : tie.Else3) → outside (pos 0) largest_jump (start (first (second c))).args.call.jump ≡ false
-jump_in c = jump_test c.before ∙ c.if3.false
+jump_in : (c : tie.Else-outside-3) → outside (pos 0) largest_jump (start (first (second c))).args.call.jump ≡ false
+jump_in c = jump_test c.before ∙ c.if-outside-3.false
 
-dry_test : (o : tie.After-bad-dry) → bad_dry (start (first (second o.before.before))).args.call.dry ≡ o.bad-dry.result
+dry_test : (o : tie.After-bad_dry) → bad_dry (start (first (second o.before.before))).args.call.dry ≡ o.bad_dry.result
 dry_test o = let k = o.before in let s = start (first (second k.before)) in
-    sym (rw (back {z = s.args.call.dry} k.struct-told4.given.1.1.0.1) at o.bad-dry.ensures)
+    sym (rw (back {z = s.args.call.dry} k.struct_told-4-1.given.1.1.0.1) at o.bad_dry.ensures)
 
-dry_in : (c : tie.Else4) → bad_dry (start (first (second (third c)))).args.call.dry ≡ false
-dry_in c = dry_test c.before ∙ c.if4.false
+dry_in : (c : tie.Else-bad_dry) → bad_dry (start (first (second (third c)))).args.call.dry ≡ false
+dry_in c = dry_test c.before ∙ c.if-bad_dry.false
+
+returns-then-outside : tie.Need-returns-then-outside
+unfolding bad_call any
+returns-then-outside c bed ρ = rw (length_test c.before ∙ c.if-outside.true)
+
+returns-then-outside-2 : tie.Need-returns-then-outside-2
+unfolding bad_call any
+returns-then-outside-2 c bed ρ = let o = c.before in rw (length_in o.before.before, step_test o ∙ c.if-outside-2.true)
+
+returns-then-outside-3 : tie.Need-returns-then-outside-3
+unfolding bad_call any
+returns-then-outside-3 c bed ρ =
+    let o = c.before in let e = o.before.before in
+    rw (length_in (first e), step_in e, jump_test o ∙ c.if-outside-3.true)
+
+returns-then-bad_dry : tie.Need-returns-then-bad_dry
+unfolding bad_call any
+returns-then-bad_dry c bed ρ =
+    let o = c.before in let f = o.before.before in let e = second f in
+    rw (length_in (first e), step_in e, jump_in f, dry_test o ∙ c.if-bad_dry.true)
+
+returns-then-bad_end : tie.Need-returns-then-bad_end
+unfolding bad_call any
+returns-then-bad_end c bed ρ =
+    let o = c.before in let g = o.before in let f = third g in let e = second f in
+    rw (length_in (first e), step_in e, jump_in f, dry_in g, sym o.bad_end.ensures ∙ c.if-bad_end.true)
 
 returns : tie.Need-returns
 unfolding bad_call any
-returns c bed ρ = rw (length_test c.before ∙ c.if1.true)
-
-returns-2 : tie.Need-returns-2
-unfolding bad_call any
-returns-2 c bed ρ = let o = c.before in rw (length_in o.before.before, step_test o ∙ c.if2.true)
-
-returns-3 : tie.Need-returns-3
-unfolding bad_call any
-returns-3 c bed ρ =
-    let o = c.before in let e = o.before.before in
-    rw (length_in (first e), step_in e, jump_test o ∙ c.if3.true)
-
-returns-4 : tie.Need-returns-4
-unfolding bad_call any
-returns-4 c bed ρ =
-    let o = c.before in let f = o.before.before in let e = second f in
-    rw (length_in (first e), step_in e, jump_in f, dry_test o ∙ c.if4.true)
-
-returns-5 : tie.Need-returns-5
-unfolding bad_call any
-returns-5 c bed ρ =
-    let o = c.before in let g = o.before in let f = third g in let e = second f in
-    rw (length_in (first e), step_in e, jump_in f, dry_in g, sym o.bad-end.ensures ∙ c.if5.true)
-
-returns-6 : tie.Need-returns-6
-unfolding bad_call any
-returns-6 c bed ρ =
+returns c bed ρ =
     let h = c.before in let o = h.before in let g = o.before in let f = third g in let e = second f in
-    rw (length_in (first e), step_in e, jump_in f, dry_in g, sym o.bad-end.ensures ∙ h.if5.false, sym c.bad-end2.ensures)
-    (or_last c.bad-end2.result)
+    rw (length_in (first e), step_in e, jump_in f, dry_in g, sym o.bad_end.ensures ∙ h.if-bad_end.false, sym c.bad_end-2.ensures)
+    (or_last c.bad_end-2.result)
 
-pub bad-numbers-spec : {M : Type 1} → statement M
-bad-numbers-spec =
+pub bad_numbers_spec : {M : Type 1} → statement M
+bad_numbers_spec =
     tie.close
     (tie.spec
     (λ c κs. search rules)
-    returns
+    returns-then-outside
     (λ c κs. search rules)
-    returns-2
+    returns-then-outside-2
     (λ c κs. search rules)
-    returns-3
+    returns-then-outside-3
     (λ c κs. search rules)
-    returns-4
+    returns-then-bad_dry
     (λ c κs. search rules)
-    returns-5
+    returns-then-bad_end
     (λ c κs. search rules)
-    returns-6)
+    returns)

@@ -18,21 +18,21 @@ use Rattle.stage.proofs.checks.bad_value.Tie as tie
 test : (c : tie.After-outside) → let z = c.before.args.z in outside (pos 0) highest_bed z ≡ c.outside.result
 test c = sym (simp (to_z-of_z, c.before.ranges.z) at c.outside.ensures)
 
-returns : tie.Need-returns
+returns-then-outside : tie.Need-returns-then-outside
 unfolding bad_bed
-returns c = let o = c.before in rw (test o ∙ c.if1.true)
+returns-then-outside c = let o = c.before in rw (test o ∙ c.if-outside.true)
 
-cast-size : tie.Need-overflow-cast-size
-cast-size c =
+overflow_cast-size : tie.Need-overflow_cast-size
+overflow_cast-size c =
     let o = c.before in let s = o.before in let z = s.args.z in
-    let e = test o ∙ c.if1.false in
+    let e = test o ∙ c.if-outside.false in
     let least = lt_no z (pos 0) (or_l (lt_z z (pos 0)) (lt_z highest_bed z) e) in
     let small : nat_abs z ≤ 1048576 = (b_nonneg least (lt_no highest_bed z (or_r (lt_z z (pos 0)) (lt_z highest_bed z) e))).abs in
     simp (to_z-of_z, s.ranges.z) (yes_non_neg least, omega (arith, small))
 
-returns-2 : tie.Need-returns-2
+returns : tie.Need-returns
 unfolding bad_bed
-returns-2 c = let o = c.before in rw (test o ∙ c.if1.false, to_z-of_z o.before.ranges.z)
+returns c = let o = c.before in rw (test o ∙ c.if-outside.false, to_z-of_z o.before.ranges.z)
 
-pub bad-value-spec : {M : Type 1} → statement M
-bad-value-spec = tie.close (tie.spec (λ c κs. search rules) returns cast-size returns-2)
+pub bad_value_spec : {M : Type 1} → statement M
+bad_value_spec = tie.close (tie.spec (λ c κs. search rules) returns-then-outside overflow_cast-size returns)

@@ -20,32 +20,32 @@ abbrev bed : tie.Start → Bed
 bed s = bed_in s.args.b
 
 abbrev cell : tie.Start → Cell
-cell s = as_cell s.args.t2
+cell s = as_cell s.args.x
 
 keeps : (s : tie.Start) → CellSizes (bed s) (cell s)
-keeps s = cell_sizes s.requires.0
+keeps s = cell_sizes s.requires.inside
 
-depths-requires : tie.Need-depths-requires
-depths-requires c κs = (c.requires.0.ground, (keeps c).wide)
+depths-h-requires : tie.Need-depths-h-requires
+depths-h-requires c κs = record { ground = c.requires.inside.ground; wide = (keeps c).wide }
 
-mean : (c : tie.After-depths) → get_or c.depths.result 0 (pos 0) ≡ h0 (bed c.before) (cell c.before)
-mean c = ap (λ (l : List ℤ). get_or l 0 (pos 0)) c.depths.ensures
+mean : (c : tie.After-depths-h) → get_or c.depths-h.result 0 (pos 0) ≡ h0 (bed c.before) (cell c.before)
+mean c = ap (λ (l : List ℤ). get_or l 0 (pos 0)) c.depths-h.ensures
 
-array-copy-out-speed-of : tie.Need-array-copy-out-speed-of
-array-copy-out-speed-of c = search rules
+bounds-x-2 : tie.Need-bounds-x-2
+bounds-x-2 c = search rules
 
-array-copy-out-speed-of-2 : tie.Need-array-copy-out-speed-of-2
-array-copy-out-speed-of-2 c = search rules
+bounds-h-0 : tie.Need-bounds-h-0
+bounds-h-0 c = search rules
 
-speed-of-requires : tie.Need-speed-of-requires
-speed-of-requires c κs =
+speed_of-requires : tie.Need-speed_of-requires
+speed_of-requires c κs =
     let d = c.before.before in let s = d.before in let m = keeps s in
     rw (
-      back {z = (cell s).q0} c.before.speed-of-arg.given,
-      back64 {z = get_or d.depths.result 0 (pos 0)} c.speed-of-arg2.given (mean d),
+      back {z = (cell s).q0} c.before.speed_of-arg-1.given,
+      back64 {z = get_or d.depths-h.result 0 (pos 0)} c.speed_of-arg-2-1.given (mean d),
       to_z-of_z s.ranges.dry,
     )
-    (m.q0, ((m.mean, m.mean_most), s.requires.1))
+    record { up_to = m.q0; depth_in = (m.mean, m.mean_most); dry_depth = s.requires.dry_depth }
 
 past-requires : tie.Need-past-requires
 past-requires c κs = search rules
@@ -54,17 +54,17 @@ returns : tie.Need-returns
 unfolding fast_cell
 returns c =
     let u = c.before in let a = u.before in let d = a.before.before in let s = d.before in
-    c.past.ensures ∙ ap (past fastest) (back64 u.speed-of.type-inv (u.speed-of.ensures
-    ∙ (λ i. speed (to_z-of_z s.ranges.dry i) (back {z = (cell s).q0} a.before.speed-of-arg.given i)
-    (back64 {z = get_or d.depths.result 0 (pos 0)} a.speed-of-arg2.given (mean d) i))))
+    c.past.ensures ∙ ap (past fastest) (back64 u.speed_of.type_inv (u.speed_of.ensures
+    ∙ (λ i. speed (to_z-of_z s.ranges.dry i) (back {z = (cell s).q0} a.before.speed_of-arg-1.given i)
+    (back64 {z = get_or d.depths-h.result 0 (pos 0)} a.speed_of-arg-2-1.given (mean d) i))))
 
-pub fast-cell-spec : {M : Type 1} → statement M
-fast-cell-spec =
+pub fast_cell_spec : {M : Type 1} → statement M
+fast_cell_spec =
     tie.close
     (tie.spec
-    depths-requires
-    array-copy-out-speed-of
-    array-copy-out-speed-of-2
-    speed-of-requires
+    depths-h-requires
+    bounds-x-2
+    bounds-h-0
+    speed_of-requires
     past-requires
     returns)

@@ -15,50 +15,50 @@ use Rattle.stage.proofs.checks.off.Tie as tie
 abbrev bad : List (List ℤ) → List ℤ → ℕ → Bool
 bad t bed k = off_cell (bed_at bed k) (seen t k)
 
-abbrev invariant-loop : tie.invariant-loop
+abbrev invariant-loop : tie.invariant-loop-i
 invariant-loop t bed n i₀ i = Scanned (bad t bed) n i
 
-abbrev decreases-loop : tie.decreases-loop
+abbrev decreases-loop : tie.decreases-loop-i
 decreases-loop t bed n i₀ i = n - i
 
-loop-holds : tie.Need-loop-init invariant-loop decreases-loop
-loop-holds c = scan_none _ _
+loop-i-init : tie.Need-loop-i-init invariant-loop decreases-loop
+loop-i-init c = scan_none _ _
 
-off-cell-requires : tie.Need-off-cell-requires invariant-loop decreases-loop
-off-cell-requires c κs =
+off_cell-requires : tie.Need-off_cell-requires invariant-loop decreases-loop
+off_cell-requires c κs =
     let b = c.before in let e = b.before in let l = e.before in let s = l.before in
-    let x = s.requires.1 l.loop.i e.loop-test.true in
-    rw b.under.ensures (x.ground, x.wide)
+    let x = s.requires.all_unfinished l.loop-i.i e.loop-i-test.true in
+    rw b.under.ensures record { ground = x.ground; wide = x.wide }
 
 -- what the test of this turn says
-here : (c : tie.After-off-cell invariant-loop decreases-loop) →
+here : (c : tie.After-off_cell invariant-loop decreases-loop) →
     let l = c.before.before.before.before in
     let s = l.before in
-    bad s.args.t.now s.args.bed.now l.loop.i ≡ c.off-cell.result
-here c = sym (rw c.before.before.under.ensures at c.off-cell.ensures)
+    bad s.args.t.now s.args.bed.now l.loop-i.i ≡ c.off_cell.result
+here c = sym (rw c.before.before.under.ensures at c.off_cell.ensures)
+
+returns-then-off_cell : tie.Need-returns-then-off_cell invariant-loop decreases-loop
+returns-then-off_cell c = let o = c.before in let e = o.before.before.before in
+    scan_lowest e.before.loop-i.invariant e.loop-i-test.true (here o) c.if-off_cell.true
+
+loop-i-preserved : tie.Need-loop-i-preserved invariant-loop decreases-loop
+loop-i-preserved c = let o = c.before in let e = o.before.before.before in
+    scan_more e.before.loop-i.invariant e.loop-i-test.true (here o) c.if-off_cell.false
 
 returns : tie.Need-returns invariant-loop decreases-loop
-returns c = let o = c.before in let e = o.before.before.before in
-    scan_lowest e.before.loop.invariant e.loop-test.true (here o) c.if1.true
+returns c = scan_past c.before.loop-i.invariant c.loop-i-test.false
 
-loop-again : tie.Need-loop-preserved invariant-loop decreases-loop
-loop-again c = let o = c.before in let e = o.before.before.before in
-    scan_more e.before.loop.invariant e.loop-test.true (here o) c.if1.false
-
-returns-2 : tie.Need-returns-2 invariant-loop decreases-loop
-returns-2 c = scan_past c.before.loop.invariant c.loop-test.false
-
-pub off-spec : {M : Type 1} → statement M
-off-spec =
+pub off_spec : {M : Type 1} → statement M
+off_spec =
     tie.close
     (tie.spec
     invariant-loop
     decreases-loop
-    loop-holds
+    loop-i-init
     (λ c κs. search rules) (λ c. search rules) (λ c. search rules)
-    off-cell-requires
-    returns
+    off_cell-requires
+    returns-then-off_cell
     (λ c. search rules)
     (λ c. search rules)
-    loop-again
-    returns-2)
+    loop-i-preserved
+    returns)

@@ -10,33 +10,33 @@ use Rattle.stage.specs.Laws.EndOfStage.{unfinished, finished_wide, end_stops, en
 use Rattle.stage.proofs.ending.end.Statement.{statement}
 use Rattle.stage.proofs.ending.end.Tie as tie
 
-module _ (f : tie.After-finish) where
+module _ (f : tie.After-finish-done) where
   abbrev s : tie.Start
   s = f.before.before
 
-  works : f.finish.result ≡ true
-  works = let a = s.args in f.finish.ensures.works ∙ ap not (works_fit a.reach a.call a.bed.now a.u.now _ (record {
-    lent = s.pre.0.2;
-    placed = s.pre.0.3;
-    most = s.pre.0.0;
-    beds = s.pre.0.1;
-    jump_pos = s.pre.1.0.jump_pos;
-    jump_in = s.pre.1.0.jump_in;
-    dry = s.pre.1.0.dry;
-    cells = unfinished a.bed.now a.reach.n (seen a.u.now) s.pre.1.1.0 s.pre.1.1.1;
+  works : f.finish-done.result ≡ true
+  works = let a = s.args in f.finish-done.ensures.works ∙ ap not (works_fit a.reach a.call a.bed.now a.u.now _ (record {
+    lent = s.requires.n_le_most_cells.2;
+    placed = s.requires.n_le_most_cells.3;
+    most = s.requires.n_le_most_cells.0;
+    beds = s.requires.n_le_most_cells.1;
+    jump_pos = s.requires.numbers.jump_pos;
+    jump_in = s.requires.numbers.jump_in;
+    dry = s.requires.numbers.dry;
+    cells = unfinished a.bed.now a.reach.n (seen a.u.now) s.requires.grounds.0 s.requires.grounds.1;
   }))
 
-off-requires : tie.Need-off-requires
-off-requires c κs = let f = c.before.before in let p = (s f).requires.1.1 in
-    (omega arith, finished_wide f.finish.ensures (works f) (λ i. pos 0) p.0 p.1)
+off-i-requires : tie.Need-off-i-requires
+off-i-requires c κs = let f = c.before.before in let p = (s f).requires.grounds in
+    record { room = omega arith; all_unfinished = finished_wide f.finish-done.ensures (works f) (λ i. pos 0) p.0 p.1 }
+
+returns-then-i-reach : tie.Need-returns-then-i-reach
+returns-then-i-reach c ρ = let o = c.before.before in let f = o.before.before.before in
+    end_stops f.finish-done.ensures (works f) ρ o.off-i.result o.off-i.ensures c.if-i-reach.true
 
 returns : tie.Need-returns
 returns c ρ = let o = c.before.before in let f = o.before.before.before in
-    end_stops f.finish.ensures (works f) ρ o.off.result o.off.ensures c.if1.true
+    end_passes f.finish-done.ensures (works f) ρ o.off-i.result o.off-i.ensures c.if-i-reach.false
 
-returns-2 : tie.Need-returns-2
-returns-2 c ρ = let o = c.before.before in let f = o.before.before.before in
-    end_passes f.finish.ensures (works f) ρ o.off.result o.off.ensures c.if1.false
-
-pub end-spec : {M : Type 1} → statement M
-end-spec = tie.close (tie.spec (λ c κs. search rules) off-requires (λ c. search rules) returns (λ c. search rules) returns-2)
+pub end_spec : {M : Type 1} → statement M
+end_spec = tie.close (tie.spec (λ c κs. search rules) off-i-requires (λ c. search rules) returns-then-i-reach (λ c. search rules) returns)

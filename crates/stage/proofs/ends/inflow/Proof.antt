@@ -22,28 +22,28 @@ abbrev fast : tie.Start → ℤ
 fast s = inflow_speed s.args.dry (end_in s.args.end) (side_in s.args.x)
 
 inflow_in : (s : tie.Start) → Within 8388608 (pos s.args.end.q)
-inflow_in s = inflow_most (end_in s.args.end) s.requires.0
+inflow_in s = inflow_most (end_in s.args.end) s.requires.q_le_largest_inflow
 
 fast_in : (s : tie.Start) → Within 17179869184 (fast s)
 unfolding inflow_speed
-fast_in s = speed_size s.args.dry (pos s.args.end.q) s.args.x.h s.requires.1.1.least (inflow_in s)
+fast_in s = speed_size s.args.dry (pos s.args.end.q) s.args.x.h s.requires.dry_depth.least (inflow_in s)
 
-fast_is : (c : tie.After-inflow-speed) → c.inflow-speed.result ≡ fast c.before
-fast_is c = rw (to_z-of_z c.before.ranges.dry) at c.inflow-speed.ensures
+fast_is : (c : tie.After-inflow_speed-v) → c.inflow_speed-v.result ≡ fast c.before
+fast_is c = rw (to_z-of_z c.before.ranges.dry) at c.inflow_speed-v.ensures
 
-inflow-top-requires : tie.Need-inflow-top-requires
-inflow-top-requires c κs = let s = c.before in rw (fast_is c, to_z-of_z (fit (fast_in s) tt)) (fast_in s, s.requires.1.0)
+inflow_top-s-requires : tie.Need-inflow_top-s-requires
+inflow_top-s-requires c κs = let s = c.before in rw (fast_is c, to_z-of_z (fit (fast_in s) tt)) record { up_to = fast_in s; sound = s.requires.sound }
 
 -- ---- the two products
-mul-t7 : tie.Need-overflow-mul-t7
-mul-t7 c = let s = c.before.before.before.before in need (sized (depth_size s.requires.1.0) tt ∷ []) (v 0 ⊗ v 0) tt
+overflow_mul-result : tie.Need-overflow_mul-result
+overflow_mul-result c = let s = c.before.before.before.before in need (sized (depth_size s.requires.sound) tt ∷ []) (v 0 ⊗ v 0) tt
 
-abbrev speeded : tie.After-widened → tie.After-inflow-speed
+abbrev speeded : tie.After-widened → tie.After-inflow_speed-v
 speeded c = c.before.before.before.before
 
 abbrev env : tie.After-widened → List Entry
 env c = let f = speeded c in let s = f.before in
-    sized (depth_size s.pre.1.0) tt
+    sized (depth_size s.requires.sound) tt
     ∷ sized (subst (Within 8388608) (sym c.widened.ensures) (inflow_in s)) tt
     ∷ sized (subst (Within 17179869184) (sym (fast_is f)) (fast_in s)) tt
     ∷ []
@@ -51,22 +51,22 @@ env c = let f = speeded c in let s = f.before in
 abbrev advection : X
 advection = v 1 ⊗ v 2 ⊘ k (pos 4096)
 
-mul-t9 : tie.Need-overflow-mul-t9
-mul-t9 c = need (env c) (v 1 ⊗ v 2) tt
+overflow_mul-result-2 : tie.Need-overflow_mul-result-2
+overflow_mul-result-2 c = need (env c) (v 1 ⊗ v 2) tt
 
-div-t10 : tie.Need-nonzero-div-t10
-div-t10 c = (lit< tt, need (env c) advection tt)
+nonzero_div-result : tie.Need-nonzero_div-result
+nonzero_div-result c = (lit< tt, need (env c) advection tt)
 
 returns : tie.Need-returns
 unfolding inflow
 returns c =
     let t = c.before.before.before in let f = speeded c in let s = f.before in
     λ j. record {
-      F = back {z = s.args.f} s.fits.f.sfits j;
+      F = back {z = s.args.f} s.ranges.f.sfits j;
       K = value (env c) (v 0 ⊗ v 0) tt j;
       A = (value (env c) advection tt ∙ ap₂ (λ (a b : ℤ). quot_z (a *ℤ b) (pos 4096)) c.widened.ensures (fast_is f)) j;
-      S = back64 t.inflow_top.type-inv (rw (fast_is f, to_z-of_z (fit (fast_in s) tt)) at t.inflow_top.ensures) j;
+      S = back64 t.inflow_top-s.type_inv (rw (fast_is f, to_z-of_z (fit (fast_in s) tt)) at t.inflow_top-s.ensures) j;
     }
 
-pub inflow-spec : {M : Type 1} → statement M
-inflow-spec = tie.close (tie.spec (λ c κs. search rules) inflow-top-requires mul-t7 (λ c κs. search rules) mul-t9 div-t10 returns)
+pub inflow_spec : {M : Type 1} → statement M
+inflow_spec = tie.close (tie.spec (λ c κs. search rules) inflow_top-s-requires overflow_mul-result (λ c κs. search rules) overflow_mul-result-2 nonzero_div-result returns)

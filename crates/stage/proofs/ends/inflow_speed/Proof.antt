@@ -11,21 +11,21 @@ use Rattle.stage.proofs.ends.inflow_speed.Statement.{statement}
 use Rattle.stage.proofs.ends.inflow_speed.Tie as tie
 
 inflow_in : (s : tie.Start) → Within 8388608 (pos s.args.end.q)
-inflow_in s = inflow_most (end_in s.args.end) s.requires.0
+inflow_in s = inflow_most (end_in s.args.end) s.requires.q_le_largest_inflow
 
-speed-of-requires : tie.Need-speed-of-requires
-speed-of-requires c κs =
-    let w = c.before in let s = w.before in let x = s.requires.1.0 in
+speed_of-requires : tie.Need-speed_of-requires
+speed_of-requires c κs =
+    let w = c.before in let s = w.before in let x = s.requires.depth_in in
     rw (w.widened.ensures, to_z-of_z (fit (inflow_in s) tt), to_z-of_z (fit (b_nonneg x.0 x.1) tt), to_z-of_z s.ranges.dry)
-    (inflow_in s, (x, s.requires.1.1))
+    record { up_to = inflow_in s; depth_in = x; dry_depth = s.requires.dry_depth }
 
 returns : tie.Need-returns
 unfolding inflow_speed
 returns c =
-    let w = c.before.before in let s = w.before in let x = s.requires.1.0 in
-    back64 c.speed-of.type-inv
+    let w = c.before.before in let s = w.before in let x = s.requires.depth_in in
+    back64 c.speed_of.type_inv
     (rw (w.widened.ensures, to_z-of_z (fit (inflow_in s) tt), to_z-of_z (fit (b_nonneg x.0 x.1) tt), to_z-of_z s.ranges.dry)
-    at c.speed-of.ensures)
+    at c.speed_of.ensures)
 
-pub inflow-speed-spec : {M : Type 1} → statement M
-inflow-speed-spec = tie.close (tie.spec (λ c κs. search rules) speed-of-requires returns)
+pub inflow_speed_spec : {M : Type 1} → statement M
+inflow_speed_spec = tie.close (tie.spec (λ c κs. search rules) speed_of-requires returns)

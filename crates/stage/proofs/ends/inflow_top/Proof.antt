@@ -17,35 +17,35 @@ use Rattle.stage.proofs.ends.inflow_top.Tie as tie
 abbrev against : tie.Start → ℤ
 against s = size_z s.args.x.u +ℤ wave s.args.x.h
 
-top : (c : tie.After-wave-of) → let z = c.before.before in
-    Got 233704 (rd z.size.result +ℤ rd c.wave-of.result) (against z.before.before)
-top c = let z = c.before.before in let s = z.before.before in let x = s.requires.1 in
+top : (c : tie.After-wave_of) → let z = c.before.before in
+    Got 233704 (rd z.size.result +ℤ rd c.wave_of.result) (against z.before.before)
+top c = let z = c.before.before in let s = z.before.before in let x = s.requires.sound in
     g_add
     (record {
-      same = back64 z.size.type-inv (sized (g_var (fit x.speed tt) x.speed) z.size.ensures tt);
+      same = back64 z.size.type_inv (sized (g_var (fit x.speed tt) x.speed) z.size.ensures tt);
       bound = b_size s.args.x.u x.speed;
     })
     (record {
-      same = back64 c.wave-of.type-inv (rw (to_z-of_z (fit (depth_size x) tt)) at c.wave-of.ensures);
+      same = back64 c.wave_of.type_inv (rw (to_z-of_z (fit (depth_size x) tt)) at c.wave_of.ensures);
       bound = wave_size x;
     })
 
-add-top : tie.Need-overflow-add-top
-add-top c = g_fits (top c) tt
+overflow_add-top : tie.Need-overflow_add-top
+overflow_add-top c = g_fits (top c) tt
 
-returns : tie.Need-returns
+returns-then-v-top : tie.Need-returns-then-v-top
 unfolding max_z
-returns c =
+returns-then-v-top c =
     let w = c.before in let s = w.before.before.before.before in let t = g_back (top w) tt in
-    let e : le_z s.args.v (against s) ≡ true = rw (to_z-of_z s.ranges.v, t.same) at c.if1.true in
+    let e : le_z s.args.v (against s) ≡ true = rw (to_z-of_z s.ranges.v, t.same) at c.if-v-top.true in
     rw e t.same
 
-returns-2 : tie.Need-returns-2
+returns-else-v-top : tie.Need-returns-else-v-top
 unfolding max_z
-returns-2 c =
+returns-else-v-top c =
     let w = c.before in let s = w.before.before.before.before in let t = g_back (top w) tt in
-    let e : le_z s.args.v (against s) ≡ false = rw (to_z-of_z s.ranges.v, t.same) at c.if1.false in
+    let e : le_z s.args.v (against s) ≡ false = rw (to_z-of_z s.ranges.v, t.same) at c.if-v-top.false in
     rw e (back s.ranges.v.sfits)
 
-pub inflow-top-spec : {M : Type 1} → statement M
-inflow-top-spec = tie.close (tie.spec (λ c κs. search rules) (λ c κs. search rules) add-top returns returns-2)
+pub inflow_top_spec : {M : Type 1} → statement M
+inflow_top_spec = tie.close (tie.spec (λ c κs. search rules) (λ c κs. search rules) overflow_add-top returns-then-v-top returns-else-v-top)

@@ -17,19 +17,19 @@ env s = sized s.requires.speed tt ∷ sized (depth_size s.requires) tt ∷ []
 abbrev less : X
 less = k (pos 0) ⊝ v 0
 
-sub-u : tie.Need-overflow-sub-t4
-sub-u c = need (env c.before.before.before) less tt
+overflow_sub-result : tie.Need-overflow_sub-result
+overflow_sub-result c = need (env c.before.before.before) less tt
+
+returns-then-kind-eq0 : tie.Need-returns-then-kind-eq0
+unfolding outer
+returns-then-kind-eq0 c =
+    let t = c.before.before.before in let s = t.before in let e = env s in let u = s.args.x.u in
+    rw (eq-eqb _ _ t.if-kind-eq0.true)
+    (λ j. record { h = value e (v 1) tt j; u = (value e less tt ∙ eq! (lit 0 ⊟ at u) (⊖ (at u)) (omega arith)) j })
 
 returns : tie.Need-returns
 unfolding outer
-returns c =
-    let t = c.before.before.before in let s = t.before in let e = env s in let u = s.args.x.u in
-    rw (eq-eqb _ _ t.if1.true)
-    (λ j. record { h = value e (v 1) tt j; u = (value e less tt ∙ eq! (lit 0 ⊟ at u) (⊖ (at u)) (omega arith)) j })
+returns c = rw (ne_eqb _ _ c.if-kind-eq0.false)
 
-returns-2 : tie.Need-returns-2
-unfolding outer
-returns-2 c = rw (ne_eqb _ _ c.if1.false)
-
-pub outer-spec : {M : Type 1} → statement M
-outer-spec = tie.close (tie.spec sub-u returns returns-2)
+pub outer_spec : {M : Type 1} → statement M
+outer_spec = tie.close (tie.spec overflow_sub-result returns-then-kind-eq0 returns)

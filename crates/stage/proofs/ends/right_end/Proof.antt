@@ -22,44 +22,44 @@ abbrev start : tie.After-widened → tie.Start
 start w = w.before.before.before
 
 abbrev env : tie.After-widened → List Entry
-env w = sized (subst (Within 8388608) (sym w.widened.ensures) (inflow_most (end_in (start w).args.end) (start w).requires.0)) tt ∷ []
+env w = sized (subst (Within 8388608) (sym w.widened.ensures) (inflow_most (end_in (start w).args.end) (start w).requires.q_le_largest_inflow)) tt ∷ []
 
 abbrev less : X
 less = k (pos 0) ⊝ v 0
 
-sub-inflow : tie.Need-overflow-sub-inflow
-sub-inflow c = need (env c) less tt
+overflow_sub-widened : tie.Need-overflow_sub-widened
+overflow_sub-widened c = need (env c) less tt
 
 -- the mass is -Q
 mass_is : (w : tie.After-widened) → rd (pos 0 -ℤ rd w.widened.result) ≡ neg_ℤ (pos (start w).args.end.q)
 mass_is w = let q = pos (start w).args.end.q in
     value (env w) less tt ∙ ap (λ (z : ℤ). pos 0 -ℤ z) w.widened.ensures ∙ eq! (lit 0 ⊟ at q) (⊖ (at q)) (omega arith)
 
-returns : tie.Need-returns
+returns-then-end-eq-INFLOW : tie.Need-returns-then-end-eq-INFLOW
 unfolding right_end
-returns c =
+returns-then-end-eq-INFLOW c =
     let w = c.before in let s = start w in
-    rw (eq-eqb _ _ w.before.if1.true) (rw (mass_is w, to_z-of_z s.fits.dry) at c.inflow.ensures)
+    rw (eq-eqb _ _ w.before.if-end-eq-INFLOW.true) (rw (mass_is w, to_z-of_z s.ranges.dry) at c.inflow.ensures)
 
 crossing-requires : tie.Need-crossing-requires
 crossing-requires c κs =
-    let s = c.before.before.before in let x = s.requires.1.0 in
+    let s = c.before.before.before in let x = s.requires.sound in
     (x, subst Sound (sym c.outer.ensures) (outer_sound s.args.end.kind _ x))
 
-returns-2 : tie.Need-returns-2
+returns : tie.Need-returns
 unfolding right_end
-returns-2 c =
+returns c =
     let o = c.before in let e = o.before in let s = e.before.before in
-    rw (ne_eqb _ _ e.if1.false) (c.crossing.ensures ∙ ap (face (side_in s.args.x)) o.outer.ensures)
+    rw (ne_eqb _ _ e.if-end-eq-INFLOW.false) (c.crossing.ensures ∙ ap (face (side_in s.args.x)) o.outer.ensures)
 
-pub right-end-spec : {M : Type 1} → statement M
-right-end-spec =
+pub right_end_spec : {M : Type 1} → statement M
+right_end_spec =
     tie.close
     (tie.spec
     (λ c κs. search rules)
-    sub-inflow
+    overflow_sub-widened
     (λ c κs. search rules)
-    returns
+    returns-then-end-eq-INFLOW
     (λ c κs. search rules)
     crossing-requires
-    returns-2)
+    returns)

@@ -14,13 +14,13 @@ answer : (c : tie.After-wave) → value_of c.wave.result ≡ given (wave c.befor
 answer c = let s = c.before in
     (rw (to_z-of_z s.ranges.h) at c.wave.ensures) ∙ wave_given_lem s.args.h s.requires.0 s.requires.1
 
-returns : tie.Need-returns
-returns c =
+returns-in-Is : tie.Need-returns-in-Is
+returns-in-Is c =
     let a = c.before.before.before in
-    back64 c.known-told.given.0.1 (told a.wave.result _ _ c.before.a.given.1 (answer a))
+    back64 c.known_told-1.given.0.1 (told a.wave.result _ _ c.before.a-1.given.1 (answer a))
 
-returns-2 : tie.Need-returns-2
-returns-2 c = let a = c.before.before in untold a.wave.result _ c.enum_told.given.1 (answer a)
+returns-in-Refused : tie.Need-returns-in-Refused
+returns-in-Refused c = let a = c.before.before in untold a.wave.result _ c.enum_told-1.given.1 (answer a)
 
-pub wave-of-spec : {M : Type 1} → statement M
-wave-of-spec = tie.close (tie.spec (λ c κs. search rules) (λ c. search rules) (λ c. search rules) returns returns-2)
+pub wave_of_spec : {M : Type 1} → statement M
+wave_of_spec = tie.close (tie.spec (λ c κs. search rules) (λ c. search rules) (λ c. search rules) returns-in-Is returns-in-Refused)

@@ -19,7 +19,7 @@ use Rattle.stage.proofs.face_speeds.face_speeds.Statement.{statement}
 use Rattle.stage.proofs.face_speeds.face_speeds.Tie as tie
 
 -- ---- the sides
-module _ (w : tie.After-sides) where
+module _ (w : tie.After-sides-i) where
   abbrev start : tie.Start
   start = w.before.before
 
@@ -31,110 +31,98 @@ module _ (w : tie.After-sides) where
 
   -- their table
   abbrev d : List (List ℤ)
-  d = let tables = w.sides.last.1.1.1 in tables.1.0
+  d = let tables = w.sides-i.last.1.1.1 in tables.1.0
 
   filled : let a = start.args in
-      FillSays [] a.reach.n (fast_sides a.call.dry bed state) (sides_at a.call.dry bed state) w.sides.result d
-  filled = w.sides.ensures
+      FillSays [] a.reach.n (fast_sides a.call.dry bed state) (sides_at a.call.dry bed state) w.sides-i.result d
+  filled = w.sides-i.ensures
 
 -- ---- the left end
-module _ (l : tie.After-left-side) where
-  abbrev sided : tie.After-sides
+module _ (l : tie.After-left_side) where
+  abbrev sided : tie.After-sides-i
   sided = l.before.before.before
 
-fast-inflow-requires : tie.Need-fast-inflow-requires
-fast-inflow-requires c κs =
-    let l = c.before in let w = sided l in let s = start w in let a = s.args in let given = s.pre.1.0 in (
-      given.left_q,
-      (
-        subst (λ (x : rules.Side). DepthIn x.h) (sym l.left_side.ensures)
-            (first_depth a.reach a.call (bed w) (state w) s.pre.0.0 (filled w) s.pre.1.1),
-        rw (back {z = a.call.dry} c.struct_told.given.1.1.0.1) given.dry,
-      ),
-    )
+fast_inflow-requires : tie.Need-fast_inflow-requires
+fast_inflow-requires c κs =
+    let l = c.before in let w = sided l in let s = start w in let a = s.args in let given = s.requires.numbers in record { q_le_largest_inflow = given.left_q; depth_in = subst (λ (x : rules.Side). DepthIn x.h) (sym l.left_side.ensures)
+            (first_depth a.reach a.call (bed w) (state w) s.requires.n_nonzero.0 (filled w) s.requires.ranged); dry_depth = rw (back {z = a.call.dry} c.struct_told-1.given.1.1.0.1) given.dry }
 
-module _ (f : tie.After-fast-inflow) where
-  abbrev first : tie.After-left-side
+module _ (f : tie.After-fast_inflow) where
+  abbrev first : tie.After-left_side
   first = f.before.before
 
-  left_test : let w = sided first in let a = (start w).args in fast_left a.reach a.call (d w) ≡ f.fast-inflow.result
+  left_test : let w = sided first in let a = (start w).args in fast_left a.reach a.call (d w) ≡ f.fast_inflow.result
   left_test = let a = (start (sided first)).args in
-      sym ((rw (back {z = a.call.dry} f.before.struct_told.given.1.1.0.1) at f.fast-inflow.ensures)
+      sym ((rw (back {z = a.call.dry} f.before.struct_told-1.given.1.1.0.1) at f.fast_inflow.ensures)
       ∙ ap (fast_inflow a.call.dry (end_in a.call.left)) first.left_side.ensures)
 
-returns : tie.Need-returns
-returns c = let f = c.before in let w = sided (first f) in let s = start w in let a = s.args in
-    says_left_inflow a.reach a.call (bed w) (state w) s.pre.0.0 (filled w) (left_test f ∙ c.if1.true)
+returns-then-fast_inflow : tie.Need-returns-then-fast_inflow
+returns-then-fast_inflow c = let f = c.before in let w = sided (first f) in let s = start w in let a = s.args in
+    says_left_inflow a.reach a.call (bed w) (state w) s.requires.n_nonzero.0 (filled w) (left_test f ∙ c.if-fast_inflow.true)
 
 -- ---- a side
-module _ (e : tie.Else1) where
-  abbrev slow : tie.After-fast-inflow
+module _ (e : tie.Else-fast_inflow) where
+  abbrev slow : tie.After-fast_inflow
   slow = e.before
 
-returns-2 : tie.Need-returns-2
-returns-2 c = let t = c.before.before in let e = t.before in let w = sided (first (slow e)) in let s = start w in let a = s.args in
-    says_side a.reach a.call (bed w) (state w) s.pre.0.0 (filled w) (left_test (slow e) ∙ e.if1.false) t.if2.true
-    c.face-beside.ensures
+returns-then-i-n : tie.Need-returns-then-i-n
+returns-then-i-n c = let t = c.before.before in let e = t.before in let w = sided (first (slow e)) in let s = start w in let a = s.args in
+    says_side a.reach a.call (bed w) (state w) s.requires.n_nonzero.0 (filled w) (left_test (slow e) ∙ e.if-fast_inflow.false) t.if-i-n.true
+    c.face_beside.ensures
 
 -- ---- the right end
-module _ (r : tie.After-right-side) where
-  abbrev passed : tie.Else2
+module _ (r : tie.After-right_side) where
+  abbrev passed : tie.Else-i-n
   passed = r.before.before
 
-  abbrev past_left : tie.Else1
+  abbrev past_left : tie.Else-fast_inflow
   past_left = passed.before
 
-fast-inflow-requires-2 : tie.Need-fast-inflow-requires-2
-fast-inflow-requires-2 c κs =
+fast_inflow-requires-2 : tie.Need-fast_inflow-requires-2
+fast_inflow-requires-2 c κs =
     let r = c.before in let e = past_left r in let w = sided (first (slow e)) in
-    let s = start w in let a = s.args in let given = s.pre.1.0 in (
-      given.right_q,
-      (
-        subst (λ (x : rules.Side). DepthIn x.h) (sym r.right_side.ensures)
-            (last_depth a.reach a.call (bed w) (state w) s.pre.0.0 (filled w) (left_test (slow e) ∙ e.if1.left)
-            (passed r).if2.false s.pre.1.1),
-        rw (back {z = a.call.dry} c.struct-told2.given.1.1.0.1) given.dry,
-      ),
-    )
+    let s = start w in let a = s.args in let given = s.requires.numbers in record { q_le_largest_inflow = given.right_q; depth_in = subst (λ (x : rules.Side). DepthIn x.h) (sym r.right_side.ensures)
+            (last_depth a.reach a.call (bed w) (state w) s.requires.n_nonzero.0 (filled w) (left_test (slow e) ∙ e.if-fast_inflow.left)
+            (passed r).if-i-n.false s.requires.ranged); dry_depth = rw (back {z = a.call.dry} c.struct_told-2-1.given.1.1.0.1) given.dry }
 
-module _ (f : tie.After-fast-inflow2) where
-  abbrev second : tie.After-right-side
+module _ (f : tie.After-fast_inflow-2) where
+  abbrev second : tie.After-right_side
   second = f.before.before
 
-  abbrev table : tie.After-sides
+  abbrev table : tie.After-sides-i
   table = sided (first (slow (past_left second)))
 
-  right_test : let a = (start table).args in fast_right a.reach a.call (d table) ≡ f.fast-inflow2.result
+  right_test : let a = (start table).args in fast_right a.reach a.call (d table) ≡ f.fast_inflow-2.result
   right_test = let a = (start table).args in
-      sym ((rw (back {z = a.call.dry} f.before.struct-told2.given.1.1.0.1) at f.fast-inflow2.ensures)
+      sym ((rw (back {z = a.call.dry} f.before.struct_told-2-1.given.1.1.0.1) at f.fast_inflow-2.ensures)
       ∙ ap (fast_inflow a.call.dry (end_in a.call.right)) second.right_side.ensures)
 
-returns-3 : tie.Need-returns-3
-returns-3 c = let f = c.before in let p = passed (second f) in let e = p.before in let w = table f in
+returns-then-fast_inflow-2 : tie.Need-returns-then-fast_inflow-2
+returns-then-fast_inflow-2 c = let f = c.before in let p = passed (second f) in let e = p.before in let w = table f in
     let s = start w in let a = s.args in
-    says_right_inflow a.reach a.call (bed w) (state w) s.pre.0.0 (filled w) (left_test (slow e) ∙ e.if1.left) p.if2.left
-    (right_test f ∙ c.if3.true)
+    says_right_inflow a.reach a.call (bed w) (state w) s.requires.n_nonzero.0 (filled w) (left_test (slow e) ∙ e.if-fast_inflow.left) p.if-i-n.left
+    (right_test f ∙ c.if-fast_inflow-2.true)
 
-returns-4 : tie.Need-returns-4
-returns-4 c = let f = c.before in let p = passed (second f) in let e = p.before in let w = table f in
+returns : tie.Need-returns
+returns c = let f = c.before in let p = passed (second f) in let e = p.before in let w = table f in
     let s = start w in let a = s.args in let n : suc a.reach.n ≡ a.reach.n + 1 = omega arith in
     rw (sym n)
-    (says_slow a.reach a.call (bed w) (state w) s.pre.0.0 (filled w) (left_test (slow e) ∙ e.if1.left) p.if2.left
-    (right_test f ∙ c.if3.false))
+    (says_slow a.reach a.call (bed w) (state w) s.requires.n_nonzero.0 (filled w) (left_test (slow e) ∙ e.if-fast_inflow.left) p.if-i-n.left
+    (right_test f ∙ c.if-fast_inflow-2.false))
 
-pub face-speeds-spec : {M : Type 1} → statement M
-face-speeds-spec =
+pub face_speeds_spec : {M : Type 1} → statement M
+face_speeds_spec =
     tie.close
     (tie.spec
     (λ c κs. search rules) (λ c. search rules) (λ c κs. search rules)
-    fast-inflow-requires
+    fast_inflow-requires
     (λ c. search rules)
-    returns
+    returns-then-fast_inflow
     (λ c. search rules) (λ c. search rules) (λ c κs. search rules) (λ c. search rules)
-    returns-2
+    returns-then-i-n
     (λ c. search rules) (λ c. search rules) (λ c. search rules) (λ c κs. search rules)
-    fast-inflow-requires-2
+    fast_inflow-requires-2
     (λ c. search rules)
-    returns-3
+    returns-then-fast_inflow-2
     (λ c. search rules) (λ c. search rules)
-    returns-4)
+    returns)

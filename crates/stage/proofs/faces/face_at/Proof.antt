@@ -14,75 +14,75 @@ use Rattle.stage.proofs.faces.face_at.Statement.{statement}
 use Rattle.stage.proofs.faces.face_at.Tie as tie
 
 -- ---- the left end
-module _ (f : tie.After-left-side) where
+module _ (f : tie.After-left_side) where
   abbrev left_start : tie.Start
   left_start = f.before.before.before
 
   first_sound : Sound (side_in f.left_side.result)
-  first_sound = let s = left_start in subst Sound (sym f.left_side.ensures) (s.pre.1.1 0 s.pre.0.0).0
+  first_sound = let s = left_start in subst Sound (sym f.left_side.ensures) (s.requires.sounds 0 s.requires.n_nonzero.0).0
 
-left-end-requires : tie.Need-left-end-requires
-left-end-requires c κs =
-    let f = c.before in let s = left_start f in let given = s.pre.1.0 in
-    (given.left_q, (first_sound f, rw (back {z = s.args.call.dry} c.struct_told.given.1.1.0.1) given.dry))
+left_end-requires : tie.Need-left_end-requires
+left_end-requires c κs =
+    let f = c.before in let s = left_start f in let given = s.requires.numbers in
+    record { q_le_largest_inflow = given.left_q; sound = first_sound f; dry_depth = rw (back {z = s.args.call.dry} c.struct_told-1.given.1.1.0.1) given.dry }
 
-returns : tie.Need-returns
-returns c =
+returns-then-i-eq0 : tie.Need-returns-then-i-eq0
+returns-then-i-eq0 c =
     let k = c.before in let f = k.before in let t = f.before.before in let a = (left_start f).args in
-    (rw (back {z = a.call.dry} k.struct_told.given.1.1.0.1) at c.left_end.ensures)
+    (rw (back {z = a.call.dry} k.struct_told-1.given.1.1.0.1) at c.left_end.ensures)
     ∙ ap (left_end face a.call.dry (end_in a.call.left)) f.left_side.ensures
-    ∙ sym (at_left a.reach a.call a.d.now a.i t.if1.true)
+    ∙ sym (at_left a.reach a.call a.d.now a.i t.if-i-eq0.true)
 
 -- ---- a face behind a cell
-module _ (b : tie.After-right-side) where
-  abbrev else : tie.Else1
+module _ (b : tie.After-right_side-before) where
+  abbrev else : tie.Else-i-eq0
   else = b.before.before
 
   abbrev start : tie.Start
   start = else.before
 
-  before_sound : Sound (side_in b.right_side.result)
+  before_sound : Sound (side_in b.right_side-before.result)
   before_sound =
-      let s = start in let i = s.args.i - 1 in let l : i < s.args.reach.n = omega (arith, else.if1.left, s.pre.0) in
-      subst Sound (sym b.right_side.ensures) (s.pre.1.1 i l).1
+      let s = start in let i = s.args.i - 1 in let l : i < s.args.reach.n = omega (arith, else.if-i-eq0.left, s.requires.n_nonzero) in
+      subst Sound (sym b.right_side-before.ensures) (s.requires.sounds i l).1
 
-right-end-requires : tie.Need-right-end-requires
-right-end-requires c κs =
-    let b = c.before.before.before in let s = start b in let given = s.pre.1.0 in
-    (given.right_q, (before_sound b, rw (back {z = s.args.call.dry} c.struct-told2.given.1.1.0.1) given.dry))
+right_end-requires : tie.Need-right_end-requires
+right_end-requires c κs =
+    let b = c.before.before.before in let s = start b in let given = s.requires.numbers in
+    record { q_le_largest_inflow = given.right_q; sound = before_sound b; dry_depth = rw (back {z = s.args.call.dry} c.struct_told-then-i-reach-1.given.1.1.0.1) given.dry }
 
-returns-2 : tie.Need-returns-2
-returns-2 c =
+returns-then-i-reach : tie.Need-returns-then-i-reach
+returns-then-i-reach c =
     let k = c.before in let t = k.before in let b = t.before.before in let a = (start b).args in
-    (rw (back {z = a.call.dry} k.struct-told2.given.1.1.0.1) at c.right_end.ensures)
-    ∙ ap (right_end face a.call.dry (end_in a.call.right)) b.right_side.ensures
-    ∙ sym (at_right a.reach a.call a.d.now a.i (else b).if1.false t.if2.true)
+    (rw (back {z = a.call.dry} k.struct_told-then-i-reach-1.given.1.1.0.1) at c.right_end.ensures)
+    ∙ ap (right_end face a.call.dry (end_in a.call.right)) b.right_side-before.ensures
+    ∙ sym (at_right a.reach a.call a.d.now a.i (else b).if-i-eq0.false t.if-i-reach.true)
 
 -- ---- and before another
 crossing-requires : tie.Need-crossing-requires
 crossing-requires c κs =
     let e = c.before.before in let b = e.before.before in let s = start b in
-    let l : s.args.i < s.args.reach.n = omega (arith, e.if2.false, s.pre.0) in
-    (before_sound b, subst Sound (sym c.left-side2.ensures) (s.pre.1.1 s.args.i l).0)
+    let l : s.args.i < s.args.reach.n = omega (arith, e.if-i-reach.false, s.requires.n_nonzero) in
+    (before_sound b, subst Sound (sym c.left_side-2.ensures) (s.requires.sounds s.args.i l).0)
 
-returns-3 : tie.Need-returns-3
-returns-3 c =
+returns : tie.Need-returns
+returns c =
     let f = c.before in let e = f.before.before in let b = e.before.before in let a = (start b).args in
     c.crossing.ensures
-    ∙ ap₂ face b.right_side.ensures f.left-side2.ensures
-    ∙ sym (at_inner a.reach a.call a.d.now a.i (else b).if1.false e.if2.false)
+    ∙ ap₂ face b.right_side-before.ensures f.left_side-2.ensures
+    ∙ sym (at_inner a.reach a.call a.d.now a.i (else b).if-i-eq0.false e.if-i-reach.false)
 
-pub face-at-spec : {M : Type 1} → statement M
-face-at-spec =
+pub face_at_spec : {M : Type 1} → statement M
+face_at_spec =
     tie.close
     (tie.spec
     (λ c. search rules)
     (λ c κs. search rules)
-    left-end-requires
-    returns
+    left_end-requires
+    returns-then-i-eq0
     (λ c. search rules) (λ c. search rules) (λ c. search rules) (λ c κs. search rules)
-    right-end-requires
-    returns-2
+    right_end-requires
+    returns-then-i-reach
     (λ c. search rules) (λ c. search rules) (λ c κs. search rules)
     crossing-requires
-    returns-3)
+    returns)

@@ -11,78 +11,78 @@ use Rattle.stage.specs.Laws.Faces.{cross_sized}
 use Rattle.stage.proofs.faces.faces.Statement.{statement}
 use Rattle.stage.proofs.faces.faces.Tie as tie
 
-abbrev invariant-loop : tie.invariant-loop
+abbrev invariant-loop : tie.invariant-loop-i
 invariant-loop d reach call f₀ n i₀ f i = Filling [] (suc n) (long_at reach call d) (face_row_at reach call d) f₀ f i
 
-abbrev decreases-loop : tie.decreases-loop
+abbrev decreases-loop : tie.decreases-loop-i
 decreases-loop d reach call f₀ n i₀ f i = suc n - i
 
-loop-holds : tie.Need-loop-init invariant-loop decreases-loop
-loop-holds c = fill_none [] _ _ _ c.args.f.now
+loop-i-init : tie.Need-loop-i-init invariant-loop decreases-loop
+loop-i-init c = fill_none [] _ _ _ c.args.f.now
 
-face-at-requires : tie.Need-face-at-requires invariant-loop decreases-loop
-face-at-requires c κs = let p = c.before.before.requires in
-    ((p.0.0, p.0.1, c.loop-test.true), (p.1.0, p.1.1.0))
+face_at-x-requires : tie.Need-face_at-x-requires invariant-loop decreases-loop
+face_at-x-requires c κs = let p = c.before.before.requires in
+    record { n_nonzero = (p.0.0, p.0.1, c.loop-i-test.true); numbers = p.1.0; sounds = p.1.1.0 }
 
 -- what crosses face i, and whether the step is too long for it
-sized_here : (c : tie.After-face-at invariant-loop decreases-loop) → Sized (flux_in c.face-at.result)
+sized_here : (c : tie.After-face_at-x invariant-loop decreases-loop) → Sized (flux_in c.face_at-x.result)
 sized_here c =
-    let e = c.before in let l = e.before in let s = l.before in let sided = s.requires.1.1 in
-    subst Sized (sym c.face-at.ensures)
-    (cross_sized s.args.reach s.args.call s.args.d.now s.requires.0.0 s.requires.1.0 sided.0 sided.1 l.loop.i
-    e.loop-test.true)
+    let e = c.before in let l = e.before in let s = l.before in let sided = s.requires.sounds in
+    subst Sized (sym c.face_at-x.ensures)
+    (cross_sized s.args.reach s.args.call s.args.d.now s.requires.n_nonzero.0 s.requires.numbers sided.0 sided.1 l.loop-i.i
+    e.loop-i-test.true)
 
 -- the turn of a face
-module _ (c : tie.After-too-long invariant-loop decreases-loop) where
-  abbrev crossed : tie.After-face-at invariant-loop decreases-loop
+module _ (c : tie.After-too_long invariant-loop decreases-loop) where
+  abbrev crossed : tie.After-face_at-x invariant-loop decreases-loop
   crossed = c.before.before
 
-  abbrev turn : tie.In-loop invariant-loop decreases-loop
+  abbrev turn : tie.In-loop-i invariant-loop decreases-loop
   turn = crossed.before
 
   abbrev start : tie.Start invariant-loop decreases-loop
   start = turn.before.before
 
-  long_here : let a = start.args in long_at a.reach a.call a.d.now turn.before.loop.i ≡ c.too_long.result
+  long_here : let a = start.args in long_at a.reach a.call a.d.now turn.before.loop-i.i ≡ c.too_long.result
   long_here = let a = start.args in
-      ap (long_flux a.reach.dx a.call.dt) (sym crossed.face-at.ensures) ∙ sym c.too_long.ensures
+      ap (long_flux a.reach.dx a.call.dt) (sym crossed.face_at-x.ensures) ∙ sym c.too_long.ensures
 
   row_here : let a = start.args in
-      c.before.face-row.result ≡ face_row_at a.reach a.call a.d.now turn.before.loop.i
+      c.before.face_row.result ≡ face_row_at a.reach a.call a.d.now turn.before.loop-i.i
   row_here = let a = start.args in
-      c.before.face-row.ensures ∙ ap (face_row a.reach.dx a.call.dt) crossed.face-at.ensures
+      c.before.face_row.ensures ∙ ap (face_row a.reach.dx a.call.dt) crossed.face_at-x.ensures
+
+returns-then-too_long : tie.Need-returns-then-too_long invariant-loop decreases-loop
+returns-then-too_long c =
+    let t = c.before in let e = turn t in let l = e.before in
+    fill_stops [] _ _ _ _ l.loop-i.f l.loop-i.i _ (start t).requires.n_nonzero.2 (omega (arith, e.loop-i-test.taken)) l.loop-i.inv
+    (row_here t) (long_here t ∙ c.if-too_long.true)
+
+loop-i-preserved : tie.Need-loop-i-preserved invariant-loop decreases-loop
+loop-i-preserved c =
+    let t = c.before in let e = turn t in let l = e.before in
+    fill_more [] _ _ _ _ l.loop-i.f l.loop-i.i _ (start t).requires.n_nonzero.2 (omega (arith, e.loop-i-test.taken)) l.loop-i.inv
+    (row_here t) (long_here t ∙ c.if-too_long.false)
 
 returns : tie.Need-returns invariant-loop decreases-loop
-returns c =
-    let t = c.before in let e = turn t in let l = e.before in
-    fill_stops [] _ _ _ _ l.loop.f l.loop.i _ (start t).requires.0.2 (omega (arith, e.loop-test.taken)) l.loop.inv
-    (row_here t) (long_here t ∙ c.if1.true)
+returns c = let l = c.before.loop-i in let n = c.before.before.args.reach.n in
+    let e : suc n ≡ n + 1 = omega arith in rw (sym e) (fill_ends [] _ _ _ _ l.f l.i (omega (arith, c.loop-i-test.false)) l.invariant)
 
-loop-again : tie.Need-loop-preserved invariant-loop decreases-loop
-loop-again c =
-    let t = c.before in let e = turn t in let l = e.before in
-    fill_more [] _ _ _ _ l.loop.f l.loop.i _ (start t).requires.0.2 (omega (arith, e.loop-test.taken)) l.loop.inv
-    (row_here t) (long_here t ∙ c.if1.false)
-
-returns-2 : tie.Need-returns-2 invariant-loop decreases-loop
-returns-2 c = let l = c.before.loop in let n = c.before.before.args.reach.n in
-    let e : suc n ≡ n + 1 = omega arith in rw (sym e) (fill_ends [] _ _ _ _ l.f l.i (omega (arith, c.loop-test.false)) l.invariant)
-
-pub faces-spec : {M : Type 1} → statement M
-faces-spec =
+pub faces_spec : {M : Type 1} → statement M
+faces_spec =
     tie.close
     (tie.spec
     invariant-loop
     decreases-loop
-    loop-holds
-    face-at-requires
-    (λ c κs. (sized_here c, c.before.before.before.requires.1.0))
+    loop-i-init
+    face_at-x-requires
+    (λ c κs. (sized_here c, c.before.before.before.requires.numbers))
     (λ c. search rules) (λ c. search rules)
-    (λ c κs. let f = c.before in (sized_here f, f.before.before.before.requires.1.0))
+    (λ c κs. let f = c.before in (sized_here f, f.before.before.before.requires.numbers))
     (λ c. search rules)
-    returns
+    returns-then-too_long
     (λ c. search rules) (λ c. omega arith)
-    loop-again
+    loop-i-preserved
     (λ c. search rules)
     (λ c. search rules)
-    returns-2)
+    returns)

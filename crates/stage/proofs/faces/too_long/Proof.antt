@@ -9,7 +9,7 @@ use Rattle.stage.proofs.faces.too_long.Statement.{statement}
 use Rattle.stage.proofs.faces.too_long.Tie as tie
 
 abbrev env : tie.Start → List Entry
-env s = sized s.requires.1.dx_in tt ∷ sized s.requires.1.dt_in tt ∷ sized s.requires.0.S tt ∷ []
+env s = sized s.requires.numbers.dx_in tt ∷ sized s.requires.numbers.dt_in tt ∷ sized s.requires.sized.S tt ∷ []
 
 abbrev room : X
 room = k (pos 4096) ⊗ v 0
@@ -17,18 +17,18 @@ room = k (pos 4096) ⊗ v 0
 abbrev way : X
 way = k (pos 2) ⊗ v 1 ⊗ v 2
 
-mul-result : tie.Need-overflow-mul-result
-mul-result c = need (env c.before.before) room tt
+overflow_mul-result : tie.Need-overflow_mul-result
+overflow_mul-result c = need (env c.before.before) room tt
 
-mul-result-2 : tie.Need-overflow-mul-result-2
-mul-result-2 c = need (env c.before.before.before.before) (k (pos 2) ⊗ v 1) tt
+overflow_mul-result-2 : tie.Need-overflow_mul-result-2
+overflow_mul-result-2 c = need (env c.before.before.before.before) (k (pos 2) ⊗ v 1) tt
 
-mul-result-3 : tie.Need-overflow-mul-result-3
-mul-result-3 c = need (env c.before.before.before.before.before.before) way tt
+overflow_mul-result-3 : tie.Need-overflow_mul-result-3
+overflow_mul-result-3 c = need (env c.before.before.before.before.before.before) way tt
 
 returns : tie.Need-returns
 unfolding long_flux
 returns c = let s = c.before.before.before.before.before.before in ap₂ lt_z (value (env s) room tt) (value (env s) way tt)
 
-pub too-long-spec : {M : Type 1} → statement M
-too-long-spec = tie.close (tie.spec mul-result mul-result-2 mul-result-3 returns)
+pub too_long_spec : {M : Type 1} → statement M
+too_long_spec = tie.close (tie.spec overflow_mul-result overflow_mul-result-2 overflow_mul-result-3 returns)

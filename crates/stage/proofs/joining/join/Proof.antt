@@ -18,89 +18,86 @@ use Rattle.stage.specs.Laws.CellSizes.{half_size}
 use Rattle.stage.proofs.joining.join.Statement.{statement}
 use Rattle.stage.proofs.joining.join.Tie as tie
 
-abbrev invariant-loop : tie.invariant-loop
+abbrev invariant-loop : tie.invariant-loop-i
 invariant-loop x u₀ f g n i₀ u i = (i ≤ n) × Filled [] u₀ u i (λ k. as_list (join_at (seen x) (seen u₀) f g k))
 
-abbrev decreases-loop : tie.decreases-loop
+abbrev decreases-loop : tie.decreases-loop-i
 decreases-loop x u₀ f g n i₀ u i = n - i
 
-loop-holds : tie.Need-loop-init invariant-loop decreases-loop
-loop-holds c = (omega arith, filled_none [] c.args.u.now _)
+loop-i-init : tie.Need-loop-i-init invariant-loop decreases-loop
+loop-i-init c = (omega arith, filled_none [] c.args.u.now _)
 
 -- the rows of face i, in both tables
 rows : (s : tie.Start invariant-loop decreases-loop) (i : ℕ) → i < suc s.args.reach.n
     → Row (get_or s.args.f.now i []) × Row (get_or s.args.g.now i [])
-rows s i h = (s.requires.1.1.0 i h, s.requires.1.1.1 i h)
+rows s i h = (s.requires.face_rows.0 i h, s.requires.face_rows.1 i h)
 
-end-volume-requires : tie.Need-end-volume-requires invariant-loop decreases-loop
-end-volume-requires c κs = let l = c.before in let s = l.before in ((omega arith, omega arith), rows s l.loop.i (omega arith))
+end_volume-wl-requires : tie.Need-end_volume-wl-requires invariant-loop decreases-loop
+end_volume-wl-requires c κs = let l = c.before in let s = l.before in record { i_in_bounds = (omega arith, omega arith); row = rows s l.loop-i.i (omega arith) }
 
-end-volume-requires-2 : tie.Need-end-volume-requires-2 invariant-loop decreases-loop
-end-volume-requires-2 c κs =
+end_volume-wr-requires : tie.Need-end_volume-wr-requires invariant-loop decreases-loop
+end_volume-wr-requires c κs =
     let l = c.before.before in
     let s = l.before in
-    ((omega arith, omega arith), rows s (l.loop.i + 1) (omega arith))
+    record { i_in_bounds = (omega arith, omega arith); row = rows s (l.loop-i.i + 1) (omega arith) }
 
 -- ---- what a turn reads: the volumes of its two faces, and its cell
-module _ (c : tie.After-joined-cell-arg2 invariant-loop decreases-loop) where
-  abbrev right : tie.After-end-volume2 invariant-loop decreases-loop
+module _ (c : tie.After-joined_cell-arg-in-loop-i-1 invariant-loop decreases-loop) where
+  abbrev right : tie.After-end_volume-wr invariant-loop decreases-loop
   right = c.before.before
 
   abbrev start : tie.Start invariant-loop decreases-loop
   start = right.before.before.before.before
 
   abbrev at : ℕ
-  at = right.before.before.before.loop.i
+  at = right.before.before.before.loop-i.i
 
-  wl : rd right.before.end-volume.result ≡ volume_at start.args.f.now start.args.g.now at
-  wl = back64 right.before.end-volume.ok right.before.end-volume.ensures
+  wl : rd right.before.end_volume-wl.result ≡ volume_at start.args.f.now start.args.g.now at
+  wl = back64 right.before.end_volume-wl.ok right.before.end_volume-wl.ensures
 
-  wr : rd right.end-volume2.result ≡ volume_at start.args.f.now start.args.g.now (suc at)
+  wr : rd right.end_volume-wr.result ≡ volume_at start.args.f.now start.args.g.now (suc at)
   wr = let e : at + 1 ≡ suc at = omega arith in
-      back64 right.end-volume2.ok (right.end-volume2.ensures ∙ (λ j. volume_at start.args.f.now start.args.g.now (e j)))
+      back64 right.end_volume-wr.ok (right.end_volume-wr.ensures ∙ (λ j. volume_at start.args.f.now start.args.g.now (e j)))
 
-  cell : get_or right.before.before.before.loop.u at [] ≡ get_or start.args.u.now at []
-  cell = right.before.before.before.loop.inv.1.above at (omega arith)
+  cell : get_or right.before.before.before.loop-i.u at [] ≡ get_or start.args.u.now at []
+  cell = right.before.before.before.loop-i.inv.1.above at (omega arith)
 
 -- half of two volumes is small enough to be added to a level
 volume_in : {l m : List ℤ} → Row l × Row m → UpTo widest (half (volume_of l) (volume_of m))
 volume_in r = half_size (b_up 70368744177664 r.0.vol tt) (b_up 70368744177664 r.1.vol tt)
 
-joined-cell-requires : tie.Need-joined-cell-requires invariant-loop decreases-loop
-joined-cell-requires c κs =
-    let s = start c in let i = at c in (
-      (s.pre.1.0.0 i (omega arith), subst (λ (m : List ℤ). Wide (as_cell m)) (sym (cell c)) (s.pre.1.0.1 i (omega arith))),
-      (
+joined_cell-requires : tie.Need-joined_cell-requires invariant-loop decreases-loop
+joined_cell-requires c κs =
+    let s = start c in let i = at c in record { wide = (s.requires.wides.0 i (omega arith), subst (λ (m : List ℤ). Wide (as_cell m)) (sym (cell c)) (s.requires.wides.1 i (omega arith))); up_to = (
         subst (UpTo widest) (sym (wl c)) (volume_in (rows s i (omega arith))),
         subst (UpTo widest) (sym (wr c)) (volume_in (rows s (suc i) (omega arith))),
-      ),
-    )
+      ) }
 
-loop-again : tie.Need-loop-preserved invariant-loop decreases-loop
-loop-again c =
+loop-i-preserved : tie.Need-loop-i-preserved invariant-loop decreases-loop
+loop-i-preserved c =
     let r = c.before in let l = (right r).before.before.before in let s = start r in let i = at r in
-    let room : i < length l.loop.u = omega (arith, l.loop.inv.1.size) in (
+    let room : i < length l.loop-i.u = omega (arith, l.loop-i.inv.1.size) in (
       omega arith,
-      filled_more [] s.args.u.now l.loop.u i _ c.joined-cell.result room l.loop.inv.1
-          (c.joined-cell.ensures ∙ (λ j. as_list (joined_cell (seen s.args.x.now i) (as_cell (cell r j)) (wl r j) (wr r j)))),
+      filled_more [] s.args.u.now l.loop-i.u i _ c.joined_cell.result room l.loop-i.inv.1
+          (c.joined_cell.ensures ∙ (λ j. as_list (joined_cell (seen s.args.x.now i) (as_cell (cell r j)) (wl r j) (wr r j)))),
     )
 
 returns : tie.Need-returns invariant-loop decreases-loop
-returns c = let l = c.before.loop in record { cells = λ k h. l.invariant.1.below k (omega arith) }
+returns c = let l = c.before.loop-i in record { cells = λ k h. l.invariant.1.below k (omega arith) }
 
-pub join-spec : {M : Type 1} → statement M
-join-spec =
+pub join_spec : {M : Type 1} → statement M
+join_spec =
     tie.close
     (tie.spec
     invariant-loop
     decreases-loop
-    loop-holds
-    end-volume-requires
+    loop-i-init
+    end_volume-wl-requires
     (λ c. search rules)
-    end-volume-requires-2
+    end_volume-wr-requires
     (λ c. search rules) (λ c. search rules) (λ c. search rules) (λ c. search rules)
-    joined-cell-requires
+    joined_cell-requires
     (λ c. search rules) (λ c. search rules) (λ c. search rules) (λ c. search rules)
-    loop-again
-    (λ c. c.before.loop.invariant.1.size)
+    loop-i-preserved
+    (λ c. c.before.loop-i.invariant.1.size)
     returns)

@@ -14,45 +14,45 @@ use Rattle.stage.proofs.points.pair_of.Statement.{statement}
 use Rattle.stage.proofs.points.pair_of.Tie as tie
 
 -- the row of the two places
-row : (c : tie.After-places-of) → let a = c.before.args in
-    c.places_of.result ≡ side_row (side_by a.dry (a.m -ℤ a.d) (a.p -ℤ a.q)) (side_by a.dry (a.m +ℤ a.d) (a.p +ℤ a.q))
-row c = let s = c.before in simp (to_z-of_z, s.ranges.m, s.ranges.d, s.ranges.p, s.ranges.q, s.ranges.dry) at c.places_of.ensures
+row : (c : tie.After-places_of-s) → let a = c.before.args in
+    c.places_of-s.result ≡ side_row (side_by a.dry (a.m -ℤ a.d) (a.p -ℤ a.q)) (side_by a.dry (a.m +ℤ a.d) (a.p +ℤ a.q))
+row c = let s = c.before in simp (to_z-of_z, s.ranges.m, s.ranges.d, s.ranges.p, s.ranges.q, s.ranges.dry) at c.places_of-s.ensures
 
-places-of-requires : tie.Need-places-of-requires
-places-of-requires c κs = search rules
+places_of-s-requires : tie.Need-places_of-s-requires
+places_of-s-requires c κs = search rules
 
-sub-carried-both : tie.Need-overflow-sub-carried-both
-sub-carried-both c = let s = c.before.before.before in simp (to_z-of_z, s.ranges.p, s.ranges.q) (ql_fits s.requires.0)
+overflow_sub-p : tie.Need-overflow_sub-p
+overflow_sub-p c = let s = c.before.before.before in simp (to_z-of_z, s.ranges.p, s.ranges.q) (ql_fits s.requires.around)
 
-add-carried-both : tie.Need-overflow-add-carried-both
-add-carried-both c = let s = c.before.before.before in simp (to_z-of_z, s.ranges.p, s.ranges.q) (qr_fits s.requires.0)
+overflow_add-p : tie.Need-overflow_add-p
+overflow_add-p c = let s = c.before.before.before in simp (to_z-of_z, s.ranges.p, s.ranges.q) (qr_fits s.requires.around)
 
-carried-both-requires : tie.Need-carried-both-requires
-carried-both-requires c κs =
-    let b = c.before in let l = b.before in let s = l.before in let a = s.args in let r = s.requires.0 in
+carried_both-requires : tie.Need-carried_both-requires
+carried_both-requires c κs =
+    let b = c.before in let l = b.before in let s = l.before in let a = s.args in let r = s.requires.around in
     simp (to_z-of_z, s.ranges.p, s.ranges.q, ql_fits r, qr_fits r)
-    (rw (back b.u.given, back c.w.given, row l) (
-      (r.ql, speed_size a.dry (a.p -ℤ a.q) (a.m -ℤ a.d) s.requires.1.least r.ql),
-      (r.qr, speed_size a.dry (a.p +ℤ a.q) (a.m +ℤ a.d) s.requires.1.least r.qr),
+    (rw (back b.u-1.given, back c.w-1.given, row l) (
+      (r.ql, speed_size a.dry (a.p -ℤ a.q) (a.m -ℤ a.d) s.requires.dry_depth.least r.ql),
+      (r.qr, speed_size a.dry (a.p +ℤ a.q) (a.m +ℤ a.d) s.requires.dry_depth.least r.qr),
     ))
 
 returns : tie.Need-returns
 unfolding carried
 returns c =
-    let b = c.before in let a = b.before in let l = a.before in let s = l.before in let r = s.requires.0 in
-    let u = back a.u.given ∙ ap (λ (t : List ℤ). get_or t 1 (pos 0)) (row l) in
-    let w = back b.w.given ∙ ap (λ (t : List ℤ). get_or t 3 (pos 0)) (row l) in
-    let g = rw (u, w) at (simp (to_z-of_z, s.ranges.p, s.ranges.q, ql_fits r, qr_fits r) at c.carried-both.ensures) in
-    λ i. u i ∷ w i ∷ back64 c.carried-both.type-inv g i ∷ []
+    let b = c.before in let a = b.before in let l = a.before in let s = l.before in let r = s.requires.around in
+    let u = back a.u-1.given ∙ ap (λ (t : List ℤ). get_or t 1 (pos 0)) (row l) in
+    let w = back b.w-1.given ∙ ap (λ (t : List ℤ). get_or t 3 (pos 0)) (row l) in
+    let g = rw (u, w) at (simp (to_z-of_z, s.ranges.p, s.ranges.q, ql_fits r, qr_fits r) at c.carried_both.ensures) in
+    λ i. u i ∷ w i ∷ back64 c.carried_both.type_inv g i ∷ []
 
-pub pair-of-spec : {M : Type 1} → statement M
-pair-of-spec =
+pub pair_of_spec : {M : Type 1} → statement M
+pair_of_spec =
     tie.close
     (tie.spec
-    places-of-requires
+    places_of-s-requires
     (λ c. search rules)
     (λ c. search rules)
-    sub-carried-both
-    add-carried-both
-    carried-both-requires
+    overflow_sub-p
+    overflow_add-p
+    carried_both-requires
     returns)

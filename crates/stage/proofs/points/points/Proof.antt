@@ -15,77 +15,77 @@ use Rattle.stage.specs.Rows.{point_row, fast_points_at, momentum_at}
 use Rattle.stage.proofs.points.points.Statement.{statement}
 use Rattle.stage.proofs.points.points.Tie as tie
 
-abbrev invariant-loop : tie.invariant-loop
+abbrev invariant-loop : tie.invariant-loop-i
 invariant-loop t bed call g₀ n i₀ g i = Filling (pos 0) n (fast_points_at call.dry bed (seen t)) (momentum_at call.dry bed (seen t)) g₀ g i
 
-abbrev decreases-loop : tie.decreases-loop
+abbrev decreases-loop : tie.decreases-loop-i
 decreases-loop t bed call g₀ n i₀ g i = n - i
 
-loop-holds : tie.Need-loop-init invariant-loop decreases-loop
-loop-holds c = fill_none (pos 0) _ _ _ c.args.g.now
+loop-i-init : tie.Need-loop-i-init invariant-loop decreases-loop
+loop-i-init c = fill_none (pos 0) _ _ _ c.args.g.now
 
-points-of-requires : tie.Need-points-of-requires invariant-loop decreases-loop
-points-of-requires c κs =
+points_of-p-requires : tie.Need-points_of-p-requires invariant-loop decreases-loop
+points_of-p-requires c κs =
     let b = c.before.before in let e = b.before in let l = e.before in let s = l.before in
-    rw (b.under.ensures, back {z = s.args.call.dry} c.struct_told.given.1.1.0.1)
-    (s.requires.1.0 l.loop.i e.loop-test.true, s.requires.1.1)
+    rw (b.under.ensures, back {z = s.args.call.dry} c.struct_told-1.given.1.1.0.1)
+    record { inside = s.requires.ranged l.loop-i.i e.loop-i-test.true; dry_depth = s.requires.dry_depth }
 
 -- what a turn finds: the row of its cell, and whether that is too fast
-row : (c : tie.After-points-of invariant-loop decreases-loop) →
+row : (c : tie.After-points_of-p invariant-loop decreases-loop) →
     let l = c.before.before.before.before.before in
     let s = l.before in
-    c.points-of.result ≡ point_row s.args.call.dry (bed_at s.args.bed.now l.loop.i) (seen s.args.t.now l.loop.i)
+    c.points_of-p.result ≡ point_row s.args.call.dry (bed_at s.args.bed.now l.loop-i.i) (seen s.args.t.now l.loop-i.i)
 row c = let k = c.before in let b = k.before.before in let s = b.before.before.before in
-    rw (b.under.ensures, back {z = s.args.call.dry} k.struct_told.given.1.1.0.1) at c.points-of.ensures
+    rw (b.under.ensures, back {z = s.args.call.dry} k.struct_told-1.given.1.1.0.1) at c.points_of-p.ensures
 
 -- the turn of a cell
-module _ (f : tie.After-either-fast invariant-loop decreases-loop) where
-  abbrev pointed : tie.After-points-of invariant-loop decreases-loop
+module _ (f : tie.After-either_fast invariant-loop decreases-loop) where
+  abbrev pointed : tie.After-points_of-p invariant-loop decreases-loop
   pointed = f.before.before.before.before
 
-  abbrev turn : tie.In-loop invariant-loop decreases-loop
+  abbrev turn : tie.In-loop-i invariant-loop decreases-loop
   turn = pointed.before.before.before.before
 
   fast : let l = turn.before in let s = l.before in
-      fast_points_at s.args.call.dry s.args.bed.now (seen s.args.t.now) l.loop.i ≡ f.either-fast.result
+      fast_points_at s.args.call.dry s.args.bed.now (seen s.args.t.now) l.loop-i.i ≡ f.either_fast.result
   unfolding fast_points point_row
   fast = let y = f.before in let x = y.before in
-      sym (rw (back x.either-fast-arg.given, back y.either-fast-arg2.given, row pointed) at f.either-fast.ensures)
+      sym (rw (back x.either_fast-arg-1.given, back y.either_fast-arg-in-loop-i-1.given, row pointed) at f.either_fast.ensures)
 
   momentum : let l = turn.before in let s = l.before in
-      rd (get_or pointed.points-of.result 2 (pos 0))
-      ≡ momentum_at s.args.call.dry s.args.bed.now (seen s.args.t.now) l.loop.i
+      rd (get_or pointed.points_of-p.result 2 (pos 0))
+      ≡ momentum_at s.args.call.dry s.args.bed.now (seen s.args.t.now) l.loop-i.i
   unfolding point_row
-  momentum = back64 f.before.before.before.g.given (ap (λ (r : List ℤ). get_or r 2 (pos 0)) (row pointed))
+  momentum = back64 f.before.before.before.g-1.given (ap (λ (r : List ℤ). get_or r 2 (pos 0)) (row pointed))
+
+returns-then-either_fast : tie.Need-returns-then-either_fast invariant-loop decreases-loop
+returns-then-either_fast c =
+    let f = c.before in let e = turn f in let l = e.before in let s = l.before in
+    fill_stops (pos 0) _ _ _ _ l.loop-i.g l.loop-i.i _ s.requires.room.1 e.loop-i-test.taken l.loop-i.inv
+    (momentum f) (fast f ∙ c.if-either_fast.true)
+
+loop-i-preserved : tie.Need-loop-i-preserved invariant-loop decreases-loop
+loop-i-preserved c =
+    let f = c.before in let e = turn f in let l = e.before in let s = l.before in
+    fill_more (pos 0) _ _ _ _ l.loop-i.g l.loop-i.i _ s.requires.room.1 e.loop-i-test.taken l.loop-i.inv
+    (momentum f) (fast f ∙ c.if-either_fast.false)
 
 returns : tie.Need-returns invariant-loop decreases-loop
-returns c =
-    let f = c.before in let e = turn f in let l = e.before in let s = l.before in
-    fill_stops (pos 0) _ _ _ _ l.loop.g l.loop.i _ s.pre.0.1 e.loop-test.taken l.loop.inv
-    (momentum f) (fast f ∙ c.if1.true)
+returns c = let l = c.before.loop-i in fill_ends (pos 0) _ _ _ _ l.g-1 l.i (omega arith) l.invariant
 
-loop-again : tie.Need-loop-preserved invariant-loop decreases-loop
-loop-again c =
-    let f = c.before in let e = turn f in let l = e.before in let s = l.before in
-    fill_more (pos 0) _ _ _ _ l.loop.g l.loop.i _ s.pre.0.1 e.loop-test.taken l.loop.inv
-    (momentum f) (fast f ∙ c.if1.false)
-
-returns-2 : tie.Need-returns-2 invariant-loop decreases-loop
-returns-2 c = let l = c.before.loop in fill_ends (pos 0) _ _ _ _ l.g l.i (omega arith) l.invariant
-
-pub points-spec : {M : Type 1} → statement M
-points-spec =
+pub points_spec : {M : Type 1} → statement M
+points_spec =
     tie.close
     (tie.spec
     invariant-loop
     decreases-loop
-    loop-holds
+    loop-i-init
     (λ c κs. search rules) (λ c. search rules) (λ c. search rules)
-    points-of-requires
+    points_of-p-requires
     (λ c. search rules) (λ c. search rules) (λ c. search rules) (λ c. search rules) (λ c. search rules) (λ c κs. search rules)
     (λ c. search rules)
-    returns
+    returns-then-either_fast
     (λ c. search rules) (λ c. search rules)
-    loop-again
+    loop-i-preserved
     (λ c. search rules)
-    returns-2)
+    returns)

@@ -12,52 +12,52 @@ use Rattle.stage.specs.Rows.{point_row}
 use Rattle.stage.proofs.points.points_of.Statement.{statement}
 use Rattle.stage.proofs.points.points_of.Tie as tie
 
-depths-requires : tie.Need-depths-requires
-depths-requires c κs = (c.requires.0.ground, (cell_sizes c.requires.0).wide)
+depths-h-requires : tie.Need-depths-h-requires
+depths-h-requires c κs = record { ground = c.requires.inside.ground; wide = (cell_sizes c.requires.inside).wide }
 
-array-copy-out-pair-of : tie.Need-array-copy-out-pair-of
-array-copy-out-pair-of c = search rules
+bounds-h-0 : tie.Need-bounds-h-0
+bounds-h-0 c = search rules
 
-array-copy-out-share-of : tie.Need-array-copy-out-share-of
-array-copy-out-share-of c = search rules
+bounds-h-1 : tie.Need-bounds-h-1
+bounds-h-1 c = search rules
 
-share-of-requires : tie.Need-share-of-requires
-share-of-requires c κs =
+share_of-requires : tie.Need-share_of-requires
+share_of-requires c κs =
     let d = c.before.before in
-    rw (back c.share-of-arg.given, d.depths.ensures) (b_up 8388608 (cell_sizes d.before.requires.0).slope tt)
+    rw (back c.share_of-arg-1.given, d.depths-h.ensures) (b_up 8388608 (cell_sizes d.before.requires.inside).slope tt)
 
 -- the share of the depth's slope, and of the discharge's
-depth_share : (c : tie.After-share-of) → let s = c.before.before.before.before in
-    c.share-of.result ≡ share (h1 (bed_in s.args.b) (as_cell s.args.t2))
-depth_share c = let a = c.before in rw (back a.share-of-arg.given, a.before.before.depths.ensures) at c.share-of.ensures
+depth_share : (c : tie.After-share_of) → let s = c.before.before.before.before in
+    c.share_of.result ≡ share (h1 (bed_in s.args.b) (as_cell s.args.x))
+depth_share c = let a = c.before in rw (back a.share_of-arg-1.given, a.before.before.depths-h.ensures) at c.share_of.ensures
 
-array-copy-out-pair-of-2 : tie.Need-array-copy-out-pair-of-2
-array-copy-out-pair-of-2 c = search rules
+bounds-x-2 : tie.Need-bounds-x-2
+bounds-x-2 c = search rules
 
-array-copy-out-share-of-2 : tie.Need-array-copy-out-share-of-2
-array-copy-out-share-of-2 c = search rules
+bounds-x-3 : tie.Need-bounds-x-3
+bounds-x-3 c = search rules
 
-share-of-requires-2 : tie.Need-share-of-requires-2
-share-of-requires-2 c κs =
+share_of-requires-2 : tie.Need-share_of-requires-2
+share_of-requires-2 c κs =
     let s = c.before.before.before.before.before.before in
-    rw (back c.share-of-arg2.given) (cell_sizes s.requires.0).q1
+    rw (back c.share_of-arg-2-1.given) (cell_sizes s.requires.inside).q1
 
-flow_share : (c : tie.After-share-of2) → let s = c.before.before.before.before.before.before.before in
-    c.share-of2.result ≡ share (as_cell s.args.t2).q1
-flow_share c = rw (back c.before.share-of-arg2.given) at c.share-of2.ensures
+flow_share : (c : tie.After-share_of-2) → let s = c.before.before.before.before.before.before.before in
+    c.share_of-2.result ≡ share (as_cell s.args.x).q1
+flow_share c = rw (back c.before.share_of-arg-2-1.given) at c.share_of-2.ensures
 
-pair-of-requires : tie.Need-pair-of-requires
-pair-of-requires c κs =
+pair_of-requires : tie.Need-pair_of-requires
+pair_of-requires c κs =
     let a2 = c.before.before in let f = a2.before in let a1 = f.before.before in let d = a1.before in let s = d.before in
     rw (
-      back a1.pair-of-arg.given,
-      back64 f.share-of.type-inv (depth_share f),
-      back a2.pair-of-arg2.given,
-      back64 c.share-of2.type-inv (flow_share c),
-      d.depths.ensures,
+      back a1.pair_of-arg-1.given,
+      back64 f.share_of.type_inv (depth_share f),
+      back a2.pair_of-arg-2-1.given,
+      back64 c.share_of-2.type_inv (flow_share c),
+      d.depths-h.ensures,
       back {z = s.args.dry} s.ranges.dry.sfits,
     )
-    ((cell_sizes s.requires.0).points, s.requires.1)
+    record { around = (cell_sizes s.requires.inside).points; dry_depth = s.requires.dry_depth }
 
 returns : tie.Need-returns
 unfolding point_row gauss
@@ -65,24 +65,24 @@ returns c =
     let g = c.before in let a2 = g.before.before in let f = a2.before in let a1 = f.before.before in let d = a1.before in
     rw (
       back {z = d.before.args.dry} d.before.ranges.dry.sfits,
-      back a2.pair-of-arg2.given,
-      back64 g.share-of2.type-inv (flow_share g),
-      back a1.pair-of-arg.given,
-      back64 f.share-of.type-inv (depth_share f),
-      d.depths.ensures,
+      back a2.pair_of-arg-2-1.given,
+      back64 g.share_of-2.type_inv (flow_share g),
+      back a1.pair_of-arg-1.given,
+      back64 f.share_of.type_inv (depth_share f),
+      d.depths-h.ensures,
     )
     at c.pair_of.ensures
 
-pub points-of-spec : {M : Type 1} → statement M
-points-of-spec =
+pub points_of_spec : {M : Type 1} → statement M
+points_of_spec =
     tie.close
     (tie.spec
-    depths-requires
-    array-copy-out-pair-of
-    array-copy-out-share-of
-    share-of-requires
-    array-copy-out-pair-of-2
-    array-copy-out-share-of-2
-    share-of-requires-2
-    pair-of-requires
+    depths-h-requires
+    bounds-h-0
+    bounds-h-1
+    share_of-requires
+    bounds-x-2
+    bounds-x-3
+    share_of-requires-2
+    pair_of-requires
     returns)

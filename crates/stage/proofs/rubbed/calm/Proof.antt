@@ -16,16 +16,16 @@ abbrev cell : tie.Start → Cell
 cell s = as_cell s.args.t1
 
 -- what the first test says
-mean : (c : tie.After-if12) → eqb (of_z w64 (cell c.before).q0) 0 ≡ eq_z (cell c.before).q0 (pos 0)
-mean c = test_is {a = (cell c.before).q0} (record { sfits = c.if12.given }) (sfits_lit tt)
+mean : (c : tie.After-t6-1) → eqb (of_z w64 (cell c.before).q0) 0 ≡ eq_z (cell c.before).q0 (pos 0)
+mean c = test_is {a = (cell c.before).q0} (record { sfits = c.t6-1.given }) (sfits_lit tt)
 
-returns : tie.Need-returns
-returns c = let t = c.before in let b = t.before in
-    rw (sym (mean b) ∙ eq-eqb _ _ t.if1.true)
-    (test_is {a = (cell b.before).q1} (record { sfits = c.result.given }) (sfits_lit tt))
+returns-then-x-eq0 : tie.Need-returns-then-x-eq0
+returns-then-x-eq0 c = let t = c.before in let b = t.before in
+    rw (sym (mean b) ∙ eq-eqb _ _ t.if-x-eq0.true)
+    (test_is {a = (cell b.before).q1} (record { sfits = c.result-1.given }) (sfits_lit tt))
 
-returns-2 : tie.Need-returns-2
-returns-2 c = let no = ne_eqb _ _ c.if1.false in rw (sym (mean c.before) ∙ no) no
+returns-else-x-eq0 : tie.Need-returns-else-x-eq0
+returns-else-x-eq0 c = let no = ne_eqb _ _ c.if-x-eq0.false in rw (sym (mean c.before) ∙ no) no
 
-pub calm-spec : {M : Type 1} → statement M
-calm-spec = tie.close (tie.spec (λ c. search rules) (λ c. search rules) returns returns-2)
+pub calm_spec : {M : Type 1} → statement M
+calm_spec = tie.close (tie.spec (λ c. search rules) (λ c. search rules) returns-then-x-eq0 returns-else-x-eq0)

@@ -44,10 +44,10 @@ module _ (s : tie.Start) where
 
   -- what is asked of the cell and of the dry depth
   inside : Inside bed cell
-  inside = s.pre.1.1.0.0
+  inside = s.requires.inside.0
 
   dry_in : DryDepth dry
-  dry_in = s.pre.1.1.0.1
+  dry_in = s.requires.inside.1
 
   sizes : CellSizes bed cell
   sizes = cell_sizes inside
@@ -56,25 +56,25 @@ module _ (s : tie.Start) where
   strong : ℤ
   strong = drag s.args.call.dt s.args.f (h0 bed cell) (speed dry cell.q0 (h0 bed cell))
 
-depths-requires : tie.Need-depths-requires
-depths-requires c κs = ((inside c).ground, (sizes c).wide)
+depths-h-requires : tie.Need-depths-h-requires
+depths-h-requires c κs = record { ground = (inside c).ground; wide = (sizes c).wide }
 
 -- ---- what the two tests say
-module _ (k : tie.After-struct-told) where
-  abbrev read : tie.After-if12
+module _ (k : tie.After-struct_told-1) where
+  abbrev read : tie.After-t12-1
   read = k.before.before
 
-  abbrev measured : tie.After-depths
+  abbrev measured : tie.After-depths-h
   measured = read.before
 
   abbrev begun : tie.Start
   begun = measured.before
 
   -- the first of them is the rule's
-  test_is : shallow (dry begun) (bed begun) (cell begun) ≡ le_z (rd (get_or measured.depths.result 0 (pos 0))) (rd (dry begun))
+  test_is : shallow (dry begun) (bed begun) (cell begun) ≡ le_z (rd (get_or measured.depths-h.result 0 (pos 0))) (rd (dry begun))
   test_is =
-      let mean = ap (λ (h : List ℤ). get_or h 0 (pos 0)) measured.depths.ensures in
-      sym (ap₂ le_z (back64 read.if12.given mean) (back {z = dry begun} k.struct_told.given.1.1.0.1))
+      let mean = ap (λ (h : List ℤ). get_or h 0 (pos 0)) measured.depths-h.ensures in
+      sym (ap₂ le_z (back64 read.t12-1.given mean) (back {z = dry begun} k.struct_told-1.given.1.1.0.1))
 
 calm_is : (x : Cell) → (eq_z x.q0 (pos 0) && eq_z x.q1 (pos 0)) ≡ true → Calm x
 calm_is x e =
@@ -82,71 +82,71 @@ calm_is x e =
     record { q0 = eq_yes x.q0 (pos 0) (and_l a b e); q1 = eq_yes x.q1 (pos 0) (and_r a b e) }
 
 -- ---- a cell that is left as it is
-returns : tie.Need-returns
-returns c =
+returns-then-h-call : tie.Need-returns-then-h-call
+returns-then-h-call c =
     let k = c.before in let s = begun k in let x = cell s in let p = s.args in
     let left : rubbed_cell p.call.dt (dry s) p.f (bed s) x ≡ x = ⊎_elim
     (λ w. rubbed_dry p.call.dt (dry s) p.f (bed s) x (test_is k ∙ w.taken))
     (λ w. rubbed_calm p.call.dt (dry s) p.f (bed s) x (calm_is x (sym w.1.ensures ∙ w.2.taken)))
-    c.if1.branch in
+    c.then-h-call.branch in
     let good = s.good.1.1.1 in let size = good.0.1 in
     of_four p.t4 size.0.1 ∙ sym (ap as_list left)
 
 -- ---- water that moves
-abbrev start : tie.Else1 → tie.Start
+abbrev start : tie.Else-h-call → tie.Start
 start c = begun c.before
 
-abbrev deep : tie.Else2 → tie.Else1
+abbrev deep : tie.Else-calm → tie.Else-h-call
 deep c = c.before.before
 
-wet : (c : tie.Else1) → let s = start c in shallow (dry s) (bed s) (cell s) ≡ false
-wet c = test_is c.before ∙ c.if1.false
+wet : (c : tie.Else-h-call) → let s = start c in shallow (dry s) (bed s) (cell s) ≡ false
+wet c = test_is c.before ∙ c.then-h-call.false
 
-low : (c : tie.Else1) → let s = start c in least_dry <ℤ h0 (bed s) (cell s)
+low : (c : tie.Else-h-call) → let s = start c in least_dry <ℤ h0 (bed s) (cell s)
 low c = let s = start c in le_lt_trans (dry_in s).least (le_no (h0 (bed s) (cell s)) (dry s) (wet c))
 
 strength-requires : tie.Need-strength-requires
 unfolding fast_cell
 strength-requires c κs =
     let a = c.before in let e = deep a.before in let d = measured e.before in let s = d.before in let m = sizes s in
-    rw (to_z-of_z s.fits.f, back a.strength-arg.given, back c.strength-arg2.given, d.depths.ensures)
-    (s.pre.0, (s.pre.1.0, ((m.q0, dry_in s), ((low e, m.mean_most), s.pre.1.1.1))))
+    rw (to_z-of_z s.ranges.f, back a.strength-arg-1.given, back c.strength-arg-2-1.given, d.depths-h.ensures)
+    record { pos_bound = s.requires.pos_bound; pos_bound_2 = s.requires.pos_bound_2; up_to = (m.q0, dry_in s); least_dry_lt_h = (low e, m.mean_most); h_value = s.requires.x_value }
 
 x_is : (c : tie.After-strength) → c.strength.result ≡ strong (start (deep c.before.before.before))
 unfolding strong
 x_is c =
     let b = c.before in let a = b.before in let d = measured (deep a.before).before in let s = d.before in
-    rw (to_z-of_z s.fits.f, back b.strength-arg2.given, back a.strength-arg.given, d.depths.ensures) at c.strength.ensures
+    rw (to_z-of_z s.ranges.f, back b.strength-arg-2-1.given, back a.strength-arg-1.given, d.depths-h.ensures) at c.strength.ensures
 
 x_size : (c : tie.After-strength) → let s = start (deep c.before.before.before) in (pos 0 ≤ℤ strong s) × UpTo strongest (strong s)
 unfolding strong fast_cell
 x_size c =
     let e = deep c.before.before.before in let s = start e in let m = sizes s in let p = s.args in
     let h = h0 (bed s) (cell s) in let u = speed (dry s) (cell s).q0 h in (
-      drag_nonneg p.call.dt p.f h u s.pre.0.0 m.mean,
-      drag_most h (low e) m.mean_most p.call.dt p.f u s.pre.0.1 s.pre.1.0.1 (within_past 131072 u s.pre.1.1.1),
+      drag_nonneg p.call.dt p.f h u s.requires.pos_bound.0 m.mean,
+      drag_most h (low e) m.mean_most p.call.dt p.f u s.requires.pos_bound.1 s.requires.pos_bound_2.1 (within_past 131072 u s.requires.x_value),
     )
 
-slowed-cell-requires : tie.Need-slowed-cell-requires
-slowed-cell-requires c κs =
-    let m = sizes (start (deep c.before.before.before)) in rw (back64 c.strength.type-inv (x_is c)) (x_size c, (m.q0, m.q1))
+slowed_cell-requires : tie.Need-slowed_cell-requires
+slowed_cell-requires c κs =
+    let m = sizes (start (deep c.before.before.before)) in rw (back64 c.strength.type_inv (x_is c)) record { pos_bound = x_size c; up_to = (m.q0, m.q1) }
 
-returns-2 : tie.Need-returns-2
+returns : tie.Need-returns
 unfolding rubbed_cell strong
-returns-2 c =
+returns c =
     let t = c.before in let e = deep t.before.before.before in let s = start e in let x = cell s in let p = s.args in
     let left : (q : ℤ) → _ ≡ _ = λ q. sym (rub_wet p.call.dt (dry s) p.f (bed s) x q (wet e)) in
-    (rw (back64 t.strength.type-inv (x_is t)) at c.slowed-cell.ensures)
+    (rw (back64 t.strength.type_inv (x_is t)) at c.slowed_cell.ensures)
     ∙ (λ i. x.e0 ∷ x.e1 ∷ left x.q0 i ∷ left x.q1 i ∷ [])
 
-pub rubbed-cell-spec : {M : Type 1} → statement M
-rubbed-cell-spec =
+pub rubbed_cell_spec : {M : Type 1} → statement M
+rubbed_cell_spec =
     tie.close
     (tie.spec
-    depths-requires
+    depths-h-requires
     (λ c. search rules) (λ c κs. search rules)
-    returns
+    returns-then-h-call
     (λ c. search rules) (λ c. search rules)
     strength-requires
-    slowed-cell-requires
-    returns-2)
+    slowed_cell-requires
+    returns)

@@ -16,21 +16,21 @@ slowed-requires c κs = search rules
 answer : (c : tie.After-slowed) → let a = c.before.args in value_of c.slowed.result ≡ given (slowed a.x a.q)
 answer c =
     let s = c.before in
-    (simp (to_z-of_z, s.ranges.x, s.ranges.q) at c.slowed.ensures) ∙ slowed_given_lem s.args.x s.args.q s.requires.0 s.requires.1
+    (simp (to_z-of_z, s.ranges.x, s.ranges.q) at c.slowed.ensures) ∙ slowed_given_lem s.args.x s.args.q s.requires.pos_bound s.requires.up_to
 
-enum-known-left : tie.Need-enum-known-left
-enum-known-left c = search rules
+enum_known-left : tie.Need-enum_known-left
+enum_known-left c = search rules
 
-enum_told : tie.Need-enum-told
-enum_told c = search rules
+enum_told-1 : tie.Need-enum_told-1
+enum_told-1 c = search rules
 
-returns : tie.Need-returns
-returns c =
+returns-in-Is : tie.Need-returns-in-Is
+returns-in-Is c =
     let a = c.before.before.before in
-    back64 c.known-told.given.0.1 (told a.slowed.result _ _ c.before.left.given.1 (answer a))
+    back64 c.known_told-1.given.0.1 (told a.slowed.result _ _ c.before.left-1.given.1 (answer a))
 
-returns-2 : tie.Need-returns-2
-returns-2 c = let a = c.before.before in untold a.slowed.result _ c.enum_told.given.1 (answer a)
+returns-in-Refused : tie.Need-returns-in-Refused
+returns-in-Refused c = let a = c.before.before in untold a.slowed.result _ c.enum_told-1.given.1 (answer a)
 
-pub slowed-by-spec : {M : Type 1} → statement M
-slowed-by-spec = tie.close (tie.spec slowed-requires enum-known-left enum_told returns returns-2)
+pub slowed_by_spec : {M : Type 1} → statement M
+slowed_by_spec = tie.close (tie.spec slowed-requires enum_known-left enum_told-1 returns-in-Is returns-in-Refused)

@@ -24,7 +24,7 @@ use Rattle.stage.proofs.rubbed.strength.Tie as tie
 -- what is asked of the discharge and the dry depth, of the depth, and of the speed
 module _ (s : tie.Start) where
   flow : UpTo fullest s.args.q × DryDepth s.args.call.dry
-  flow = s.requires.1.1.0
+  flow = s.requires.up_to
 
   depth : (least_dry <ℤ s.args.h) × (s.args.h ≤ℤ deepest)
   depth = let p = s.pre.1.1 in p.1.0
@@ -36,15 +36,15 @@ module _ (s : tie.Start) where
   checked : past fastest fast ≡ false
   checked = let p = s.pre.1.1 in p.1.1
 
-speed-of-requires : tie.Need-speed-of-requires
-speed-of-requires c κs =
+speed_of-u-requires : tie.Need-speed_of-u-requires
+speed_of-u-requires c κs =
     let s = c.before in let h = depth s in
-    simp (to_z-of_z, s.ranges.q, s.ranges.h, back {z = s.args.call.dry} (omega (arith, c.struct_told.given)))
-    ((flow s).0, ((lt_le (wet s.args.h h.0 h.1), h.1), (flow s).1))
+    simp (to_z-of_z, s.ranges.q, s.ranges.h, back {z = s.args.call.dry} (omega (arith, c.struct_told-1.given)))
+    record { up_to = (flow s).0; depth_in = (lt_le (wet s.args.h h.0 h.1), h.1); dry_depth = (flow s).1 }
 
-u_is : (c : tie.After-speed-of) → c.speed-of.result ≡ fast c.before.before
+u_is : (c : tie.After-speed_of-u) → c.speed_of-u.result ≡ fast c.before.before
 u_is c = let k = c.before in let s = k.before in
-    simp (to_z-of_z, s.ranges.q, s.ranges.h, back {z = s.args.call.dry} (omega (arith, k.struct_told.given))) at c.speed-of.ensures
+    simp (to_z-of_z, s.ranges.q, s.ranges.h, back {z = s.args.call.dry} (omega (arith, k.struct_told-1.given))) at c.speed_of-u.ensures
 
 strength-requires : tie.Need-strength-requires
 strength-requires c κs = search rules
@@ -56,23 +56,23 @@ answer : (c : tie.After-strength) → let s = start c in
     value_of c.strength.result ≡ given (drag s.args.call.dt s.args.f s.args.h (fast s))
 answer c =
     let k = c.before in let t = k.before in let s = start c in let a = s.args in
-    let dt = back {z = a.call.dt} (omega (arith, k.struct-told2.given)) in
-    (simp (to_z-of_z, s.fits.f, s.fits.h, dt, back64 t.speed-of.type-inv (u_is t)) at c.strength.ensures)
-    ∙ strength_given_lem a.call.dt a.f a.h (fast s) s.pre.0 s.pre.1.0 (depth s) (within_past 131072 (fast s) (checked s))
+    let dt = back {z = a.call.dt} (omega (arith, k.struct_told-2-1.given)) in
+    (simp (to_z-of_z, s.ranges.f, s.ranges.h, dt, back64 t.speed_of-u.type_inv (u_is t)) at c.strength.ensures)
+    ∙ strength_given_lem a.call.dt a.f a.h (fast s) s.requires.pos_bound s.requires.pos_bound_2 (depth s) (within_past 131072 (fast s) (checked s))
 
-enum-known-x : tie.Need-enum-known-x
-enum-known-x c = search rules
+enum_known-x : tie.Need-enum_known-x
+enum_known-x c = search rules
 
-enum_told : tie.Need-enum-told
-enum_told c = search rules
+enum_told-1 : tie.Need-enum_told-1
+enum_told-1 c = search rules
 
-returns : tie.Need-returns
-returns c =
+returns-in-Is : tie.Need-returns-in-Is
+returns-in-Is c =
     let a = c.before.before.before in
-    back64 c.known-told.given.0.1 (told a.strength.result _ _ c.before.x.given.1 (answer a))
+    back64 c.known_told-1.given.0.1 (told a.strength.result _ _ c.before.x-1.given.1 (answer a))
 
-returns-2 : tie.Need-returns-2
-returns-2 c = let a = c.before.before in untold a.strength.result _ c.enum_told.given.1 (answer a)
+returns-in-Refused : tie.Need-returns-in-Refused
+returns-in-Refused c = let a = c.before.before in untold a.strength.result _ c.enum_told-1.given.1 (answer a)
 
-pub strength-spec : {M : Type 1} → statement M
-strength-spec = tie.close (tie.spec speed-of-requires strength-requires enum-known-x enum_told returns returns-2)
+pub strength_spec : {M : Type 1} → statement M
+strength_spec = tie.close (tie.spec speed_of-u-requires strength-requires enum_known-x enum_told-1 returns-in-Is returns-in-Refused)

@@ -15,49 +15,49 @@ use Rattle.stage.proofs.state_and_bed.off_state.Tie as tie
 abbrev bad : List ℤ → List ℤ → ℕ → ℕ → Bool
 bad state bed n k = off_cell (bed_at bed k) (cell_in n state k)
 
-abbrev invariant-loop : tie.invariant-loop
+abbrev invariant-loop : tie.invariant-loop-i
 invariant-loop state bed n i₀ i = Scanned (bad state bed n) n i
 
-abbrev decreases-loop : tie.decreases-loop
+abbrev decreases-loop : tie.decreases-loop-i
 decreases-loop state bed n i₀ i = n - i
 
-loop-holds : tie.Need-loop-init invariant-loop decreases-loop
-loop-holds c = scan_none _ _
+loop-i-init : tie.Need-loop-i-init invariant-loop decreases-loop
+loop-i-init c = scan_none _ _
 
-off-cell-requires : tie.Need-off-cell-requires invariant-loop decreases-loop
-off-cell-requires c κs =
+off_cell-requires : tie.Need-off_cell-requires invariant-loop decreases-loop
+off_cell-requires c κs =
     let u = c.before in let e = u.before in let l = e.before in
-    rw (u.under.ensures, c.cell-of.ensures.0) (l.before.requires.2 l.loop.i e.loop-test.true, c.cell-of.ensures.1)
+    rw (u.under.ensures, c.cell_of.ensures.0) record { ground = l.before.requires.2 l.loop-i.i e.loop-i-test.true; wide = c.cell_of.ensures.1 }
 
 -- what the test of this turn says
-here : (c : tie.After-off-cell invariant-loop decreases-loop) →
+here : (c : tie.After-off_cell invariant-loop decreases-loop) →
     let l = c.before.before.before.before in
     let a = l.before.args in
-    bad a.state.now a.bed.now a.n l.loop.i ≡ c.off-cell.result
-here c = let x = c.before in sym (rw (x.before.under.ensures, x.cell-of.ensures.0) at c.off-cell.ensures)
+    bad a.state.now a.bed.now a.n l.loop-i.i ≡ c.off_cell.result
+here c = let x = c.before in sym (rw (x.before.under.ensures, x.cell_of.ensures.0) at c.off_cell.ensures)
+
+returns-then-off_cell : tie.Need-returns-then-off_cell invariant-loop decreases-loop
+returns-then-off_cell c = let o = c.before in let e = o.before.before.before in
+    scan_lowest e.before.loop-i.invariant e.loop-i-test.true (here o) c.if-off_cell.true
+
+loop-i-preserved : tie.Need-loop-i-preserved invariant-loop decreases-loop
+loop-i-preserved c = let o = c.before in let e = o.before.before.before in
+    scan_more e.before.loop-i.invariant e.loop-i-test.true (here o) c.if-off_cell.false
 
 returns : tie.Need-returns invariant-loop decreases-loop
-returns c = let o = c.before in let e = o.before.before.before in
-    scan_lowest e.before.loop.invariant e.loop-test.true (here o) c.if1.true
+returns c = scan_past c.before.loop-i.invariant c.loop-i-test.false
 
-loop-again : tie.Need-loop-preserved invariant-loop decreases-loop
-loop-again c = let o = c.before in let e = o.before.before.before in
-    scan_more e.before.loop.invariant e.loop-test.true (here o) c.if1.false
-
-returns-2 : tie.Need-returns-2 invariant-loop decreases-loop
-returns-2 c = scan_past c.before.loop.invariant c.loop-test.false
-
-pub off-state-spec : {M : Type 1} → statement M
-off-state-spec =
+pub off_state_spec : {M : Type 1} → statement M
+off_state_spec =
     tie.close
     (tie.spec
     invariant-loop
     decreases-loop
-    loop-holds
+    loop-i-init
     (λ c κs. search rules) (λ c κs. search rules)
-    off-cell-requires
-    returns
+    off_cell-requires
+    returns-then-off_cell
     (λ c. search rules)
     (λ c. search rules)
-    loop-again
-    returns-2)
+    loop-i-preserved
+    returns)

@@ -36,23 +36,23 @@ abbrev no : Found → ℕ
 no k = k.no
 
 -- ---- the lengths
-lengths_test : (c : tie.After-bad-state) → let s = c.before.before in c.bad-state.result ≡ misfit_state (length (state s)) (n s)
-lengths_test c = rw c.before.cells_over.ensures at c.bad-state.ensures
+lengths_test : (c : tie.After-bad_state) → let s = c.before.before in c.bad_state.result ≡ misfit_state (length (state s)) (n s)
+lengths_test c = rw c.before.cells_over-n.ensures at c.bad_state.ensures
 
-returns : tie.Need-returns
+returns-then-bad_state : tie.Need-returns-then-bad_state
 unfolding state_refusal state_checks verdict
-returns c = let s = c.before.before.before in
-    rw (of_call_lem 1 (misfit_state (length (state s)) (n s)) ∙ sym (lengths_test c.before) ∙ c.if1.true)
+returns-then-bad_state c = let s = c.before.before.before in
+    rw (of_call_lem 1 (misfit_state (length (state s)) (n s)) ∙ sym (lengths_test c.before) ∙ c.if-bad_state.true)
 
-module _ (c : tie.Else1) where
+module _ (c : tie.Else-bad_state) where
   abbrev one : tie.Start
   one = c.before.before.before
 
-  cells : c.before.before.cells_over.result ≡ n one
-  cells = c.before.before.cells_over.ensures
+  cells : c.before.before.cells_over-n.result ≡ n one
+  cells = c.before.before.cells_over-n.ensures
 
   fit : misfit_state (length (state one)) (n one) ≡ false
-  fit = sym (lengths_test c.before) ∙ c.if1.false
+  fit = sym (lengths_test c.before) ∙ c.if-bad_state.false
 
   fits : StateFits (length (state one)) (n one)
   fits = state_fits (length (state one)) (n one) fit
@@ -62,58 +62,58 @@ module _ (c : tie.Else1) where
   lengths_passed = of_call_lem 1 (misfit_state (length (state one)) (n one)) ∙ fit
 
 -- ---- the bed, of which the test goes over as many values as there are
-bed_test : (c : tie.After-bad-bed) → c.bad-bed.result ≡ lowest_of (check_at (list (one c.before)) 1)
+bed_test : (c : tie.After-bad_bed) → c.bad_bed.result ≡ lowest_of (check_at (list (one c.before)) 1)
 unfolding state_checks
 bed_test c =
     let s = one c.before in let e : length (bed s) ≡ suc (n s) = omega (arith, (fits c.before).some) in
-    c.bad-bed.ensures ∙ ap (lowest (λ i. bad_bed (get_or (bed s) i (pos 0)))) e
+    c.bad_bed.ensures ∙ ap (lowest (λ i. bad_bed (get_or (bed s) i (pos 0)))) e
 
-returns-2 : tie.Need-returns-2
+returns-then-bad_bed-n : tie.Need-returns-then-bad_bed-n
 unfolding state_refusal state_checks
-returns-2 c = let e = c.before.before in
-    ap no (stops_at (list (one e)) 1 _ (lengths_passed e, tt) (bed_test c.before) (omega (arith, c.if2.true, cells e)))
+returns-then-bad_bed-n c = let e = c.before.before in
+    ap no (stops_at (list (one e)) 1 _ (lengths_passed e, tt) (bed_test c.before) (omega (arith, c.if-bad_bed-n.true, cells e)))
 
-module _ (c : tie.Else2) where
-  abbrev two : tie.Else1
+module _ (c : tie.Else-bad_bed-n) where
+  abbrev two : tie.Else-bad_state
   two = c.before.before
 
   bed_passed : applies (check_at (list (one two)) 1) ≡ false
   unfolding state_checks
-  bed_passed = passes (check_at (list (one two)) 1) _ (bed_test c.before) (omega (arith, c.if2.false, cells two))
+  bed_passed = passes (check_at (list (one two)) 1) _ (bed_test c.before) (omega (arith, c.if-bad_bed-n.false, cells two))
 
   ground : Grounds (bed (one two)) (n (one two))
   unfolding state_checks
   ground = grounds (n (one two)) (bed (one two)) bed_passed
 
 -- ---- the cells
-off-state-requires : tie.Need-off-state-requires
-off-state-requires c κs = let f = fits (two c) in rw (cells (two c)) (f.most, f.state, ground c)
+off_state-requires : tie.Need-off_state-requires
+off_state-requires c κs = let f = fits (two c) in rw (cells (two c)) (f.most, f.state, ground c)
 
-off_test : (c : tie.After-off-state) → c.off-state.result ≡ lowest_of (check_at (list (one (two c.before))) 2)
+off_test : (c : tie.After-off_state) → c.off_state.result ≡ lowest_of (check_at (list (one (two c.before))) 2)
 unfolding state_checks
-off_test c = rw (cells (two c.before)) at c.off-state.ensures
+off_test c = rw (cells (two c.before)) at c.off_state.ensures
 
-returns-3 : tie.Need-returns-3
+returns-then-off_state-n : tie.Need-returns-then-off_state-n
 unfolding state_refusal state_checks
-returns-3 c = let e = c.before.before in let d = two e in
+returns-then-off_state-n c = let e = c.before.before in let d = two e in
     ap no (stops_at (list (one d)) 2 _ (lengths_passed d, (bed_passed e, tt)) (off_test c.before)
-    (omega (arith, c.if3.true, cells d)))
+    (omega (arith, c.if-off_state-n.true, cells d)))
 
-returns-4 : tie.Need-returns-4
+returns : tie.Need-returns
 unfolding state_refusal state_checks
-returns-4 c = let e = c.before.before in let d = two e in let x = check_at (list (one d)) 2 in
-    let off_passed = passes x _ (off_test c.before) (omega (arith, c.if3.false, cells d)) in
+returns c = let e = c.before.before in let d = two e in let x = check_at (list (one d)) 2 in
+    let off_passed = passes x _ (off_test c.before) (omega (arith, c.if-off_state-n.false, cells d)) in
     ap no (none_stops (list (one d)) (lengths_passed d, (bed_passed e, (off_passed, tt))))
 
-pub refusal-spec : {M : Type 1} → statement M
-refusal-spec =
+pub refusal_spec : {M : Type 1} → statement M
+refusal_spec =
     tie.close
     (tie.spec
     (λ c κs. search rules)
     (λ c κs. search rules)
-    returns
+    returns-then-bad_state
     (λ c κs. search rules)
-    returns-2
-    off-state-requires
-    returns-3
-    returns-4)
+    returns-then-bad_bed-n
+    off_state-requires
+    returns-then-off_state-n
+    returns)

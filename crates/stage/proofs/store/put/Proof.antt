@@ -26,10 +26,10 @@ module _ (s : tie.Start) where
   number = get_or s.args.t5 s.args.m (pos 0)
 
   fits : mag number < 2 ^ 31
-  fits = omega (arith, mag_abs number, (within s.args.t5 s.args.m s.pre.1 s.pre.4).abs)
+  fits = omega (arith, mag_abs number, (within s.args.t5 s.args.m s.requires.1 s.requires.4).abs)
 
-cast-next : tie.Need-overflow-cast-next
-cast-next c = narrows (number c.before) (fits c.before)
+overflow_cast-next : tie.Need-overflow_cast-next
+overflow_cast-next c = narrows (number c.before) (fits c.before)
 
 returns : tie.Need-returns
 returns c = let s = c.before.before in
@@ -40,7 +40,7 @@ put_spec =
     tie.close
     (tie.spec
     (λ c. search rules) (λ c. search rules)
-    cast-next
+    overflow_cast-next
     (λ c κs. search rules)
     (λ c. search rules) (λ c. search rules) (λ c. search rules)
     returns)

@@ -14,8 +14,8 @@ use Rattle.stage.proofs.update.flow_mean.Tie as tie
 
 -- the five numbers of the line, in their order, and then others
 abbrev and_then : tie.Start → List Entry → List Entry
-and_then s l = let rows = s.requires.1.0 in let w = s.requires.1.1 in
-    sized s.requires.0.0 tt ∷ sized rows.0.A tt ∷ sized rows.1.A tt ∷ sized w.dx_in tt ∷ sized w.dt_in tt ∷ l
+and_then s l = let rows = s.requires.row in let w = s.requires.numbers in
+    sized s.requires.up_to.0 tt ∷ sized rows.0.A tt ∷ sized rows.1.A tt ∷ sized w.dx_in tt ∷ sized w.dt_in tt ∷ l
 
 abbrev env : tie.Start → List Entry
 env s = and_then s []
@@ -23,66 +23,66 @@ env s = and_then s []
 abbrev carried : X
 carried = (v 1 ⊝ v 2) ⊗ v 4 ⊘ v 3
 
-array-copy-out-result : tie.Need-array-copy-out-result
-array-copy-out-result c = search rules
+bounds-x-2 : tie.Need-bounds-x-2
+bounds-x-2 c = search rules
 
-array-copy-out-result-2 : tie.Need-array-copy-out-result-2
-array-copy-out-result-2 c = search rules
+bounds-l-2 : tie.Need-bounds-l-2
+bounds-l-2 c = search rules
 
-array-copy-out-result-3 : tie.Need-array-copy-out-result-3
-array-copy-out-result-3 c = search rules
+bounds-f-2 : tie.Need-bounds-f-2
+bounds-f-2 c = search rules
 
-sub-result : tie.Need-overflow-sub-result
-sub-result c = need (env c.before.before.before) (v 1 ⊝ v 2) tt
+overflow_sub-result : tie.Need-overflow_sub-result
+overflow_sub-result c = need (env c.before.before.before) (v 1 ⊝ v 2) tt
 
-mul-result : tie.Need-overflow-mul-result
-mul-result c = need (env c.before.before.before.before.before) ((v 1 ⊝ v 2) ⊗ v 4) tt
+overflow_mul-result : tie.Need-overflow_mul-result
+overflow_mul-result c = need (env c.before.before.before.before.before) ((v 1 ⊝ v 2) ⊗ v 4) tt
 
-div-result : tie.Need-nonzero-div-result
-div-result c =
+nonzero_div-result : tie.Need-nonzero_div-result
+nonzero_div-result c =
     let s = c.before.before.before.before.before.before.before in
-    (divisor (env s) (v 3) tt s.requires.1.1.dx_pos, need (env s) carried tt)
+    (divisor (env s) (v 3) tt s.requires.numbers.dx_pos, need (env s) carried tt)
 
-add-result : tie.Need-overflow-add-result
-add-result c = need (env c.before.before.before.before.before.before.before) (v 0 ⊕ carried) tt
+overflow_add-result : tie.Need-overflow_add-result
+overflow_add-result c = need (env c.before.before.before.before.before.before.before) (v 0 ⊕ carried) tt
 
-thrust-of-requires : tie.Need-thrust-of-requires
-thrust-of-requires c κs =
+thrust_of-requires : tie.Need-thrust_of-requires
+thrust_of-requires c κs =
     let s = c.before.before.before.before.before.before.before in
-    rw (to_z-of_z s.ranges.e) (s.requires.0.1, s.requires.1.1)
+    rw (to_z-of_z s.ranges.e) record { up_to = s.requires.up_to.1; numbers = s.requires.numbers }
 
 -- what the call gave
-abbrev start : tie.After-thrust-of → tie.Start
+abbrev start : tie.After-thrust_of → tie.Start
 start c = c.before.before.before.before.before.before.before.before
 
-moved : (c : tie.After-thrust-of) → c.thrust-of.result ≡ thrust (start c).args.e (start c).args.reach.dx (start c).args.call.dt
-moved c = let s = start c in rw (to_z-of_z s.fits.e) at c.thrust-of.ensures
+moved : (c : tie.After-thrust_of) → c.thrust_of.result-1 ≡ thrust (start c).args.e (start c).args.reach.dx (start c).args.call.dt
+moved c = let s = start c in rw (to_z-of_z s.ranges.e) at c.thrust_of.ensures
 
-moved_size : (c : tie.After-thrust-of) → UpTo most_thrust c.thrust-of.result
+moved_size : (c : tie.After-thrust_of) → UpTo most_thrust c.thrust_of.result-1
 moved_size c =
     let s = start c in
-    subst (UpTo most_thrust) (sym (moved c)) (thrust_size _ _ _ s.pre.0.1 s.pre.1.1.dx_pos s.pre.1.1.dt_in)
+    subst (UpTo most_thrust) (sym (moved c)) (thrust_size _ _ _ s.requires.up_to.1 s.requires.numbers.dx_pos s.requires.numbers.dt_in)
 
-abbrev after : tie.After-thrust-of → List Entry
+abbrev after : tie.After-thrust_of → List Entry
 after c = and_then (start c) (sized (moved_size c) tt ∷ [])
 
-add-result-2 : tie.Need-overflow-add-result-2
-add-result-2 c = need (after c) (v 0 ⊕ carried ⊕ v 5) tt
+overflow_add-result-2 : tie.Need-overflow_add-result-2
+overflow_add-result-2 c = need (after c) (v 0 ⊕ carried ⊕ v 5) tt
 
 returns : tie.Need-returns
 returns c = value (after c) (v 0 ⊕ carried ⊕ v 5) tt ∙ ap (λ (z : ℤ). ideal (env (start c)) (v 0 ⊕ carried) +ℤ z) (moved c)
 
-pub flow-mean-spec : {M : Type 1} → statement M
-flow-mean-spec =
+pub flow_mean_spec : {M : Type 1} → statement M
+flow_mean_spec =
     tie.close
     (tie.spec
-    array-copy-out-result
-    array-copy-out-result-2
-    array-copy-out-result-3
-    sub-result
-    mul-result
-    div-result
-    add-result
-    thrust-of-requires
-    add-result-2
+    bounds-x-2
+    bounds-l-2
+    bounds-f-2
+    overflow_sub-result
+    overflow_mul-result
+    nonzero_div-result
+    overflow_add-result
+    thrust_of-requires
+    overflow_add-result-2
     returns)

@@ -15,7 +15,7 @@ use Rattle.stage.proofs.update.flow_slope.Statement.{statement}
 use Rattle.stage.proofs.update.flow_slope.Tie as tie
 
 abbrev env : tie.Start → List Entry
-env s = sized s.requires.1.0.0.A tt ∷ sized s.requires.1.0.1.A tt ∷ entry s.ranges.g s.requires.0.1 ∷ []
+env s = sized s.requires.row.0.A tt ∷ sized s.requires.row.1.A tt ∷ entry s.ranges.g s.requires.up_to.1 ∷ []
 
 abbrev change : X
 change = v 1 ⊕ v 0 ⊝ v 2
@@ -23,76 +23,76 @@ change = v 1 ⊕ v 0 ⊝ v 2
 change_size : (s : tie.Start) → UpTo most_change (ideal (env s) change)
 change_size s = b_up 4365877248 (got (env s) change tt).bound tt
 
-array-copy-out-result : tie.Need-array-copy-out-result
-array-copy-out-result c = search rules
+bounds-x-3 : tie.Need-bounds-x-3
+bounds-x-3 c = search rules
 
-array-copy-out-slope-change : tie.Need-array-copy-out-slope-change
-array-copy-out-slope-change c = search rules
+bounds-f-2 : tie.Need-bounds-f-2
+bounds-f-2 c = search rules
 
-array-copy-out-slope-change-2 : tie.Need-array-copy-out-slope-change-2
-array-copy-out-slope-change-2 c = search rules
+bounds-l-2 : tie.Need-bounds-l-2
+bounds-l-2 c = search rules
 
-add-slope-change : tie.Need-overflow-add-slope-change
-add-slope-change c = need (env c.before.before.before) (v 1 ⊕ v 0) tt
+overflow_add-f : tie.Need-overflow_add-f
+overflow_add-f c = need (env c.before.before.before) (v 1 ⊕ v 0) tt
 
-sub-slope-change : tie.Need-overflow-sub-slope-change
-sub-slope-change c = need (env c.before.before.before) change tt
+overflow_sub-f : tie.Need-overflow_sub-f
+overflow_sub-f c = need (env c.before.before.before) change tt
 
-slope-change-requires : tie.Need-slope-change-requires
-slope-change-requires c κs =
+slope_change-requires : tie.Need-slope_change-requires
+slope_change-requires c κs =
     let s = c.before.before.before in
-    rw (value (env s) change tt) (change_size s, s.requires.1.1)
+    rw (value (env s) change tt) record { up_to = change_size s; numbers = s.requires.numbers }
 
 -- what the first call gave
-abbrev start : tie.After-slope-change → tie.Start
+abbrev start : tie.After-slope_change → tie.Start
 start c = c.before.before.before.before
 
-changed : (c : tie.After-slope-change)
-    → c.slope-change.result ≡ slope_of (ideal (env (start c)) change) (start c).args.reach.dx (start c).args.call.dt
-changed c = let s = start c in rw (value (env s) change tt) at c.slope-change.ensures
+changed : (c : tie.After-slope_change)
+    → c.slope_change.result-1 ≡ slope_of (ideal (env (start c)) change) (start c).args.reach.dx (start c).args.call.dt
+changed c = let s = start c in rw (value (env s) change tt) at c.slope_change.ensures
 
-changed_size : (c : tie.After-slope-change) → UpTo most_turn c.slope-change.result
-changed_size c = subst (UpTo most_turn) (sym (changed c)) (slope_size _ _ _ (change_size (start c)) (start c).requires.1.1.dt_in)
+changed_size : (c : tie.After-slope_change) → UpTo most_turn c.slope_change.result-1
+changed_size c = subst (UpTo most_turn) (sym (changed c)) (slope_size _ _ _ (change_size (start c)) (start c).requires.numbers.dt_in)
 
-sub-result : tie.Need-overflow-sub-result
-sub-result c = need (sized (start c).requires.0.0 tt ∷ sized (changed_size c) tt ∷ []) (v 0 ⊝ v 1) tt
+overflow_sub-result : tie.Need-overflow_sub-result
+overflow_sub-result c = need (sized (start c).requires.up_to.0 tt ∷ sized (changed_size c) tt ∷ []) (v 0 ⊝ v 1) tt
 
-thrust-of-requires : tie.Need-thrust-of-requires
-thrust-of-requires c κs =
+thrust_of-requires : tie.Need-thrust_of-requires
+thrust_of-requires c κs =
     let s = start c in
-    rw (to_z-of_z s.fits.d) (s.pre.0.2, s.pre.1.1)
+    rw (to_z-of_z s.ranges.d) record { up_to = s.requires.up_to.2; numbers = s.requires.numbers }
 
 -- what the second gave
-moved : (c : tie.After-thrust-of) → let s = start c.before in
-    c.thrust-of.result ≡ thrust s.args.d s.args.reach.dx s.args.call.dt
-moved c = let s = start c.before in rw (to_z-of_z s.fits.d) at c.thrust-of.ensures
+moved : (c : tie.After-thrust_of) → let s = start c.before in
+    c.thrust_of.result-1 ≡ thrust s.args.d s.args.reach.dx s.args.call.dt
+moved c = let s = start c.before in rw (to_z-of_z s.ranges.d) at c.thrust_of.ensures
 
-moved_size : (c : tie.After-thrust-of) → UpTo most_thrust c.thrust-of.result
+moved_size : (c : tie.After-thrust_of) → UpTo most_thrust c.thrust_of.result-1
 moved_size c =
     let s = start c.before in
-    subst (UpTo most_thrust) (sym (moved c)) (thrust_size _ _ _ s.pre.0.2 s.pre.1.1.dx_pos s.pre.1.1.dt_in)
+    subst (UpTo most_thrust) (sym (moved c)) (thrust_size _ _ _ s.requires.up_to.2 s.requires.numbers.dx_pos s.requires.numbers.dt_in)
 
-abbrev after : tie.After-thrust-of → List Entry
-after c = sized (start c.before).requires.0.0 tt ∷ sized (changed_size c.before) tt ∷ sized (moved_size c) tt ∷ []
+abbrev after : tie.After-thrust_of → List Entry
+after c = sized (start c.before).requires.up_to.0 tt ∷ sized (changed_size c.before) tt ∷ sized (moved_size c) tt ∷ []
 
-sub-result-2 : tie.Need-overflow-sub-result-2
-sub-result-2 c = need (after c) (v 0 ⊝ v 1 ⊝ v 2) tt
+overflow_sub-result-2 : tie.Need-overflow_sub-result-2
+overflow_sub-result-2 c = need (after c) (v 0 ⊝ v 1 ⊝ v 2) tt
 
 returns : tie.Need-returns
 returns c =
     value (after c) (v 0 ⊝ v 1 ⊝ v 2) tt ∙ (λ j. get_or (start c.before).args.t1 3 (pos 0) -ℤ changed c.before j -ℤ moved c j)
 
-pub flow-slope-spec : {M : Type 1} → statement M
-flow-slope-spec =
+pub flow_slope_spec : {M : Type 1} → statement M
+flow_slope_spec =
     tie.close
     (tie.spec
-    array-copy-out-result
-    array-copy-out-slope-change
-    array-copy-out-slope-change-2
-    add-slope-change
-    sub-slope-change
-    slope-change-requires
-    sub-result
-    thrust-of-requires
-    sub-result-2
+    bounds-x-3
+    bounds-f-2
+    bounds-l-2
+    overflow_add-f
+    overflow_sub-f
+    slope_change-requires
+    overflow_sub-result
+    thrust_of-requires
+    overflow_sub-result-2
     returns)

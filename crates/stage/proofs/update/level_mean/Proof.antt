@@ -6,33 +6,33 @@ use Rattle.stage.proofs.update.level_mean.Statement.{statement}
 use Rattle.stage.proofs.update.level_mean.Tie as tie
 
 abbrev env : tie.Start → List Entry
-env s = sized s.requires.0 tt ∷ sized s.requires.1.0.vol tt ∷ sized s.requires.1.1.vol tt ∷ []
+env s = sized s.requires.up_to tt ∷ sized s.requires.row.0.vol tt ∷ sized s.requires.row.1.vol tt ∷ []
 
-array-copy-out-result : tie.Need-array-copy-out-result
-array-copy-out-result c = search rules
+bounds-x-0 : tie.Need-bounds-x-0
+bounds-x-0 c = search rules
 
-array-copy-out-result-2 : tie.Need-array-copy-out-result-2
-array-copy-out-result-2 c = search rules
+bounds-l-3 : tie.Need-bounds-l-3
+bounds-l-3 c = search rules
 
-add-result : tie.Need-overflow-add-result
-add-result c = need (env c.before.before) (v 0 ⊕ v 1) tt
+overflow_add-result : tie.Need-overflow_add-result
+overflow_add-result c = need (env c.before.before) (v 0 ⊕ v 1) tt
 
-array-copy-out-result-3 : tie.Need-array-copy-out-result-3
-array-copy-out-result-3 c = search rules
+bounds-f-3 : tie.Need-bounds-f-3
+bounds-f-3 c = search rules
 
-sub-result : tie.Need-overflow-sub-result
-sub-result c = need (env c.before.before.before) (v 0 ⊕ v 1 ⊝ v 2) tt
+overflow_sub-result : tie.Need-overflow_sub-result
+overflow_sub-result c = need (env c.before.before.before) (v 0 ⊕ v 1 ⊝ v 2) tt
 
 returns : tie.Need-returns
 returns c = value (env c.before.before.before) (v 0 ⊕ v 1 ⊝ v 2) tt
 
-pub level-mean-spec : {M : Type 1} → statement M
-level-mean-spec =
+pub level_mean_spec : {M : Type 1} → statement M
+level_mean_spec =
     tie.close
     (tie.spec
-    array-copy-out-result
-    array-copy-out-result-2
-    add-result
-    array-copy-out-result-3
-    sub-result
+    bounds-x-0
+    bounds-l-3
+    overflow_add-result
+    bounds-f-3
+    overflow_sub-result
     returns)

@@ -14,7 +14,7 @@ use Rattle.stage.proofs.update.level_slope.Statement.{statement}
 use Rattle.stage.proofs.update.level_slope.Tie as tie
 
 abbrev env : tie.Start → List Entry
-env s = sized s.requires.0.0 tt ∷ sized s.requires.0.1 tt ∷ sized s.requires.1.0.0.F tt ∷ sized s.requires.1.0.1.F tt ∷ []
+env s = sized s.requires.up_to.0 tt ∷ sized s.requires.up_to.1 tt ∷ sized s.requires.row.0.F tt ∷ sized s.requires.row.1.F tt ∷ []
 
 abbrev change : X
 change = v 3 ⊕ v 2 ⊝ k (pos 2) ⊗ v 1
@@ -22,63 +22,63 @@ change = v 3 ⊕ v 2 ⊝ k (pos 2) ⊗ v 1
 change_size : (s : tie.Start) → UpTo most_change (ideal (env s) change)
 change_size s = b_up 4365877248 (got (env s) change tt).bound tt
 
-array-copy-out-result : tie.Need-array-copy-out-result
-array-copy-out-result c = search rules
+bounds-x-1 : tie.Need-bounds-x-1
+bounds-x-1 c = search rules
 
-array-copy-out-slope-change : tie.Need-array-copy-out-slope-change
-array-copy-out-slope-change c = search rules
+bounds-f-0 : tie.Need-bounds-f-0
+bounds-f-0 c = search rules
 
-array-copy-out-slope-change-2 : tie.Need-array-copy-out-slope-change-2
-array-copy-out-slope-change-2 c = search rules
+bounds-l-0 : tie.Need-bounds-l-0
+bounds-l-0 c = search rules
 
-add-slope-change : tie.Need-overflow-add-slope-change
-add-slope-change c = need (env c.before.before.before) (v 3 ⊕ v 2) tt
+overflow_add-f : tie.Need-overflow_add-f
+overflow_add-f c = need (env c.before.before.before) (v 3 ⊕ v 2) tt
 
-array-copy-out-slope-change-3 : tie.Need-array-copy-out-slope-change-3
-array-copy-out-slope-change-3 c = search rules
+bounds-x-2 : tie.Need-bounds-x-2
+bounds-x-2 c = search rules
 
-mul-slope-change : tie.Need-overflow-mul-slope-change
-mul-slope-change c = need (env c.before.before.before.before) (k (pos 2) ⊗ v 1) tt
+overflow_mul-x : tie.Need-overflow_mul-x
+overflow_mul-x c = need (env c.before.before.before.before) (k (pos 2) ⊗ v 1) tt
 
-sub-slope-change : tie.Need-overflow-sub-slope-change
-sub-slope-change c = need (env c.before.before.before.before) change tt
+overflow_sub-f : tie.Need-overflow_sub-f
+overflow_sub-f c = need (env c.before.before.before.before) change tt
 
-slope-change-requires : tie.Need-slope-change-requires
-slope-change-requires c κs =
+slope_change-requires : tie.Need-slope_change-requires
+slope_change-requires c κs =
     let s = c.before.before.before.before in
-    rw (value (env s) change tt) (change_size s, s.requires.1.1)
+    rw (value (env s) change tt) record { up_to = change_size s; numbers = s.requires.numbers }
 
 -- what the call gave
-abbrev start : tie.After-slope-change → tie.Start
+abbrev start : tie.After-slope_change → tie.Start
 start c = c.before.before.before.before.before
 
-changed : (c : tie.After-slope-change)
-    → c.slope-change.result ≡ slope_of (ideal (env (start c)) change) (start c).args.reach.dx (start c).args.call.dt
-changed c = let s = start c in rw (value (env s) change tt) at c.slope-change.ensures
+changed : (c : tie.After-slope_change)
+    → c.slope_change.result-1 ≡ slope_of (ideal (env (start c)) change) (start c).args.reach.dx (start c).args.call.dt
+changed c = let s = start c in rw (value (env s) change tt) at c.slope_change.ensures
 
-changed_size : (c : tie.After-slope-change) → UpTo most_turn c.slope-change.result
-changed_size c = subst (UpTo most_turn) (sym (changed c)) (slope_size _ _ _ (change_size (start c)) (start c).requires.1.1.dt_in)
+changed_size : (c : tie.After-slope_change) → UpTo most_turn c.slope_change.result-1
+changed_size c = subst (UpTo most_turn) (sym (changed c)) (slope_size _ _ _ (change_size (start c)) (start c).requires.numbers.dt_in)
 
-abbrev after : tie.After-slope-change → List Entry
-after c = sized (start c).requires.0.0 tt ∷ sized (changed_size c) tt ∷ []
+abbrev after : tie.After-slope_change → List Entry
+after c = sized (start c).requires.up_to.0 tt ∷ sized (changed_size c) tt ∷ []
 
-sub-result : tie.Need-overflow-sub-result
-sub-result c = need (after c) (v 0 ⊝ v 1) tt
+overflow_sub-result : tie.Need-overflow_sub-result
+overflow_sub-result c = need (after c) (v 0 ⊝ v 1) tt
 
 returns : tie.Need-returns
 returns c = value (after c) (v 0 ⊝ v 1) tt ∙ ap (λ (z : ℤ). get_or (start c).args.t1 1 (pos 0) -ℤ z) (changed c)
 
-pub level-slope-spec : {M : Type 1} → statement M
-level-slope-spec =
+pub level_slope_spec : {M : Type 1} → statement M
+level_slope_spec =
     tie.close
     (tie.spec
-    array-copy-out-result
-    array-copy-out-slope-change
-    array-copy-out-slope-change-2
-    add-slope-change
-    array-copy-out-slope-change-3
-    mul-slope-change
-    sub-slope-change
-    slope-change-requires
-    sub-result
+    bounds-x-1
+    bounds-f-0
+    bounds-l-0
+    overflow_add-f
+    bounds-x-2
+    overflow_mul-x
+    overflow_sub-f
+    slope_change-requires
+    overflow_sub-result
     returns)

@@ -16,68 +16,68 @@ use Rattle.stage.specs.Laws.UpdateSizes.{pressed}
 use Rattle.stage.proofs.update.pressures.Statement.{statement}
 use Rattle.stage.proofs.update.pressures.Tie as tie
 
-depths-requires : tie.Need-depths-requires
-depths-requires c κs = (c.requires.0.ground, (cell_sizes c.requires.0).wide)
+depths-h-requires : tie.Need-depths-h-requires
+depths-h-requires c κs = record { ground = c.requires.inside.ground; wide = (cell_sizes c.requires.inside).wide }
 
-cast-zl : tie.Need-overflow-cast-zl
-cast-zl c = widens c.before.before.before.before.before.args.b.zl c.struct_told.given.0.1
+overflow_cast-zl : tie.Need-overflow_cast-zl
+overflow_cast-zl c = widens c.before.before.before.before.before.args.b.zl c.struct_told-1.given.0.1
 
-cast-zr : tie.Need-overflow-cast-zr
-cast-zr c = widens c.before.before.before.before.before.before.before.args.b.zr c.struct-told2.given.1.0.1
+overflow_cast-zr : tie.Need-overflow_cast-zr
+overflow_cast-zr c = widens c.before.before.before.before.before.before.before.args.b.zr c.struct_told-2-1.given.1.0.1
 
 -- ---- the six numbers as they are read
-module _ (c : tie.After-kr) where
-  abbrev bed_right : tie.After-struct-told2
+module _ (c : tie.After-kr-1) where
+  abbrev bed_right : tie.After-struct_told-2-1
   bed_right = c.before.before
 
-  abbrev bed_left : tie.After-struct-told
+  abbrev bed_left : tie.After-struct_told-1
   bed_left = bed_right.before.before
 
-  abbrev d : tie.After-depths
+  abbrev d : tie.After-depths-h
   d = bed_left.before.before.before.before
 
   abbrev i : tie.Start
   i = d.before
 
-  mean : rd (get_or d.depths.result 0 (pos 0)) ≡ h0 (bed_in i.args.b) (as_cell i.args.x)
-  mean = back bed_left.before.before.before.m.given ∙ (λ j. get_or (d.depths.ensures j) 0 (pos 0))
+  mean : rd (get_or d.depths-h.result 0 (pos 0)) ≡ h0 (bed_in i.args.b) (as_cell i.args.x)
+  mean = back bed_left.before.before.before.m-1.given ∙ (λ j. get_or (d.depths-h.ensures j) 0 (pos 0))
 
-  slope : rd (get_or d.depths.result 1 (pos 0)) ≡ h1 (bed_in i.args.b) (as_cell i.args.x)
-  slope = back bed_left.before.before.s.given ∙ (λ j. get_or (d.depths.ensures j) 1 (pos 0))
+  slope : rd (get_or d.depths-h.result 1 (pos 0)) ≡ h1 (bed_in i.args.b) (as_cell i.args.x)
+  slope = back bed_left.before.before.s-1.given ∙ (λ j. get_or (d.depths-h.ensures j) 1 (pos 0))
 
   zl : rd (to_z w32 (of_z w32 i.args.b.zl)) ≡ i.args.b.zl
-  zl = widened bed_left.struct_told.given.0.1
+  zl = widened bed_left.struct_told-1.given.0.1
 
   zr : rd (to_z w32 (of_z w32 i.args.b.zr)) ≡ i.args.b.zr
-  zr = widened bed_right.struct-told2.given.1.0.1
+  zr = widened bed_right.struct_told-2-1.given.1.0.1
 
   kl : rd (pressure_of i.args.t3) ≡ pressure_of i.args.t3
-  kl = back c.before.kl.given
+  kl = back c.before.kl-1.given
 
   kr : rd (pressure_of i.args.t4) ≡ pressure_of i.args.t4
-  kr = back c.kr.given
+  kr = back c.kr-1.given
 
-push-of-requires : tie.Need-push-of-requires
-push-of-requires c κs = let p = (i c).requires in rw (mean c, slope c, zl c, zr c, kl c, kr c) (pressed p.0 p.1.0.K p.1.1.K)
+push_of-requires : tie.Need-push_of-requires
+push_of-requires c κs = let p = (i c).requires in rw (mean c, slope c, zl c, zr c, kl c, kr c) (pressed p.0 p.1.0.K p.1.1.K)
 
 returns : tie.Need-returns
 returns c =
     let p = c.before in let r = p.before in
-    let e = back64 p.push-of.type-inv (p.push-of.ensures ∙ (λ j. push_of (mean r j) (slope r j) (zl r j) (zr r j) (kl r j) (kr r j))) in
-    let t = back64 c.tilt-of.type-inv (c.tilt-of.ensures ∙ (λ j. tilt_of (mean r j) (slope r j) (zl r j) (zr r j) (kl r j) (kr r j))) in
+    let e = back64 p.push_of.type_inv (p.push_of.ensures ∙ (λ j. push_of (mean r j) (slope r j) (zl r j) (zr r j) (kl r j) (kr r j))) in
+    let t = back64 c.tilt_of.type_inv (c.tilt_of.ensures ∙ (λ j. tilt_of (mean r j) (slope r j) (zl r j) (zr r j) (kl r j) (kr r j))) in
     λ j. e j ∷ t j ∷ []
 
-pub pressures-spec : {M : Type 1} → statement M
-pressures-spec =
+pub pressures_spec : {M : Type 1} → statement M
+pressures_spec =
     tie.close
     (tie.spec
-    depths-requires
+    depths-h-requires
     (λ c. search rules)
     (λ c. search rules)
-    cast-zl
-    cast-zr
+    overflow_cast-zl
+    overflow_cast-zr
     (λ c. search rules)
     (λ c. search rules)
-    push-of-requires
-    (λ c κs. push-of-requires c.before κs)
+    push_of-requires
+    (λ c κs. push_of-requires c.before κs)
     returns)

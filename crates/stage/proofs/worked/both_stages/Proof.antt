@@ -5,47 +5,41 @@ use Rattle.stage.specs.Laws.TwoStages.{both_stop, one_shown, both_end}
 use Rattle.stage.proofs.worked.both_stages.Statement.{statement}
 use Rattle.stage.proofs.worked.both_stages.Tie as tie
 
-stage-one-requires : tie.Need-stage-one-requires
-stage-one-requires c κs =
+stage_one-k-requires : tie.Need-stage_one-k-requires
+stage_one-k-requires c κs =
     let s = c.before.before.before.before in
-    (s.requires.0, ((omega arith, omega arith, omega arith, omega arith, omega arith), s.requires.1.1.1))
+    record { in_order = s.requires.in_order; room = (omega arith, omega arith, omega arith, omega arith, omega arith); ranged = s.requires.ranged }
 
-module _ (w : tie.After-stage-one) where
+module _ (w : tie.After-stage_one-k) where
   abbrev start : tie.Start
   start = w.before.before.before.before.before
 
-module _ (e : tie.Else1) where
-  abbrev went : tie.After-stage-one
+module _ (e : tie.Else-k-ne0) where
+  abbrev went : tie.After-stage_one-k
   went = e.before.before.before.before.before.before
 
+returns-then-k-ne0 : tie.Need-returns-then-k-ne0
+returns-then-k-ne0 c ρ v shows = let w = c.before.before.before.before.before.before in
+    both_stop v (w.stage_one-k.ensures.half ρ v shows) c.if-k-ne0.true
+
+stage_two-requires : tie.Need-stage_two-requires
+stage_two-requires c κs =
+    let e = c.before.before.before.before.before in let one = (went e).stage_one-k.ensures in let s = start (went e) in record { in_order = s.requires.in_order; room = (omega arith, omega arith, omega arith, omega arith); face_room = (omega arith, omega arith); ranged = (s.requires.ranged, one.ranged e.if-k-ne0.false); face_rows = one.sized e.if-k-ne0.false }
+
 returns : tie.Need-returns
-returns c ρ v shows = let w = c.before.before.before.before.before.before in
-    both_stop v (w.stage_one.ensures.half ρ v shows) c.if1.true
-
-stage-two-requires : tie.Need-stage-two-requires
-stage-two-requires c κs =
-    let e = c.before.before.before.before.before in let one = (went e).stage_one.ensures in let s = start (went e) in (
-      s.pre.0,
-      (
-        (omega arith, omega arith, omega arith, omega arith),
-        ((omega arith, omega arith), ((s.pre.1.1.1, one.ranged e.if1.false), one.sized e.if1.false)),
-      ),
-    )
-
-returns-2 : tie.Need-returns-2
-returns-2 c ρ v shows =
+returns c ρ v shows =
     let t = c.before.before.before.before in
     let e = t.before.before.before.before.before.before in
-    let half = (went e).stage_one.ensures.half ρ v shows in let z = e.if1.false in
-    both_end v half z (t.stage-two.ensures ρ v shows (half.done z).faces (one_shown v half z))
+    let half = (went e).stage_one-k.ensures.half ρ v shows in let z = e.if-k-ne0.false in
+    both_end v half z (t.stage_two.ensures ρ v shows (half.done z).faces (one_shown v half z))
 
-pub both-stages-spec : {M : Type 1} → statement M
-both-stages-spec =
+pub both_stages_spec : {M : Type 1} → statement M
+both_stages_spec =
     tie.close
     (tie.spec
-    stage-one-requires
+    stage_one-k-requires
     (λ c. search rules) (λ c. search rules) (λ c. search rules) (λ c. search rules)
-    returns
-    stage-two-requires
+    returns-then-k-ne0
+    stage_two-requires
     (λ c. search rules) (λ c. search rules) (λ c. search rules) (λ c. search rules) (λ c. search rules)
-    returns-2)
+    returns)

@@ -22,87 +22,87 @@ abbrev list : tie.Start → List Check
 list s = ready_checks s.args.call.dry s.args.reach.n s.args.bed.now s.args.friction.now (seen s.args.t.now)
 
 -- ---- the tests of the lent tables, which go over as many values as there are
-bed_test : (c : tie.After-bad-bed) → let s = c.before.before in c.bad-bed.result ≡ lowest_of (check_at (list s) 0)
-bed_test c = let s = c.before.before in let e : length s.args.bed.now ≡ suc s.args.reach.n = omega (arith, s.requires.0) in
-    c.bad-bed.ensures ∙ ap (lowest (λ i. bad_bed (get_or s.args.bed.now i (pos 0)))) e
+bed_test : (c : tie.After-bad_bed-z) → let s = c.before.before in c.bad_bed-z.result ≡ lowest_of (check_at (list s) 0)
+bed_test c = let s = c.before.before in let e : length s.args.bed.now ≡ suc s.args.reach.n = omega (arith, s.requires.room) in
+    c.bad_bed-z.ensures ∙ ap (lowest (λ i. bad_bed (get_or s.args.bed.now i (pos 0)))) e
 
-rough_test : (c : tie.After-bad-friction) → let s = c.before.before.before.before in
-    c.bad-friction.result ≡ lowest_of (check_at (list s) 1)
+rough_test : (c : tie.After-bad_friction-f) → let s = c.before.before.before.before in
+    c.bad_friction-f.result ≡ lowest_of (check_at (list s) 1)
 rough_test c =
     let s = c.before.before.before.before in
-    let e : length s.args.friction.now ≡ s.args.reach.n = omega (arith, s.requires.0) in
-    c.bad-friction.ensures ∙ ap (lowest (λ i. bad_rough (pos (get_or s.args.friction.now i 0)))) e
+    let e : length s.args.friction.now ≡ s.args.reach.n = omega (arith, s.requires.room) in
+    c.bad_friction-f.ensures ∙ ap (lowest (λ i. bad_rough (pos (get_or s.args.friction.now i 0)))) e
 
 -- ---- past each of them
-module _ (c : tie.Else1) where
+module _ (c : tie.Else-z-n) where
   abbrev one : tie.Start
   one = c.before.before.before
 
   bed_passed : applies (check_at (list one) 0) ≡ false
-  bed_passed = passes (check_at (list one) 0) _ (bed_test c.before) (omega (arith, c.if1.false))
+  bed_passed = passes (check_at (list one) 0) _ (bed_test c.before) (omega (arith, c.if-z-n.false))
 
   ground : Grounds one.args.bed.now one.args.reach.n
   ground = grounds one.args.reach.n one.args.bed.now bed_passed
 
-module _ (c : tie.Else2) where
-  abbrev two : tie.Else1
+module _ (c : tie.Else-f-n) where
+  abbrev two : tie.Else-z-n
   two = c.before.before
 
   rough_passed : applies (check_at (list (one two)) 1) ≡ false
-  rough_passed = passes (check_at (list (one two)) 1) _ (rough_test c.before) c.if2.false
+  rough_passed = passes (check_at (list (one two)) 1) _ (rough_test c.before) c.if-f-n.false
 
-returns : tie.Need-returns
-returns c = let s = c.before.before.before in stops_at (list s) 0 _ tt (bed_test c.before) (omega (arith, c.if1.true))
+returns-then-z-n : tie.Need-returns-then-z-n
+returns-then-z-n c = let s = c.before.before.before in stops_at (list s) 0 _ tt (bed_test c.before) (omega (arith, c.if-z-n.true))
 
-returns-2 : tie.Need-returns-2
-returns-2 c = let e = c.before.before in stops_at (list (one e)) 1 _ (bed_passed e, tt) (rough_test c.before) c.if2.true
+returns-then-f-n : tie.Need-returns-then-f-n
+returns-then-f-n c = let e = c.before.before in stops_at (list (one e)) 1 _ (bed_passed e, tt) (rough_test c.before) c.if-f-n.true
 
-off-requires : tie.Need-off-requires
-off-requires c κs = let s = one (two c) in (s.pre.0.0, λ i l. record { ground = ground (two c) i l; wide = s.pre.1.0 i l })
+off-i-requires : tie.Need-off-i-requires
+off-i-requires c κs = let s = one (two c) in record { room = s.requires.room.0; all_unfinished = λ i l. record { ground = ground (two c) i l; wide = s.requires.wides.0 i l } }
 
-returns-3 : tie.Need-returns-3
-returns-3 c = let e = c.before.before in let d = two e in
-    stops_at (list (one d)) 2 _ (bed_passed d, (rough_passed e, tt)) c.before.off.ensures c.if3.true
+returns-then-i-n : tie.Need-returns-then-i-n
+returns-then-i-n c = let e = c.before.before in let d = two e in
+    stops_at (list (one d)) 2 _ (bed_passed d, (rough_passed e, tt)) c.before.off-i.ensures c.if-i-n.true
 
 -- ---- in range
-module _ (c : tie.Else3) where
-  abbrev three : tie.Else2
+module _ (c : tie.Else-i-n) where
+  abbrev three : tie.Else-f-n
   three = c.before.before
 
   range_passed : let s = one (two three) in applies (check_at (list s) 2) ≡ false
-  range_passed = let s = one (two three) in passes (check_at (list s) 2) _ c.before.off.ensures c.if3.false
+  range_passed = let s = one (two three) in passes (check_at (list s) 2) _ c.before.off-i.ensures c.if-i-n.false
 
-fast-requires : tie.Need-fast-requires
-fast-requires c κs = let d = two (three c) in let s = one d in
-    (s.pre.0.0, (ranged s.args.reach.n s.args.bed.now (seen s.args.t.now) (ground d) (range_passed c), s.pre.1.1))
+fast-j-requires : tie.Need-fast-j-requires
+fast-j-requires c κs = let d = two (three c) in let s = one d in
+    record { room = s.requires.room.0; ranged = ranged s.args.reach.n s.args.bed.now (seen s.args.t.now) (ground d) (range_passed c); dry_depth = s.requires.wides.1 }
 
-returns-4 : tie.Need-returns-4
-returns-4 c = let g = c.before.before in let e = three g in let d = two e in
-    stops_at (list (one d)) 3 _ (bed_passed d, (rough_passed e, (range_passed g, tt))) c.before.fast.ensures c.if4.true
+returns-then-j-n : tie.Need-returns-then-j-n
+returns-then-j-n c = let g = c.before.before in let e = three g in let d = two e in
+    stops_at (list (one d)) 3 _ (bed_passed d, (rough_passed e, (range_passed g, tt))) c.before.fast-j.ensures c.if-j-n.true
 
-returns-5 : tie.Need-returns-5
-returns-5 c = let g = c.before.before in let e = three g in let d = two e in let s = one d in
+returns : tie.Need-returns
+returns c = let g = c.before.before in let e = three g in let d = two e in let s = one d in
     none_stops (list s) (
       bed_passed d,
       (
         rough_passed e,
         (
           range_passed g,
-          (passes (check_at (list s) 3) _ c.before.fast.ensures c.if4.false, tt),
+          (passes (check_at (list s) 3) _ c.before.fast-j.ensures c.if-j-n.false, tt),
         ),
       ),
     )
 
-pub ready-spec : {M : Type 1} → statement M
-ready-spec =
+pub ready_spec : {M : Type 1} → statement M
+ready_spec =
     tie.close
     (tie.spec
     (λ c κs. search rules)
-    returns
+    returns-then-z-n
     (λ c κs. search rules)
-    returns-2
-    off-requires
-    returns-3
-    fast-requires
-    returns-4
-    returns-5)
+    returns-then-f-n
+    off-i-requires
+    returns-then-i-n
+    fast-j-requires
+    returns-then-j-n
+    returns)

@@ -34,71 +34,71 @@ module _ (s : tie.Start) where
   abbrev n : ℕ
   n = length s.args.friction.now
 
-module _ (c : tie.Else1) where
+module _ (c : tie.Else-bad_lengths) where
   abbrev s : tie.Start
   s = c.before.before.before
 
   lengths : misfit (states s) (room s) (beds s) (n s) ≡ false
-  lengths = sym c.before.bad-lengths.ensures ∙ c.if1.false
+  lengths = sym c.before.bad_lengths.ensures ∙ c.if-bad_lengths.false
 
   fits : Fitted (states s) (room s) (beds s) (n s)
   fits = fitted (states s) (room s) (beds s) (n s) lengths
 
-returns : tie.Need-returns
-returns c = let b = c.before.before.before in let p = b.args in record {
+returns-then-bad_lengths : tie.Need-returns-then-bad_lengths
+returns-then-bad_lengths c = let b = c.before.before.before in let p = b.args in record {
   found = length_found p.state.now (room b) p.bed.now p.friction.now p.given
-      (sym c.before.bad-lengths.ensures ∙ c.if1.true);
+      (sym c.before.bad_lengths.ensures ∙ c.if-bad_lengths.true);
   some = omega arith;
   kept = refl;
 }
 
 -- ---- the numbers of the call, widened
-module _ (c : tie.After-bad-numbers) where
-  abbrev w4 : tie.After-widened4
+module _ (c : tie.After-bad_numbers) where
+  abbrev w4 : tie.After-widened-4
   w4 = c.before
 
-  abbrev w3 : tie.After-widened3
+  abbrev w3 : tie.After-widened-3
   w3 = w4.before
 
-  abbrev w2 : tie.After-widened2
+  abbrev w2 : tie.After-widened-2
   w2 = w3.before
 
   abbrev w1 : tie.After-widened
   w1 = w2.before.before.before
 
-  abbrev fit : tie.Else1
+  abbrev fit : tie.Else-bad_lengths
   fit = w1.before
 
   dx_is : rd w1.widened.result ≡ pos (s fit).args.given.dx
   dx_is = back64 w1.widened.ok w1.widened.ensures
 
-  dt_is : rd w2.widened2.result ≡ pos (s fit).args.given.dt
-  dt_is = back64 w2.widened2.ok w2.widened2.ensures
+  dt_is : rd w2.widened-2.result ≡ pos (s fit).args.given.dt
+  dt_is = back64 w2.widened-2.ok w2.widened-2.ensures
 
-  jump_is : rd w3.widened3.result ≡ pos (s fit).args.given.jump
-  jump_is = back64 w3.widened3.ok w3.widened3.ensures
+  jump_is : rd w3.widened-3.result ≡ pos (s fit).args.given.jump
+  jump_is = back64 w3.widened-3.ok w3.widened-3.ensures
 
-  dry_is : rd w4.widened4.result ≡ pos (s fit).args.given.dry
-  dry_is = back64 w4.widened4.ok w4.widened4.ensures
+  dry_is : rd w4.widened-4.result ≡ pos (s fit).args.given.dry
+  dry_is = back64 w4.widened-4.ok w4.widened-4.ensures
 
   abbrev rough : ℕ → ℤ
   rough i = pos (get_or (s fit).args.friction.now i 0)
 
   judged : let p = (s fit).args in
-      c.bad-numbers.result ≡ bad_call (reach_in (reach_by (n (s fit)) p.given) p.bed.now) (call_on (call_by p.given) rough)
-  judged = simp (dx_is, dt_is, jump_is, dry_is) at (c.bad-numbers.ensures (s fit).args.bed.now rough)
+      c.bad_numbers.result ≡ bad_call (reach_in (reach_by (n (s fit)) p.given) p.bed.now) (call_on (call_by p.given) rough)
+  judged = simp (dx_is, dt_is, jump_is, dry_is) at (c.bad_numbers.ensures (s fit).args.bed.now rough)
 
-returns-2 : tie.Need-returns-2
-returns-2 c = let m = c.before in let e = fit m in let p = (s e).args in record {
+returns-then-bad_numbers : tie.Need-returns-then-bad_numbers
+returns-then-bad_numbers c = let m = c.before in let e = fit m in let p = (s e).args in record {
   found = call_found p.state.now (room (s e)) p.bed.now p.friction.now p.given
-      (lengths e) (sym (judged m) ∙ c.if2.true);
+      (lengths e) (sym (judged m) ∙ c.if-bad_numbers.true);
   some = omega arith;
   kept = refl;
 }
 
 -- ---- a call in order
-module _ (e : tie.Else2) where
-  abbrev m : tie.After-bad-numbers
+module _ (e : tie.Else-bad_numbers) where
+  abbrev m : tie.After-bad_numbers
   m = e.before
 
   abbrev start : tie.Start
@@ -106,18 +106,18 @@ module _ (e : tie.Else2) where
 
   in_order : InOrder (record { n = n start; dx = rd (w1 m).widened.result })
       (record {
-        dt = rd (w2 m).widened2.result;
-        jump = rd (w3 m).widened3.result;
-        dry = rd (w4 m).widened4.result;
-        left = start.args.given.left;
-        right = start.args.given.right;
+        dt = rd (w2 m).widened-2.result;
+        jump = rd (w3 m).widened-3.result;
+        dry = rd (w4 m).widened-4.result;
+        left = start.args.given.left-1;
+        right = start.args.given.right-1;
       })
       start.args.bed.now
   in_order = let f = fits (fit m) in let bed = start.args.bed.now in record {
     some = f.some;
     most = f.most;
     beds = f.beds;
-    numbers = numbers _ _ bed (rough m) (sym (m.bad-numbers.ensures bed (rough m)) ∙ e.if2.left);
+    numbers = numbers _ _ bed (rough m) (sym (m.bad_numbers.ensures bed (rough m)) ∙ e.if-bad_numbers.left-1);
   }
 
   abbrev lent : Lent
@@ -128,33 +128,33 @@ module _ (e : tie.Else2) where
       ++ both_checks (reach_of lent) (call_of lent) (state_of lent))
   later = let p = start.args in
       later_checks p.state.now (room start) p.bed.now p.friction.now p.given
-      (lengths (fit m)) (sym (judged m) ∙ e.if2.left)
+      (lengths (fit m)) (sym (judged m) ∙ e.if-bad_numbers.left-1)
 
-short-step-requires : tie.Need-short-step-requires
-short-step-requires c κs = let e = c.before.before in let f = fits (fit (m e)) in (in_order e, f.now, f.next, refl)
+short_step-requires : tie.Need-short_step-requires
+short_step-requires c κs = let e = c.before.before in let f = fits (fit (m e)) in (in_order e, f.now, f.next-1, refl)
 
-returns-3 : tie.Need-returns-3
-returns-3 c = let e = c.before.before.before.before in let w = m e in
-    rw (later e) (simp (dx_is w, dt_is w, jump_is w, dry_is w) at c.before.short-step.ensures)
+returns-then-n-le-SHORT_CELLS : tie.Need-returns-then-n-le-SHORT_CELLS
+returns-then-n-le-SHORT_CELLS c = let e = c.before.before.before.before in let w = m e in
+    rw (later e) (simp (dx_is w, dt_is w, jump_is w, dry_is w) at c.before.short_step.ensures)
 
-long-step-requires : tie.Need-long-step-requires
-long-step-requires c κs = let e = c.before.before in let f = fits (fit (m e)) in (in_order e, f.now, f.next, refl)
+long_step-requires : tie.Need-long_step-requires
+long_step-requires c κs = let e = c.before.before in let f = fits (fit (m e)) in (in_order e, f.now, f.next-1, refl)
 
-returns-4 : tie.Need-returns-4
-returns-4 c = let e = c.before.before.before.before in let w = m e in
-    rw (later e) (simp (dx_is w, dt_is w, jump_is w, dry_is w) at c.before.long-step.ensures)
+returns : tie.Need-returns
+returns c = let e = c.before.before.before.before in let w = m e in
+    rw (later e) (simp (dx_is w, dt_is w, jump_is w, dry_is w) at c.before.long_step.ensures)
 
-pub work-spec : {M : Type 1} → statement M
-work-spec =
+pub work_spec : {M : Type 1} → statement M
+work_spec =
     tie.close
     (tie.spec
     (λ c κs. search rules)
-    returns
+    returns-then-bad_lengths
     (λ c κs. search rules) (λ c κs. search rules) (λ c κs. search rules) (λ c κs. search rules) (λ c κs. search rules)
-    returns-2
-    short-step-requires
+    returns-then-bad_numbers
+    short_step-requires
     (λ c. search rules)
-    returns-3
-    long-step-requires
+    returns-then-n-le-SHORT_CELLS
+    long_step-requires
     (λ c. search rules)
-    returns-4)
+    returns)

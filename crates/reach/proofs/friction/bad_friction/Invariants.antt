@@ -1,0 +1,18 @@
+-- Below i no value of the friction is over 200.
+use mathlib.Core.Bool.{Bool}
+use mathlib.Core.List.{List}
+use Prim.Native.Nat.{ℕ, ◌-◌}
+use lib.ListN.{get_or, length}
+use lib.IntN.{pos}
+use Rattle.rules.specs.Refusals.{bad_rough}
+use Rattle.tables.specs.Scan.{Scanned}
+use Rattle.reach.proofs.friction.bad_friction.Given as goal
+
+abbrev pub bad : List ℕ → ℕ → Bool
+bad friction k = bad_rough (pos (get_or friction k 0))
+
+abbrev pub invariant-loop-i : goal.invariant-loop-i
+invariant-loop-i l = Scanned (bad l.friction) (length l.friction) l.i
+
+abbrev pub decreases-loop-i : goal.decreases-loop-i
+decreases-loop-i l = length l.friction - l.i

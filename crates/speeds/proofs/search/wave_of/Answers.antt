@@ -1,0 +1,36 @@
+-- The wave speed that the search finds fits 64 bits with a sign: it is at most that of the deepest water.
+use mathlib.Core.Path.{◌≡◌, ◌∙◌, ap}
+use Prim.Native.Nat.{◌≤◌, ◌<◌, ◌^◌}
+use native.Mathlib.Omega.{arith}
+use lib.IntN.{pos, nat_abs}
+use lib.Signed.{yes_non_neg}
+use mir.Facts.{to_z-of_z}
+use Rattle.whole.specs.Parts.{of_le, b_nonneg}
+use Rattle.whole.specs.Machine.{as_whole}
+use Rattle.rules.specs.Face.{wave, wave_of}
+use Rattle.rules.specs.Laws.Speeds.{wave_most}
+use Rattle.speeds.proofs.search.wave_of.Goals as goal
+
+small : (s : goal.Start) → nat_abs s.args.h ≤ 262144
+small s = (b_nonneg s.requires.0 s.requires.1).abs
+
+pub overflow_cast-h : goal.overflow_cast-h
+overflow_cast-h c = simp (to_z-of_z, c.ranges.h) (yes_non_neg c.requires.0, omega (arith, small c))
+
+pub fastest_wave-requires : goal.fastest_wave-requires
+fastest_wave-requires c = simp (to_z-of_z, c.ranges.h) (small c)
+
+module _ (c : goal.After-fastest_wave) where
+  found : c.fastest_wave.result ≡ wave_of (nat_abs c.args.h)
+  found = simp (to_z-of_z, c.ranges.h) at c.fastest_wave.ensures
+
+  fits : c.fastest_wave.result < 2 ^ 63
+  unfolding wave
+  fits = let s = c.before in omega (arith, found, of_le (wave_most s.args.h (b_nonneg s.requires.0 s.requires.1)))
+
+pub overflow_cast-result : goal.overflow_cast-result
+overflow_cast-result c = record { sfits = fits c }
+
+pub returns : goal.returns
+unfolding wave
+returns c = as_whole c.fastest_wave.result (fits c) ∙ ap pos (found c)
