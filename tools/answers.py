@@ -340,7 +340,6 @@ def convert_tie(path,N,crate,func):
         if not mm: return
         b=to_record(mm[2],asked[o])
         t=t[:mm.start(2)]+b+t[mm.end(2):]
-    for name,(o,n) in need_new.items(): block(name,o)
     # types
     def ty(mm):
         w=mm[1]
@@ -361,8 +360,7 @@ def convert_tie(path,N,crate,func):
     head,sep,body=t.partition('Tie as tie\n')
     body=nots(chains(body,steps))
     body=body.replace('.well-formed','.well_formed').replace('.type-inv','.type_inv')
-    if N.get('pre'): body=proj(body,'requires',N['pre']['fields'])
-    else: body=re.sub(r'\.pre(?=[\s.(){},;]|$)','.requires',body)
+    body=re.sub(r'\.pre(?=[\s.(){},;]|$)','.requires',body)
     body=refs(body)
     if m:
         f=func.split('.')[-1]

@@ -10,6 +10,7 @@ use Rattle.double.specs.Face.{both_dry}
 use Rattle.double.specs.Parts.{Depth}
 use Rattle.double.proofs.face.Depths.{passed, refused, side_depth, wet_says}
 use Rattle.double.proofs.face.face.Goals as goal
+use Rattle.double.proofs.face.face.Goals.{then-hl+else-hr, else-hl}
 
 pub returns-then-not-side_ok : goal.returns-then-not-side_ok
 returns-then-not-side_ok c = simp (refused c.side_ok.ensures (ap not c.if-not-side_ok.true))
@@ -43,7 +44,7 @@ returns c =
     let r = d.before in
     let l = r.before.before in
     let a = l.args in
-    let dry : both_dry a.hl a.hr ≡ false = ? in
+    let dry : both_dry a.hl a.hr ≡ false = elim c.if-hl.branch [ then-hl+else-hr w ↦ simp (w.if-hl.true, w.if-hr.false) | else-hl w ↦ simp w.if-hl.false ] in
     wet_says a.hl a.ul a.hr a.ur c.wet.result
     (simp (passed l.side_ok.ensures (ap not l.if-not-side_ok.false), passed r.side_ok-2.ensures (ap not r.if-not-side_ok-2.false))) dry
     (simp (q.read_depth.ensures, c.read_depth-2.ensures) at c.wet.ensures)

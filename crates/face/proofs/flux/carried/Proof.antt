@@ -38,7 +38,7 @@ resting_is hl ul hr ur e =
     )
 
 abbrev depth : tie.Start → List Entry
-depth s = entry s.ranges.hl (depth_size s.requires.sound.0) ∷ []
+depth s = entry s.ranges.hl (depth_size s.requires.0.0) ∷ []
 
 overflow_mul-result : tie.Need-overflow_mul-result
 overflow_mul-result c = need (depth c.before.before) (v 0 ⊗ v 0) tt
@@ -46,9 +46,9 @@ overflow_mul-result c = need (depth c.before.before) (v 0 ⊗ v 0) tt
 returns-then-still : tie.Need-returns-then-still
 returns-then-still c =
     let s = c.before.before in let hl = s.args.hl in
-    let r = law.still hl s.requires.sound.0.least in
+    let r = law.still hl s.requires.0.0.least in
     carries _ _ _ _ (face (resting hl) (resting hl)) (sym r.F≡) (value (depth s) (v 0 ⊗ v 0) tt ∙ sym r.K≡) (sym r.A≡)
-    (to_z-of_z s.ranges.al ∙ s.requires.al_value.0 ∙ sym (law.still_top hl s.requires.sound.0.least))
+    (to_z-of_z s.ranges.al ∙ s.requires.1.0 ∙ sym (law.still_top hl s.requires.0.0.least))
     ∙ ap given (resting_is hl _ _ _ (sym (still_is c.before) ∙ c.if-still.true))
 
 -- ---- no water

@@ -98,7 +98,10 @@ module _ (c : tie.In-Is-wave_beside) where
 carried-requires : tie.Need-carried-requires
 carried-requires c κs =
     let s = start c in
-    rw (to_z-of_z s.ranges.hl, to_z-of_z s.ranges.ul, to_z-of_z s.ranges.hr, to_z-of_z s.ranges.ur) record { sound = (l_sound c, r_sound c); al_value = (back64 (left c).known_told-1.given.0.1 (al_told (left c)).1, back64 c.known_told-in-Is-wave_beside-1.given.0.1 (ar_told c).1) }
+    rw (to_z-of_z s.ranges.hl, to_z-of_z s.ranges.ul, to_z-of_z s.ranges.hr, to_z-of_z s.ranges.ur) (
+      (l_sound c, r_sound c),
+      (back64 (left c).known_told-1.given.0.1 (al_told (left c)).1, back64 c.known_told-in-Is-wave_beside-1.given.0.1 (ar_told c).1),
+    )
 
 enum_told-1 : tie.Need-enum_told-1
 enum_told-1 c = search rules

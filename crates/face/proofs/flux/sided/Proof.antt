@@ -55,12 +55,15 @@ module _ (c : tie.Else-sr-le0) where
 between-requires : tie.Need-between-requires
 between-requires c κs =
     let s = c.before.before.before in
-    simp (to_z-of_z, s.ranges.hl, s.ranges.ul, s.ranges.hr, s.ranges.ur, s.ranges.sl, s.ranges.sr) record { sound = s.requires.sound; apart = record {
+    simp (to_z-of_z, s.ranges.hl, s.ranges.ul, s.ranges.hr, s.ranges.ur, s.ranges.sl, s.ranges.sr) (
+      s.requires.0,
+      record {
         left = le_no (pos 0) s.args.sl (leftward c);
         right = le_no s.args.sr (pos 0) (rightward c);
-        s_l_in = s.requires.edges.s_l_in;
-        s_r_in = s.requires.edges.s_r_in;
-      } }
+        s_l_in = s.requires.1.s_l_in;
+        s_r_in = s.requires.1.s_r_in;
+      },
+    )
 
 returns : tie.Need-returns
 unfolding wet sided

@@ -19,7 +19,7 @@ use Rattle.friction.proofs.strength.drag_of.Tie as tie
 
 module _ (s : tie.Start) where
   depth : (least_dry <ℤ s.args.h) × (s.args.h ≤ℤ deepest)
-  depth = s.requires.least_dry_lt_h
+  depth = s.requires.1.1.0
 
   low : pos 0 ≤ℤ s.args.h
   low = lt_le (wet s.args.h depth.0 depth.1)
@@ -39,7 +39,7 @@ c_is : (t : tie.After-cube_of-c) → t.cube_of-c.result ≡ cube t.before.args.h
 c_is t = simp (to_z-of_z, t.before.ranges.h) at t.cube_of-c.ensures
 
 s_is : (t : tie.After-size-s) → t.size-s.result ≡ size_z t.before.before.args.u
-s_is t = let s = t.before.before in size-got (g_var s.ranges.u s.requires.up_to) t.size-s.ensures tt
+s_is t = let s = t.before.before in size-got (g_var s.ranges.u s.requires.1.1.1) t.size-s.ensures tt
 
 -- ---- dt, f, |u|, h and c
 module _ (size : tie.After-size-s) where
@@ -47,15 +47,15 @@ module _ (size : tie.After-size-s) where
   s = size.before.before
 
   size_in : UpTo fastest size.size-s.result
-  size_in = subst (UpTo fastest) (sym (s_is size)) (b_size s.args.u s.requires.up_to)
+  size_in = subst (UpTo fastest) (sym (s_is size)) (b_size s.args.u s.requires.1.1.1)
 
   cube_in : Within 16384 size.before.cube_of-c.result
   cube_in = subst (Within 16384) (sym (c_is size.before)) (cube_size s)
 
   abbrev env : List Entry
   env =
-      entry s.ranges.dt s.requires.pos_bound.1
-      ∷ entry s.ranges.f s.requires.pos_bound_2.1
+      entry s.ranges.dt s.requires.0.1
+      ∷ entry s.ranges.f s.requires.1.0.1
       ∷ entry (fit size_in tt) size_in
       ∷ entry s.ranges.h (deep s)
       ∷ entry (fit cube_in tt) cube_in

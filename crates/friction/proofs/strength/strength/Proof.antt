@@ -99,7 +99,7 @@ drag_of-requires : tie.Need-drag_of-requires
 drag_of-requires c κs =
     let e = third c in let f = second e in let k = read e in let a = at k in
     simp (to_z-of_z, dt k, rough k, h k, u k)
-    record { pos_bound = step_in a.dt (dt_fits (first f)); pos_bound_2 = rough_in a.rough (f_fits f); least_dry_lt_h = wet_in a.h (h_fits e); up_to = speed_in a.u (u_fits c) }
+    (step_in a.dt (dt_fits (first f)), (rough_in a.rough (f_fits f), (wet_in a.h (h_fits e), speed_in a.u (u_fits c))))
 
 returns : tie.Need-returns
 unfolding strength_given value_of

@@ -17,7 +17,7 @@ module _ (f : tie.After-left_side-first) where
   left_start = f.before.before.before
 
   first_sound : Sound (side_in f.left_side-first.result)
-  first_sound = let s = left_start in subst Sound (sym f.left_side-first.ensures) (s.requires.rows 0 s.requires.numbers.0.some).left
+  first_sound = let s = left_start in subst Sound (sym f.left_side-first.ensures) (s.requires.1 0 s.requires.0.0.some).left
 
 returns-then-i-eq0 : tie.Need-returns-then-i-eq0
 returns-then-i-eq0 c =
@@ -36,8 +36,8 @@ module _ (b : tie.After-right_side-before) where
 
   before_sound : Sound (side_in b.right_side-before.result)
   before_sound =
-      let s = start in let i = s.args.i - 1 in let l : i < s.args.call.n = omega (arith, else.if-i-eq0.left, s.requires.numbers) in
-      subst Sound (sym b.right_side-before.ensures) (s.requires.rows i l).right
+      let s = start in let i = s.args.i - 1 in let l : i < s.args.call.n = omega (arith, else.if-i-eq0.left, s.requires.0) in
+      subst Sound (sym b.right_side-before.ensures) (s.requires.1 i l).right
 
 returns-then-i-call : tie.Need-returns-then-i-call
 returns-then-i-call c =
@@ -50,8 +50,8 @@ returns-then-i-call c =
 crossing-requires-2 : tie.Need-crossing-requires-2
 crossing-requires-2 c κs =
     let e = c.before.before in let b = e.before.before in let s = start b in
-    let l : s.args.i < s.args.call.n = omega (arith, e.if-i-call.false, s.requires.numbers) in
-    (before_sound b, subst Sound (sym c.left_side.ensures) (s.requires.rows s.args.i l).left)
+    let l : s.args.i < s.args.call.n = omega (arith, e.if-i-call.false, s.requires.0) in
+    (before_sound b, subst Sound (sym c.left_side.ensures) (s.requires.1 s.args.i l).left)
 
 returns : tie.Need-returns
 returns c =

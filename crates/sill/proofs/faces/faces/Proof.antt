@@ -19,14 +19,14 @@ abbrev decreases-loop : tie.decreases-loop-i
 decreases-loop b call f₀ n i₀ f i = suc n - i
 
 face_at-x-requires : tie.Need-face_at-x-requires invariant-loop decreases-loop
-face_at-x-requires c κs = let p = c.before.before.requires in record { numbers = (p.0.0, p.0.1, c.loop-i-test.true); rows = p.1 }
+face_at-x-requires c κs = let p = c.before.before.requires in ((p.0.0, p.0.1, c.loop-i-test.true), p.1)
 
 -- what crosses face i, and whether the step is too long for it
 sized_here : (c : tie.After-face_at-x invariant-loop decreases-loop) → Sized (flux_in c.face_at-x.result)
 sized_here c =
     let e = c.before in let l = e.before in let s = l.before in
     subst Sized (sym c.face_at-x.ensures)
-    (cross_sized s.args.call s.args.b.now s.requires.numbers.0 s.requires.rows l.loop-i.i e.loop-i-test.true)
+    (cross_sized s.args.call s.args.b.now s.requires.0.0 s.requires.1 l.loop-i.i e.loop-i-test.true)
 
 -- the turn of a face
 module _ (c : tie.After-too_long invariant-loop decreases-loop) where
@@ -50,13 +50,13 @@ module _ (c : tie.After-too_long invariant-loop decreases-loop) where
 returns-then-too_long : tie.Need-returns-then-too_long invariant-loop decreases-loop
 returns-then-too_long c =
     let t = c.before in let e = turn t in let l = e.before in
-    fill_stops [] _ _ _ _ l.loop-i.f l.loop-i.i _ (start t).requires.numbers.2 (omega (arith, e.loop-i-test.taken)) l.loop-i.inv
+    fill_stops [] _ _ _ _ l.loop-i.f l.loop-i.i _ (start t).requires.0.2 (omega (arith, e.loop-i-test.taken)) l.loop-i.inv
     (row_here t) (long_here t ∙ c.if-too_long.true)
 
 loop-i-preserved : tie.Need-loop-i-preserved invariant-loop decreases-loop
 loop-i-preserved c =
     let t = c.before in let e = turn t in let l = e.before in
-    fill_more [] _ _ _ _ l.loop-i.f l.loop-i.i _ (start t).requires.numbers.2 (omega (arith, e.loop-i-test.taken)) l.loop-i.inv
+    fill_more [] _ _ _ _ l.loop-i.f l.loop-i.i _ (start t).requires.0.2 (omega (arith, e.loop-i-test.taken)) l.loop-i.inv
     (row_here t) (long_here t ∙ c.if-too_long.false)
 
 returns : tie.Need-returns invariant-loop decreases-loop
@@ -71,9 +71,9 @@ faces_spec =
     decreases-loop
     (λ c. fill_none [] _ _ _ c.args.f.now)
     face_at-x-requires
-    (λ c κs. (sized_here c, c.before.before.before.requires.numbers.0))
+    (λ c κs. (sized_here c, c.before.before.before.requires.0.0))
     (λ c. search rules) (λ c. search rules)
-    (λ c κs. let f = c.before in (sized_here f, f.before.before.before.requires.numbers.0))
+    (λ c κs. let f = c.before in (sized_here f, f.before.before.before.requires.0.0))
     (λ c. search rules)
     returns-then-too_long
     (λ c. search rules) (λ c. omega arith)

@@ -16,9 +16,9 @@ speed-requires c κs = search rules
 answer : (c : tie.After-speed) → let a = c.before.args in value_of c.speed.result ≡ given (speed a.dry a.q a.h)
 answer c =
     let s = c.before in
-    let depth = s.requires.pos_bound in
+    let depth = s.requires.1.0 in
     (simp (to_z-of_z, s.ranges.q, s.ranges.h, s.ranges.dry) at c.speed.ensures)
-    ∙ speed_given_lem s.args.q s.args.h s.args.dry s.requires.up_to depth.0 depth.1 s.requires.dry_depth
+    ∙ speed_given_lem s.args.q s.args.h s.args.dry s.requires.0 depth.0 depth.1 s.requires.1.1
 
 enum_known-u : tie.Need-enum_known-u
 enum_known-u c = search rules

@@ -22,7 +22,7 @@ module _ (s : tie.Start) where
   bed = s.args.bed.now
 
   inside : Inside (get_or bed s.args.i (pos 0)) pool
-  inside = s.requires.inside
+  inside = s.requires.1
 
   sizes : PoolSizes (get_or bed s.args.i (pos 0)) pool
   sizes = pool_sizes inside
@@ -38,7 +38,7 @@ module _ (a : tie.After-over-arg-1) where
 over-l-requires : tie.Need-over-l-requires
 over-l-requires c κs = let s = from_left c in
     rw (left_is c, back c.over-arg-1.given)
-    (left_size s.args.call (bed s) s.requires.numbers.2 s.args.i s.requires.numbers.1, (pool_wide (inside s)).e)
+    (left_size s.args.call (bed s) s.requires.0.2 s.args.i s.requires.0.1, (pool_wide (inside s)).e)
 
 module _ (a : tie.After-over-arg-2-1) where
   abbrev first : tie.After-over-arg-1
@@ -53,7 +53,7 @@ module _ (a : tie.After-over-arg-2-1) where
 over-r-requires : tie.Need-over-r-requires
 over-r-requires c κs = let s = from_right c in
     rw (right_is c, back c.over-arg-2-1.given)
-    (right_size s.args.call (bed s) s.requires.numbers.2 s.args.i s.requires.numbers.1, (pool_wide (inside s)).e)
+    (right_size s.args.call (bed s) s.requires.0.2 s.args.i s.requires.0.1, (pool_wide (inside s)).e)
 
 -- ---- the speed
 module _ (b : tie.After-bed_at) where
@@ -77,7 +77,7 @@ speed_of-u-requires : tie.Need-speed_of-u-requires
 speed_of-u-requires c κs =
     let d = c.before in let s = start d.before in let k = sizes s in
     rw (back d.before.before.speed_of-arg-1.given, h_is d, back {z = s.args.call.dry} c.struct_told-1.given.1.1.0.1)
-    record { up_to = k.flow; pos_bound = (k.least, k.most); dry_depth = s.requires.numbers.0.dry }
+    (k.flow, ((k.least, k.most), s.requires.0.0.dry))
 
 returns : tie.Need-returns
 unfolding over pace

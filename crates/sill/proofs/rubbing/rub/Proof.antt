@@ -66,7 +66,7 @@ module _ (a : tie.After-speed_of-arg-1 invariant-loop decreases-loop) where
   cell = pool_in start.args.call.n start.args.state.now i
 
   inside : Inside z cell
-  inside = start.requires.smooth.1 i turn.loop-i-test.taken
+  inside = start.requires.1.1 i turn.loop-i-test.taken
 
   z_is : rd bedded.bed_at-z.result ≡ z
   z_is = back64 bedded.bed_at-z.ok bedded.bed_at-z.ensures
@@ -98,7 +98,13 @@ module _ (k : tie.After-struct_told-1 invariant-loop decreases-loop) where
   dry_is = back {z = (start here).args.call.dry} k.struct_told-1.given.1.1.0.1
 
 speed_of-u-requires : tie.Need-speed_of-u-requires invariant-loop decreases-loop
-speed_of-u-requires c κs = let m = pool_sizes (inside (here c)) in record { up_to = subst (UpTo fullest) (sym (q_is c)) m.flow; pos_bound = subst (λ (h : ℤ). (pos 0 ≤ℤ h) × (h ≤ℤ deepest)) (sym (h_is c)) (m.least, m.most); dry_depth = subst DryDepth (sym (dry_is c)) (start (here c)).requires.numbers.0.dry }
+speed_of-u-requires c κs = let m = pool_sizes (inside (here c)) in (
+  subst (UpTo fullest) (sym (q_is c)) m.flow,
+  (
+    subst (λ (h : ℤ). (pos 0 ≤ℤ h) × (h ≤ℤ deepest)) (sym (h_is c)) (m.least, m.most),
+    subst DryDepth (sym (dry_is c)) (start (here c)).requires.0.0.dry,
+  ),
+)
 
 -- ---- the test of this turn
 module _ (t : tie.After-past invariant-loop decreases-loop) where
@@ -123,7 +129,7 @@ module _ (t : tie.After-past invariant-loop decreases-loop) where
   fast_here = sym (t.past.ensures ∙ ap (past fastest) u_is)
 
 pool_of-x-requires : tie.Need-pool_of-x-requires invariant-loop decreases-loop
-pool_of-x-requires c κs = let s = c.before.before.before in (s.requires.numbers.0.most, c.loop-i-test.true, s.requires.numbers.2)
+pool_of-x-requires c κs = let s = c.before.before.before in (s.requires.0.0.most, c.loop-i-test.true, s.requires.0.2)
 
 returns-then-past : tie.Need-returns-then-past invariant-loop decreases-loop
 returns-then-past c =
@@ -155,11 +161,20 @@ module _ (r : tie.After-rough_at invariant-loop decreases-loop) where
 
 rubbed_pool-requires : tie.Need-rubbed_pool-requires invariant-loop decreases-loop
 rubbed_pool-requires c κs =
-    let a = at c in let s = start a in let x = as_pool (read a).pool_of-x.result in record { numbers = s.requires.numbers.0; pos_bound = subst (λ (f : ℤ). (pos 0 ≤ℤ f) × UpTo roughest f) (sym (rough_is c))
-            (nat_nonneg _, record { abs = s.requires.smooth.0 (i a) (turn a).loop-i-test.taken }); inside = subst (λ (b : ℤ). Inside b x) (sym (z_is a)) (subst (Inside (z a)) (sym (cell_is a)) (inside a)); u_value = (
+    let a = at c in let s = start a in let x = as_pool (read a).pool_of-x.result in (
+      s.requires.0.0,
+      (
+        subst (λ (f : ℤ). (pos 0 ≤ℤ f) × UpTo roughest f) (sym (rough_is c))
+            (nat_nonneg _, record { abs = s.requires.1.0 (i a) (turn a).loop-i-test.taken }),
+        (
+          subst (λ (b : ℤ). Inside b x) (sym (z_is a)) (subst (Inside (z a)) (sym (cell_is a)) (inside a)),
+          (
             u_is (tried c) ∙ sym (λ j. pace (dry c) (z_is a j) (cell_is a j)),
             (λ j. fast_pool (dry c) (z_is a j) (cell_is a j)) ∙ slow c,
-          ) }
+          ),
+        ),
+      ),
+    )
 
 module _ (y : tie.After-rubbed_pool invariant-loop decreases-loop) where
   abbrev roughened : tie.After-rough_at invariant-loop decreases-loop
@@ -179,12 +194,12 @@ module _ (y : tie.After-rubbed_pool invariant-loop decreases-loop) where
       ∙ (λ j. rubbed_pool given.dt given.dry (rough_is roughened j) (z_is own j) (cell_is own j))
 
   end_inside : Inside (z own) end
-  end_inside = let num = (start own).requires.numbers.0 in
+  end_inside = let num = (start own).requires.0.0 in
       rubbed_inside given.dt given.dry (rough roughened) (z own) (cell own) num.dt_pos num.dry.least (inside own)
 
 row_of-requires : tie.Need-row_of-requires invariant-loop decreases-loop
 row_of-requires c κs = let o = own c in let s = start o in
-    record { numbers = (s.requires.numbers.0, (turn o).loop-i-test.taken, s.requires.numbers.1); inside = subst (Inside (z o)) (sym (end_is c)) (end_inside c) }
+    ((s.requires.0.0, (turn o).loop-i-test.taken, s.requires.0.1), subst (Inside (z o)) (sym (end_is c)) (end_inside c))
 
 row_is : (w : tie.After-row_of invariant-loop decreases-loop) → let o = own w.before in let p = (start o).args in
     w.row_of.result ≡ row p.state.now p.bed.now p.friction.now p.call (i o)
@@ -195,7 +210,7 @@ row_is w = let y = w.before in let o = own y in let p = (start o).args in
 loop-i-preserved : tie.Need-loop-i-preserved invariant-loop decreases-loop
 loop-i-preserved c =
     let y = c.before in let r = roughened y in let t = tried r in let e = turn (own y) in let l = e.before in let v = l.loop-i.inv in
-    let room : l.loop-i.i < length l.loop-i.b = omega (arith, v.1, (start (own y)).requires.numbers.3, e.loop-i-test.taken) in (
+    let room : l.loop-i.i < length l.loop-i.b = omega (arith, v.1, (start (own y)).requires.0.3, e.loop-i-test.taken) in (
       scan_more v.0 e.loop-i-test.taken (fast_here t) r.before.if-past.left,
       length-set l.loop-i.b l.loop-i.i _ ∙ v.1,
       written_more [] l.loop-i.b l.loop-i.i _ _ room v.2 (row_is c),

@@ -30,7 +30,7 @@ module _ (s : tie.Start) where
   pool = as_pool s.args.t4
 
   inside : Inside s.args.z pool
-  inside = s.requires.inside
+  inside = s.requires.1.1.0
 
 depth_of-h-requires : tie.Need-depth_of-h-requires
 depth_of-h-requires c κs = rw (to_z-of_z c.ranges.z) ((inside c).ground, pool_wide (inside c))
@@ -72,7 +72,7 @@ module _ (s : tie.Start) where
   wet_left : shallow s.args.call.dry s.args.z (pool s) ≡ false
       → end.q ≡ slowed (drag s.args.call.dt s.args.f (depth s.args.z (pool s)) s.args.u) (pool s).q
   unfolding rubbed_pool pace
-  wet_left e = let told = s.pre.1.1 in rw (e, told.1.0)
+  wet_left e = let told = s.requires.1.1 in rw (e, told.1.0)
 
 returns-then-h-call : tie.Need-returns-then-h-call
 returns-then-h-call c =
@@ -100,22 +100,22 @@ module _ (c : tie.After-struct_told-2-1) where
 
   low : least_dry <ℤ depth start.args.z (pool start)
   low = let s = start in
-      le_lt_trans s.requires.numbers.dry.least (le_no (depth s.args.z (pool s)) s.args.call.dry wet)
+      le_lt_trans s.requires.0.dry.least (le_no (depth s.args.z (pool s)) s.args.call.dry wet)
 
   slow : past fastest start.args.u ≡ false
   unfolding fast_pool
-  slow = let told = start.pre.1.1 in ap (past fastest) told.1.0 ∙ told.1.1
+  slow = let told = start.requires.1.1 in ap (past fastest) told.1.0 ∙ told.1.1
 
 slowed_of-requires : tie.Need-slowed_of-requires
 slowed_of-requires c κs =
-    let s = start c in let num = s.requires.numbers in let k = pool_sizes (inside s) in
+    let s = start c in let num = s.requires.0 in let k = pool_sizes (inside s) in
     simp (to_z-of_z, fit num.dt_in tt, s.ranges.f, s.ranges.u, fit k.flow tt, h_is (shown c))
-    record { pos_bound = (num.dt_pos, num.dt_in); pos_bound_2 = s.requires.pos_bound; least_dry_lt_h = (low c, k.most); up_to = (within_past 131072 s.args.u (slow c), k.flow) }
+    ((num.dt_pos, num.dt_in), (s.requires.1.0, ((low c, k.most), (within_past 131072 s.args.u (slow c), k.flow))))
 
 returns : tie.Need-returns
 unfolding rubbed_pool
 returns c =
-    let k = c.before in let s = start k in let num = s.requires.numbers in let m = pool_sizes (inside s) in
+    let k = c.before in let s = start k in let num = s.requires.0 in let m = pool_sizes (inside s) in
     let q = (simp (to_z-of_z, fit num.dt_in tt, s.ranges.f, s.ranges.u, fit m.flow tt, h_is (shown k)) at c.slowed_of.ensures)
     ∙ sym (wet_left s (wet k)) in
     λ j. to_z-of_z (fit m.level tt) j ∷ back64 c.slowed_of.type_inv q j ∷ []

@@ -24,15 +24,15 @@ module _ (s : tie.Start) where
   strong = drag s.args.dt s.args.f s.args.h s.args.u
 
   strong_in : (pos 0 ≤ℤ strong) × UpTo strongest strong
-  strong_in = let a = s.args in let rest = s.pre.1.1 in let wet = rest.0 in let fast = rest.1.0 in (
-    drag_nonneg a.dt a.f a.h a.u s.requires.pos_bound.0 (lt_le (le_lt_trans (le_lit (pos 0) least_dry tt) wet.0)),
-    drag_most a.h wet.0 wet.1 a.dt a.f a.u s.requires.pos_bound.1 s.requires.pos_bound_2.1 fast,
+  strong_in = let a = s.args in let rest = s.requires.1.1 in let wet = rest.0 in let fast = rest.1.0 in (
+    drag_nonneg a.dt a.f a.h a.u s.requires.0.0 (lt_le (le_lt_trans (le_lit (pos 0) least_dry tt) wet.0)),
+    drag_most a.h wet.0 wet.1 a.dt a.f a.u s.requires.0.1 s.requires.1.0.1 fast,
   )
 
 strength_is : (c : tie.After-strength) → value_of c.strength.result ≡ given (strong c.before)
 strength_is c = let s = c.before in let a = s.args in let rest = s.requires.1 in
     (simp (to_z-of_z, s.ranges.dt, s.ranges.f, s.ranges.h, s.ranges.u) at c.strength.ensures)
-    ∙ strength_given_lem a.dt a.f a.h a.u s.requires.pos_bound rest.0 rest.1.0 rest.1.1.0
+    ∙ strength_given_lem a.dt a.f a.h a.u s.requires.0 rest.0 rest.1.0 rest.1.1.0
 
 -- the strength that was answered
 module _ (x : tie.After-slowed) where
@@ -48,7 +48,7 @@ module _ (x : tie.After-slowed) where
 
   left_is : let s = worked.before in value_of x.slowed.result ≡ given (slowed (strong s) s.args.q)
   left_is = let s = worked.before in
-      let rest = s.pre.1.1 in
+      let rest = s.requires.1.1 in
       (rw (x_is, to_z-of_z s.ranges.q) at x.slowed.ensures) ∙ slowed_given_lem (strong s) s.args.q (strong_in s) rest.1.1
 
 returns-in-Is-slowed : tie.Need-returns-in-Is-slowed

@@ -13,11 +13,11 @@ use Rattle.sill.proofs.update.flow_of.Statement.{statement}
 use Rattle.sill.proofs.update.flow_of.Tie as tie
 
 abbrev given : (s : tie.Start) → Numbers s.args.call
-given s = s.requires.up_to.1
+given s = s.requires.1.1
 
 -- the five numbers of the line, in their order, and then others
 abbrev and_then : tie.Start → List Entry → List Entry
-and_then s l = let rows = s.requires.row in
+and_then s l = let rows = s.requires.0 in
     sized rows.0.q tt ∷ sized rows.1.A tt ∷ sized rows.2.A tt ∷ sized (given s).dx_in tt ∷ sized (given s).dt_in tt ∷ l
 
 abbrev env : tie.Start → List Entry
@@ -42,7 +42,7 @@ overflow_add-result c = need (env c.before.before.before.before.before.before.be
 
 thrust_of-requires : tie.Need-thrust_of-requires
 thrust_of-requires c κs =
-    let s = c.before.before.before.before.before.before.before in rw (to_z-of_z s.ranges.e) s.requires.up_to
+    let s = c.before.before.before.before.before.before.before in rw (to_z-of_z s.ranges.e) s.requires.1
 
 -- what the call gave
 abbrev start : tie.After-thrust_of → tie.Start
@@ -54,7 +54,7 @@ moved c = let s = start c in rw (to_z-of_z s.ranges.e) at c.thrust_of.ensures
 moved_size : (c : tie.After-thrust_of) → UpTo most_thrust c.thrust_of.result-1
 moved_size c =
     let s = start c in
-    subst (UpTo most_thrust) (sym (moved c)) (thrust_size _ _ _ s.requires.up_to.0 (given s).dx_pos (given s).dt_in)
+    subst (UpTo most_thrust) (sym (moved c)) (thrust_size _ _ _ s.requires.1.0 (given s).dx_pos (given s).dt_in)
 
 abbrev after : tie.After-thrust_of → List Entry
 after c = and_then (start c) (sized (moved_size c) tt ∷ [])

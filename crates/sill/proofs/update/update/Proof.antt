@@ -55,18 +55,18 @@ module _ (u : tie.After-updated invariant-loop decreases-loop) where
       (get_or a.f.now (next j) [])))
 
   moved_wide : Wide moved
-  moved_wide = let s = start in let num = s.requires.numbers.0 in let below = turn.loop-i-test.taken in
-      let rows = s.requires.rows in
+  moved_wide = let s = start in let num = s.requires.0.0 in let below = turn.loop-i-test.taken in
+      let rows = s.requires.1.1 in
       update_wide s.args.call.dx s.args.call.dt (rows.0 i below) (rows.1 i (omega arith))
       (rows.1 (suc i) (omega arith)) num.dx_pos num.dt_in
 
   ground : UpTo highest_bed (rd read.bed_at-z.result)
-  ground = subst (UpTo highest_bed) (sym z_is) (start.requires.numbers.1 i turn.loop-i-test.taken)
+  ground = subst (UpTo highest_bed) (sym z_is) (start.requires.0.1 i turn.loop-i-test.taken)
 
 updated-requires : tie.Need-updated-requires invariant-loop decreases-loop
 updated-requires c κs =
-    let e = c.before.before.before.before in let l = e.before in let s = l.before in let i = l.loop-i.i in let rows = s.requires.rows in
-    record { row = (rows.0 i e.loop-i-test.true, rows.1 i (omega arith), rows.1 (i + 1) (omega arith)); numbers = s.requires.numbers.0 }
+    let e = c.before.before.before.before in let l = e.before in let s = l.before in let i = l.loop-i.i in let rows = s.requires.1.1 in
+    ((rows.0 i e.loop-i-test.true, rows.1 i (omega arith), rows.1 (i + 1) (omega arith)), s.requires.0.0)
 
 dried-x-requires : tie.Need-dried-x-requires invariant-loop decreases-loop
 dried-x-requires c κs = let u = c.before in
@@ -103,13 +103,13 @@ off_here o = let d = o.before in sym (o.off_pool.ensures ∙ (λ j. off_pool (z_
 returns-then-off_pool : tie.Need-returns-then-off_pool invariant-loop decreases-loop
 returns-then-off_pool c =
     let o = c.before in let d = o.before in let t = turn (moving d) in let l = t.before in
-    fill_stops [] _ _ _ _ l.loop-i.a l.loop-i.i _ (begun d).requires.n_in_bounds.2 t.loop-i-test.taken l.loop-i.inv
+    fill_stops [] _ _ _ _ l.loop-i.a l.loop-i.i _ (begun d).requires.1.0.2 t.loop-i-test.taken l.loop-i.inv
     (end_is d) (off_here o ∙ c.if-off_pool.true)
 
 loop-i-preserved : tie.Need-loop-i-preserved invariant-loop decreases-loop
 loop-i-preserved c =
     let o = c.before in let d = o.before in let t = turn (moving d) in let l = t.before in
-    fill_more [] _ _ _ _ l.loop-i.a l.loop-i.i _ (begun d).requires.n_in_bounds.2 t.loop-i-test.taken l.loop-i.inv
+    fill_more [] _ _ _ _ l.loop-i.a l.loop-i.i _ (begun d).requires.1.0.2 t.loop-i-test.taken l.loop-i.inv
     (end_is d) (off_here o ∙ c.if-off_pool.false)
 
 pub update_spec : {M : Type 1} → statement M

@@ -29,7 +29,7 @@ module _ (e : tie.Else-k-ne0) where
 
 on_tables-requires : tie.Need-on_tables-requires
 on_tables-requires c κs = let e = c.before.before.before.before in let s = start (checked e) in let w = s.requires.0.most in
-    record { numbers = s.requires; n_in_bounds = (omega (arith, w), omega (arith, w), omega (arith, w)); clear = clear e }
+    (s.requires, ((omega (arith, w), omega (arith, w), omega (arith, w)), clear e))
 
 pub long_step_spec : {M : Type 1} → statement M
 long_step_spec =

@@ -35,12 +35,18 @@ module _ (s : tie.Start) where
   state = s.args.state.now
 
   clear : Clear (ready_checks call.n bed friction state)
-  clear = s.requires.clear
+  clear = s.requires.1.1
 
 stage-m-requires : tie.Need-stage-m-requires
 stage-m-requires c κs =
     let s = c.before.before.before.before in let k = clear s in
-    let n = (call s).n in let z = bed s in let f = friction s in let t = state s in let room = s.requires.n_in_bounds in record { numbers = (s.requires.numbers.0, s.requires.numbers.1.state_is); n_in_bounds = (omega (arith, room), omega (arith, room), omega (arith, room)); grounds = (lent_grounds n z f t k, lent_smooth n z f t k, lent_ranged n z f t k) }
+    let n = (call s).n in let z = bed s in let f = friction s in let t = state s in let room = s.requires.1.0 in (
+      (s.requires.0.0, s.requires.0.1.state_is),
+      (
+        (omega (arith, room), omega (arith, room), omega (arith, room)),
+        (lent_grounds n z f t k, lent_smooth n z f t k, lent_ranged n z f t k),
+      ),
+    )
 
 -- ---- the stage
 module _ (m : tie.After-stage-m) where
@@ -76,17 +82,17 @@ module _ (h : tie.Else-m-ne0) where
 
 store-requires : tie.Need-store-requires
 store-requires c κs = let h = c.before.before in let m = made h in let s = opened m in
-    record { n_in_bounds = (omega (arith, m.stage-m.kept, s.requires.n_in_bounds), s.requires.numbers.0.most, s.requires.numbers.1.next_is); by_index = fits h }
+    ((omega (arith, m.stage-m.kept, s.requires.1.0), s.requires.0.0.most, s.requires.0.1.next_is), fits h)
 
 module _ (t : tie.After-store) where
   abbrev last : tie.Else-m-ne0
   last = t.before.before.before
 
 volume_at-requires : tie.Need-volume_at-requires
-volume_at-requires c κs = let m = made (last c.before.before) in omega (arith, m.stage-m.kept, (opened m).requires.n_in_bounds)
+volume_at-requires c κs = let m = made (last c.before.before) in omega (arith, m.stage-m.kept, (opened m).requires.1.0)
 
 volume_at-requires-2 : tie.Need-volume_at-requires-2
-volume_at-requires-2 c κs = let m = made (last c.before.before.before.before) in omega (arith, m.stage-m.kept, (opened m).requires.n_in_bounds)
+volume_at-requires-2 c κs = let m = made (last c.before.before.before.before) in omega (arith, m.stage-m.kept, (opened m).requires.1.0)
 
 -- ---- the end
 abbrev stored : tie.After-volume_at-2 → tie.After-store

@@ -31,7 +31,7 @@ on_tables-requires : tie.Need-on_tables-requires
 on_tables-requires c κs =
     let e = c.before.before.before.before in let s = start (checked e) in
     let w = s.requires.1.state_is in let l = (checked e).before.if-state.false in
-    record { numbers = s.requires; n_in_bounds = (omega (arith, w, l), omega (arith, w, l), omega (arith, w, l)); clear = clear e }
+    (s.requires, ((omega (arith, w, l), omega (arith, w, l), omega (arith, w, l)), clear e))
 
 pub short_step_spec : {M : Type 1} → statement M
 short_step_spec =

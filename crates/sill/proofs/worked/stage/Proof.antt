@@ -29,8 +29,8 @@ module _ (w : tie.After-rub-fast) where
   said = w.rub-fast.ensures
 
 rub-fast-requires : tie.Need-rub-fast-requires
-rub-fast-requires c κs = let s = c.before.before in let tables = s.requires.grounds in
-    record { numbers = (s.requires.numbers.0, tables.0, s.requires.numbers.1, s.requires.n_in_bounds.0); smooth = (tables.1, tables.2) }
+rub-fast-requires c κs = let s = c.before.before in let tables = s.requires.1.1 in
+    ((s.requires.0.0, tables.0, s.requires.0.1, s.requires.1.0.0), (tables.1, tables.2))
 
 -- what the law of the stage asks
 module _ (s : tie.Start) where
@@ -47,11 +47,11 @@ module _ (s : tie.Start) where
   state = s.args.state.now
 
   ranged : Ranged bed call.n state
-  ranged = s.requires.grounds.2
+  ranged = s.requires.1.1.2
 
 returns-then-fast-n : tie.Need-returns-then-fast-n
 returns-then-fast-n c = let w = c.before.before in let s = start w in record {
-  found = fast_stops (call s) s.requires.numbers.0 (bed s) (friction s) (state s) (ranged s) (said w) c.if-fast-n.true;
+  found = fast_stops (call s) s.requires.0.0 (bed s) (friction s) (state s) (ranged s) (said w) c.if-fast-n.true;
   done = λ z. let y : ⊥ = omega arith in absurd y;
 }
 
@@ -62,15 +62,15 @@ module _ (e : tie.Else-fast-n) where
 
   rows : Rows (b rubbed) (call (start rubbed)).n
   rows = let s = start rubbed in
-      rows_in (call s) s.requires.numbers.0 (bed s) (friction s) (state s) (ranged s) (said rubbed) e.if-fast-n.left
+      rows_in (call s) s.requires.0.0 (bed s) (friction s) (state s) (ranged s) (said rubbed) e.if-fast-n.left
 
 faces-long-requires : tie.Need-faces-long-requires
 faces-long-requires c κs = let e = c.before.before in let s = start (rubbed e) in
-    record { numbers = (s.requires.numbers.0, omega (arith, (rubbed e).rub-fast.auto, s.requires.n_in_bounds), omega (arith, s.requires.n_in_bounds)); rows = rows e }
+    ((s.requires.0.0, omega (arith, (rubbed e).rub-fast.auto, s.requires.1.0), omega (arith, s.requires.1.0)), rows e)
 
 returns-then-long-n : tie.Need-returns-then-long-n
 returns-then-long-n c = let g = c.before.before in let e = g.before.before.before in let s = start (rubbed e) in record {
-  found = long_stops (call s) s.requires.numbers.0 (bed s) (friction s) (state s) (ranged s) (said (rubbed e)) e.if-fast-n.false
+  found = long_stops (call s) s.requires.0.0 (bed s) (friction s) (state s) (ranged s) (said (rubbed e)) e.if-fast-n.false
       g.faces-long.ensures c.if-long-n.true;
   done = λ z. let y : ⊥ = omega arith in absurd y;
 }
@@ -92,28 +92,34 @@ module _ (t : tie.Else-long-n) where
 
   face_rows : FaceRows f (call begun).n
   face_rows = let s = begun in
-      faces_in (call s) s.requires.numbers.0 (bed s) (friction s) (state s) (ranged s) (said (rubbed slow)) slow.if-fast-n.left
+      faces_in (call s) s.requires.0.0 (bed s) (friction s) (state s) (ranged s) (said (rubbed slow)) slow.if-fast-n.left
       faced.faces-long.ensures t.if-long-n.left
 
 update-off-requires : tie.Need-update-off-requires
-update-off-requires c κs = let t = c.before.before.before in let s = begun t in let e = slow t in record { numbers = (s.requires.numbers.0, s.requires.grounds.0); n_in_bounds = (
-      omega (arith, (rubbed e).rub-fast.kept, s.requires.n_in_bounds),
-      omega (arith, (faced t).faces-long.auto, s.requires.n_in_bounds),
-      omega (arith, s.requires.n_in_bounds),
-    ); rows = (rows e, face_rows t) }
+update-off-requires c κs = let t = c.before.before.before in let s = begun t in let e = slow t in (
+  (s.requires.0.0, s.requires.1.1.0),
+  (
+    (
+      omega (arith, (rubbed e).rub-fast.kept, s.requires.1.0),
+      omega (arith, (faced t).faces-long.auto, s.requires.1.0),
+      omega (arith, s.requires.1.0),
+    ),
+    (rows e, face_rows t),
+  ),
+)
 
 returns-then-off-n : tie.Need-returns-then-off-n
 returns-then-off-n c = let u = c.before.before in let t = u.before.before.before.before in let s = begun t in let e = slow t in record {
-  found = off_stops (call s) s.requires.numbers.0 (bed s) (friction s) (state s) (ranged s) (said (rubbed e)) e.if-fast-n.left
+  found = off_stops (call s) s.requires.0.0 (bed s) (friction s) (state s) (ranged s) (said (rubbed e)) e.if-fast-n.left
       (faced t).faces-long.ensures t.if-long-n.false u.update-off.ensures c.if-off-n.true;
   done = λ z. let y : ⊥ = omega arith in absurd y;
 }
 
 returns : tie.Need-returns
 returns c = let u = c.before.before in let t = u.before.before.before.before in let s = begun t in let e = slow t in record {
-  found = none_found (call s) s.requires.numbers.0 (bed s) (friction s) (state s) (ranged s) (said (rubbed e)) e.if-fast-n.left
+  found = none_found (call s) s.requires.0.0 (bed s) (friction s) (state s) (ranged s) (said (rubbed e)) e.if-fast-n.left
       (faced t).faces-long.ensures t.if-long-n.false u.update-off.ensures c.if-off-n.false;
-  done = λ z. stage_done (call s) s.requires.numbers.0 (bed s) (friction s) (state s) (ranged s) (said (rubbed e)) e.if-fast-n.left
+  done = λ z. stage_done (call s) s.requires.0.0 (bed s) (friction s) (state s) (ranged s) (said (rubbed e)) e.if-fast-n.left
       (faced t).faces-long.ensures t.if-long-n.false u.update-off.ensures c.if-off-n.false;
 }
 

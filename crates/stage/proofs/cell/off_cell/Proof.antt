@@ -68,7 +68,7 @@ module _ (c : tie.After-off_depths) where
 
 off_depths-requires : tie.Need-off_depths-requires
 off_depths-requires c κs = let s = c.before.before.before in
-    let w : Unfinished (bed s) (cell s) = record { ground = s.requires.ground; wide = s.requires.wide } in (
+    let w : Unfinished (bed s) (cell s) = record { ground = s.requires.0; wide = s.requires.1 } in (
       subst (UpTo widest_depth) (sym (mean c)) (h0_size (bed s) (cell s) w),
       subst (UpTo widest_depth) (sym (slope c)) (h1_size (bed s) (cell s) w),
     )
@@ -77,7 +77,7 @@ returns-then-off_depths : tie.Need-returns-then-off_depths
 returns-then-off_depths c = let d = c.before in off_is (bed (s d)) (cell (s d)) true (sym c.if-off_depths.true ∙ first d)
 
 off_flows-requires : tie.Need-off_flows-requires
-off_flows-requires c κs = let w = (s c.before.before.before).requires.wide in
+off_flows-requires c κs = let w = (s c.before.before.before).requires.1 in
     rw (back c.before.off_flows-arg-1.given, back c.off_flows-arg-2-1.given)
     (b_up 70368745226240 w.q0 tt, b_up 70368745226240 w.q1 tt)
 

@@ -29,7 +29,7 @@ fast_cell-requires : tie.Need-fast_cell-requires invariant-loop decreases-loop
 fast_cell-requires c κs =
     let b = c.before.before in let e = b.before in let l = e.before in let s = l.before in
     rw (b.under.ensures, back {z = s.args.call.dry} c.struct_told-1.given.1.1.0.1)
-    record { inside = s.requires.ranged l.loop-i.i e.loop-i-test.true; dry_depth = s.requires.dry_depth }
+    (s.requires.1.0 l.loop-i.i e.loop-i-test.true, s.requires.1.1)
 
 -- what the test of this turn says
 here : (c : tie.After-fast_cell invariant-loop decreases-loop) →

@@ -23,10 +23,10 @@ abbrev cell : tie.Start → Cell
 cell s = as_cell s.args.x
 
 keeps : (s : tie.Start) → CellSizes (bed s) (cell s)
-keeps s = cell_sizes s.requires.inside
+keeps s = cell_sizes s.requires.0
 
 depths-h-requires : tie.Need-depths-h-requires
-depths-h-requires c κs = record { ground = c.requires.inside.ground; wide = (keeps c).wide }
+depths-h-requires c κs = (c.requires.0.ground, (keeps c).wide)
 
 mean : (c : tie.After-depths-h) → get_or c.depths-h.result 0 (pos 0) ≡ h0 (bed c.before) (cell c.before)
 mean c = ap (λ (l : List ℤ). get_or l 0 (pos 0)) c.depths-h.ensures
@@ -45,7 +45,7 @@ speed_of-requires c κs =
       back64 {z = get_or d.depths-h.result 0 (pos 0)} c.speed_of-arg-2-1.given (mean d),
       to_z-of_z s.ranges.dry,
     )
-    record { up_to = m.q0; depth_in = (m.mean, m.mean_most); dry_depth = s.requires.dry_depth }
+    (m.q0, ((m.mean, m.mean_most), s.requires.1))
 
 past-requires : tie.Need-past-requires
 past-requires c κs = search rules

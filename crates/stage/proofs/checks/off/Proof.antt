@@ -27,8 +27,8 @@ loop-i-init c = scan_none _ _
 off_cell-requires : tie.Need-off_cell-requires invariant-loop decreases-loop
 off_cell-requires c κs =
     let b = c.before in let e = b.before in let l = e.before in let s = l.before in
-    let x = s.requires.all_unfinished l.loop-i.i e.loop-i-test.true in
-    rw b.under.ensures record { ground = x.ground; wide = x.wide }
+    let x = s.requires.1 l.loop-i.i e.loop-i-test.true in
+    rw b.under.ensures (x.ground, x.wide)
 
 -- what the test of this turn says
 here : (c : tie.After-off_cell invariant-loop decreases-loop) →

@@ -16,19 +16,19 @@ module _ (f : tie.After-finish-done) where
 
   works : f.finish-done.result ≡ true
   works = let a = s.args in f.finish-done.ensures.works ∙ ap not (works_fit a.reach a.call a.bed.now a.u.now _ (record {
-    lent = s.requires.n_le_most_cells.2;
-    placed = s.requires.n_le_most_cells.3;
-    most = s.requires.n_le_most_cells.0;
-    beds = s.requires.n_le_most_cells.1;
-    jump_pos = s.requires.numbers.jump_pos;
-    jump_in = s.requires.numbers.jump_in;
-    dry = s.requires.numbers.dry;
-    cells = unfinished a.bed.now a.reach.n (seen a.u.now) s.requires.grounds.0 s.requires.grounds.1;
+    lent = s.requires.0.2;
+    placed = s.requires.0.3;
+    most = s.requires.0.0;
+    beds = s.requires.0.1;
+    jump_pos = s.requires.1.0.jump_pos;
+    jump_in = s.requires.1.0.jump_in;
+    dry = s.requires.1.0.dry;
+    cells = unfinished a.bed.now a.reach.n (seen a.u.now) s.requires.1.1.0 s.requires.1.1.1;
   }))
 
 off-i-requires : tie.Need-off-i-requires
-off-i-requires c κs = let f = c.before.before in let p = (s f).requires.grounds in
-    record { room = omega arith; all_unfinished = finished_wide f.finish-done.ensures (works f) (λ i. pos 0) p.0 p.1 }
+off-i-requires c κs = let f = c.before.before in let p = (s f).requires.1.1 in
+    (omega arith, finished_wide f.finish-done.ensures (works f) (λ i. pos 0) p.0 p.1)
 
 returns-then-i-reach : tie.Need-returns-then-i-reach
 returns-then-i-reach c ρ = let o = c.before.before in let f = o.before.before.before in

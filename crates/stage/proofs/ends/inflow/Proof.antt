@@ -22,28 +22,28 @@ abbrev fast : tie.Start → ℤ
 fast s = inflow_speed s.args.dry (end_in s.args.end) (side_in s.args.x)
 
 inflow_in : (s : tie.Start) → Within 8388608 (pos s.args.end.q)
-inflow_in s = inflow_most (end_in s.args.end) s.requires.q_le_largest_inflow
+inflow_in s = inflow_most (end_in s.args.end) s.requires.0
 
 fast_in : (s : tie.Start) → Within 17179869184 (fast s)
 unfolding inflow_speed
-fast_in s = speed_size s.args.dry (pos s.args.end.q) s.args.x.h s.requires.dry_depth.least (inflow_in s)
+fast_in s = speed_size s.args.dry (pos s.args.end.q) s.args.x.h s.requires.1.1.least (inflow_in s)
 
 fast_is : (c : tie.After-inflow_speed-v) → c.inflow_speed-v.result ≡ fast c.before
 fast_is c = rw (to_z-of_z c.before.ranges.dry) at c.inflow_speed-v.ensures
 
 inflow_top-s-requires : tie.Need-inflow_top-s-requires
-inflow_top-s-requires c κs = let s = c.before in rw (fast_is c, to_z-of_z (fit (fast_in s) tt)) record { up_to = fast_in s; sound = s.requires.sound }
+inflow_top-s-requires c κs = let s = c.before in rw (fast_is c, to_z-of_z (fit (fast_in s) tt)) (fast_in s, s.requires.1.0)
 
 -- ---- the two products
 overflow_mul-result : tie.Need-overflow_mul-result
-overflow_mul-result c = let s = c.before.before.before.before in need (sized (depth_size s.requires.sound) tt ∷ []) (v 0 ⊗ v 0) tt
+overflow_mul-result c = let s = c.before.before.before.before in need (sized (depth_size s.requires.1.0) tt ∷ []) (v 0 ⊗ v 0) tt
 
 abbrev speeded : tie.After-widened → tie.After-inflow_speed-v
 speeded c = c.before.before.before.before
 
 abbrev env : tie.After-widened → List Entry
 env c = let f = speeded c in let s = f.before in
-    sized (depth_size s.requires.sound) tt
+    sized (depth_size s.requires.1.0) tt
     ∷ sized (subst (Within 8388608) (sym c.widened.ensures) (inflow_in s)) tt
     ∷ sized (subst (Within 17179869184) (sym (fast_is f)) (fast_in s)) tt
     ∷ []

@@ -11,18 +11,18 @@ use Rattle.stage.proofs.ends.inflow_speed.Statement.{statement}
 use Rattle.stage.proofs.ends.inflow_speed.Tie as tie
 
 inflow_in : (s : tie.Start) → Within 8388608 (pos s.args.end.q)
-inflow_in s = inflow_most (end_in s.args.end) s.requires.q_le_largest_inflow
+inflow_in s = inflow_most (end_in s.args.end) s.requires.0
 
 speed_of-requires : tie.Need-speed_of-requires
 speed_of-requires c κs =
-    let w = c.before in let s = w.before in let x = s.requires.depth_in in
+    let w = c.before in let s = w.before in let x = s.requires.1.0 in
     rw (w.widened.ensures, to_z-of_z (fit (inflow_in s) tt), to_z-of_z (fit (b_nonneg x.0 x.1) tt), to_z-of_z s.ranges.dry)
-    record { up_to = inflow_in s; depth_in = x; dry_depth = s.requires.dry_depth }
+    (inflow_in s, (x, s.requires.1.1))
 
 returns : tie.Need-returns
 unfolding inflow_speed
 returns c =
-    let w = c.before.before in let s = w.before in let x = s.requires.depth_in in
+    let w = c.before.before in let s = w.before in let x = s.requires.1.0 in
     back64 c.speed_of.type_inv
     (rw (w.widened.ensures, to_z-of_z (fit (inflow_in s) tt), to_z-of_z (fit (b_nonneg x.0 x.1) tt), to_z-of_z s.ranges.dry)
     at c.speed_of.ensures)

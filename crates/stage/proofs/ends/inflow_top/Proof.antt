@@ -19,7 +19,7 @@ against s = size_z s.args.x.u +ℤ wave s.args.x.h
 
 top : (c : tie.After-wave_of) → let z = c.before.before in
     Got 233704 (rd z.size.result +ℤ rd c.wave_of.result) (against z.before.before)
-top c = let z = c.before.before in let s = z.before.before in let x = s.requires.sound in
+top c = let z = c.before.before in let s = z.before.before in let x = s.requires.1 in
     g_add
     (record {
       same = back64 z.size.type_inv (sized (g_var (fit x.speed tt) x.speed) z.size.ensures tt);

@@ -22,7 +22,7 @@ abbrev start : tie.After-widened → tie.Start
 start w = w.before.before.before
 
 abbrev env : tie.After-widened → List Entry
-env w = sized (subst (Within 8388608) (sym w.widened.ensures) (inflow_most (end_in (start w).args.end) (start w).requires.q_le_largest_inflow)) tt ∷ []
+env w = sized (subst (Within 8388608) (sym w.widened.ensures) (inflow_most (end_in (start w).args.end) (start w).requires.0)) tt ∷ []
 
 abbrev less : X
 less = k (pos 0) ⊝ v 0
@@ -43,7 +43,7 @@ returns-then-end-eq-INFLOW c =
 
 crossing-requires : tie.Need-crossing-requires
 crossing-requires c κs =
-    let s = c.before.before.before in let x = s.requires.sound in
+    let s = c.before.before.before in let x = s.requires.1.0 in
     (x, subst Sound (sym c.outer.ensures) (outer_sound s.args.end.kind _ x))
 
 returns : tie.Need-returns

@@ -44,8 +44,14 @@ module _ (l : tie.After-left_side) where
 
 fast_inflow-requires : tie.Need-fast_inflow-requires
 fast_inflow-requires c κs =
-    let l = c.before in let w = sided l in let s = start w in let a = s.args in let given = s.requires.numbers in record { q_le_largest_inflow = given.left_q; depth_in = subst (λ (x : rules.Side). DepthIn x.h) (sym l.left_side.ensures)
-            (first_depth a.reach a.call (bed w) (state w) s.requires.n_nonzero.0 (filled w) s.requires.ranged); dry_depth = rw (back {z = a.call.dry} c.struct_told-1.given.1.1.0.1) given.dry }
+    let l = c.before in let w = sided l in let s = start w in let a = s.args in let given = s.requires.1.0 in (
+      given.left_q,
+      (
+        subst (λ (x : rules.Side). DepthIn x.h) (sym l.left_side.ensures)
+            (first_depth a.reach a.call (bed w) (state w) s.requires.0.0 (filled w) s.requires.1.1),
+        rw (back {z = a.call.dry} c.struct_told-1.given.1.1.0.1) given.dry,
+      ),
+    )
 
 module _ (f : tie.After-fast_inflow) where
   abbrev first : tie.After-left_side
@@ -58,7 +64,7 @@ module _ (f : tie.After-fast_inflow) where
 
 returns-then-fast_inflow : tie.Need-returns-then-fast_inflow
 returns-then-fast_inflow c = let f = c.before in let w = sided (first f) in let s = start w in let a = s.args in
-    says_left_inflow a.reach a.call (bed w) (state w) s.requires.n_nonzero.0 (filled w) (left_test f ∙ c.if-fast_inflow.true)
+    says_left_inflow a.reach a.call (bed w) (state w) s.requires.0.0 (filled w) (left_test f ∙ c.if-fast_inflow.true)
 
 -- ---- a side
 module _ (e : tie.Else-fast_inflow) where
@@ -67,7 +73,7 @@ module _ (e : tie.Else-fast_inflow) where
 
 returns-then-i-n : tie.Need-returns-then-i-n
 returns-then-i-n c = let t = c.before.before in let e = t.before in let w = sided (first (slow e)) in let s = start w in let a = s.args in
-    says_side a.reach a.call (bed w) (state w) s.requires.n_nonzero.0 (filled w) (left_test (slow e) ∙ e.if-fast_inflow.false) t.if-i-n.true
+    says_side a.reach a.call (bed w) (state w) s.requires.0.0 (filled w) (left_test (slow e) ∙ e.if-fast_inflow.false) t.if-i-n.true
     c.face_beside.ensures
 
 -- ---- the right end
@@ -81,9 +87,15 @@ module _ (r : tie.After-right_side) where
 fast_inflow-requires-2 : tie.Need-fast_inflow-requires-2
 fast_inflow-requires-2 c κs =
     let r = c.before in let e = past_left r in let w = sided (first (slow e)) in
-    let s = start w in let a = s.args in let given = s.requires.numbers in record { q_le_largest_inflow = given.right_q; depth_in = subst (λ (x : rules.Side). DepthIn x.h) (sym r.right_side.ensures)
-            (last_depth a.reach a.call (bed w) (state w) s.requires.n_nonzero.0 (filled w) (left_test (slow e) ∙ e.if-fast_inflow.left)
-            (passed r).if-i-n.false s.requires.ranged); dry_depth = rw (back {z = a.call.dry} c.struct_told-2-1.given.1.1.0.1) given.dry }
+    let s = start w in let a = s.args in let given = s.requires.1.0 in (
+      given.right_q,
+      (
+        subst (λ (x : rules.Side). DepthIn x.h) (sym r.right_side.ensures)
+            (last_depth a.reach a.call (bed w) (state w) s.requires.0.0 (filled w) (left_test (slow e) ∙ e.if-fast_inflow.left)
+            (passed r).if-i-n.false s.requires.1.1),
+        rw (back {z = a.call.dry} c.struct_told-2-1.given.1.1.0.1) given.dry,
+      ),
+    )
 
 module _ (f : tie.After-fast_inflow-2) where
   abbrev second : tie.After-right_side
@@ -100,14 +112,14 @@ module _ (f : tie.After-fast_inflow-2) where
 returns-then-fast_inflow-2 : tie.Need-returns-then-fast_inflow-2
 returns-then-fast_inflow-2 c = let f = c.before in let p = passed (second f) in let e = p.before in let w = table f in
     let s = start w in let a = s.args in
-    says_right_inflow a.reach a.call (bed w) (state w) s.requires.n_nonzero.0 (filled w) (left_test (slow e) ∙ e.if-fast_inflow.left) p.if-i-n.left
+    says_right_inflow a.reach a.call (bed w) (state w) s.requires.0.0 (filled w) (left_test (slow e) ∙ e.if-fast_inflow.left) p.if-i-n.left
     (right_test f ∙ c.if-fast_inflow-2.true)
 
 returns : tie.Need-returns
 returns c = let f = c.before in let p = passed (second f) in let e = p.before in let w = table f in
     let s = start w in let a = s.args in let n : suc a.reach.n ≡ a.reach.n + 1 = omega arith in
     rw (sym n)
-    (says_slow a.reach a.call (bed w) (state w) s.requires.n_nonzero.0 (filled w) (left_test (slow e) ∙ e.if-fast_inflow.left) p.if-i-n.left
+    (says_slow a.reach a.call (bed w) (state w) s.requires.0.0 (filled w) (left_test (slow e) ∙ e.if-fast_inflow.left) p.if-i-n.left
     (right_test f ∙ c.if-fast_inflow-2.false))
 
 pub face_speeds_spec : {M : Type 1} → statement M

@@ -19,12 +19,12 @@ module _ (f : tie.After-left_side) where
   left_start = f.before.before.before
 
   first_sound : Sound (side_in f.left_side.result)
-  first_sound = let s = left_start in subst Sound (sym f.left_side.ensures) (s.requires.sounds 0 s.requires.n_nonzero.0).0
+  first_sound = let s = left_start in subst Sound (sym f.left_side.ensures) (s.requires.1.1 0 s.requires.0.0).0
 
 left_end-requires : tie.Need-left_end-requires
 left_end-requires c κs =
-    let f = c.before in let s = left_start f in let given = s.requires.numbers in
-    record { q_le_largest_inflow = given.left_q; sound = first_sound f; dry_depth = rw (back {z = s.args.call.dry} c.struct_told-1.given.1.1.0.1) given.dry }
+    let f = c.before in let s = left_start f in let given = s.requires.1.0 in
+    (given.left_q, (first_sound f, rw (back {z = s.args.call.dry} c.struct_told-1.given.1.1.0.1) given.dry))
 
 returns-then-i-eq0 : tie.Need-returns-then-i-eq0
 returns-then-i-eq0 c =
@@ -43,13 +43,13 @@ module _ (b : tie.After-right_side-before) where
 
   before_sound : Sound (side_in b.right_side-before.result)
   before_sound =
-      let s = start in let i = s.args.i - 1 in let l : i < s.args.reach.n = omega (arith, else.if-i-eq0.left, s.requires.n_nonzero) in
-      subst Sound (sym b.right_side-before.ensures) (s.requires.sounds i l).1
+      let s = start in let i = s.args.i - 1 in let l : i < s.args.reach.n = omega (arith, else.if-i-eq0.left, s.requires.0) in
+      subst Sound (sym b.right_side-before.ensures) (s.requires.1.1 i l).1
 
 right_end-requires : tie.Need-right_end-requires
 right_end-requires c κs =
-    let b = c.before.before.before in let s = start b in let given = s.requires.numbers in
-    record { q_le_largest_inflow = given.right_q; sound = before_sound b; dry_depth = rw (back {z = s.args.call.dry} c.struct_told-then-i-reach-1.given.1.1.0.1) given.dry }
+    let b = c.before.before.before in let s = start b in let given = s.requires.1.0 in
+    (given.right_q, (before_sound b, rw (back {z = s.args.call.dry} c.struct_told-then-i-reach-1.given.1.1.0.1) given.dry))
 
 returns-then-i-reach : tie.Need-returns-then-i-reach
 returns-then-i-reach c =
@@ -62,8 +62,8 @@ returns-then-i-reach c =
 crossing-requires : tie.Need-crossing-requires
 crossing-requires c κs =
     let e = c.before.before in let b = e.before.before in let s = start b in
-    let l : s.args.i < s.args.reach.n = omega (arith, e.if-i-reach.false, s.requires.n_nonzero) in
-    (before_sound b, subst Sound (sym c.left_side-2.ensures) (s.requires.sounds s.args.i l).0)
+    let l : s.args.i < s.args.reach.n = omega (arith, e.if-i-reach.false, s.requires.0) in
+    (before_sound b, subst Sound (sym c.left_side-2.ensures) (s.requires.1.1 s.args.i l).0)
 
 returns : tie.Need-returns
 returns c =

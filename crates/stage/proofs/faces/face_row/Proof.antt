@@ -8,8 +8,8 @@ use Rattle.stage.proofs.faces.face_row.Tie as tie
 
 abbrev env : tie.Start → List Entry
 env s =
-    let p = s.requires.sized in
-    sized p.F tt ∷ sized (b_nonneg p.K≥0 p.K) tt ∷ sized p.A tt ∷ sized s.requires.numbers.dx_in tt ∷ sized s.requires.numbers.dt_in tt ∷ []
+    let p = s.requires.0 in
+    sized p.F tt ∷ sized (b_nonneg p.K≥0 p.K) tt ∷ sized p.A tt ∷ sized s.requires.1.dx_in tt ∷ sized s.requires.1.dt_in tt ∷ []
 
 overflow_mul-result : tie.Need-overflow_mul-result
 overflow_mul-result c = need (env c.before.before.before.before) (v 0 ⊗ v 4) tt
@@ -17,7 +17,7 @@ overflow_mul-result c = need (env c.before.before.before.before) (v 0 ⊗ v 4) t
 nonzero_div-result : tie.Need-nonzero_div-result
 nonzero_div-result c =
     let s = c.before.before.before.before.before.before in
-    (divisor (env s) (v 3) tt s.requires.numbers.dx_pos, need (env s) (v 0 ⊗ v 4 ⊘ v 3) tt)
+    (divisor (env s) (v 3) tt s.requires.1.dx_pos, need (env s) (v 0 ⊗ v 4 ⊘ v 3) tt)
 
 returns : tie.Need-returns
 unfolding volume

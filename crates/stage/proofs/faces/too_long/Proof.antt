@@ -9,7 +9,7 @@ use Rattle.stage.proofs.faces.too_long.Statement.{statement}
 use Rattle.stage.proofs.faces.too_long.Tie as tie
 
 abbrev env : tie.Start → List Entry
-env s = sized s.requires.numbers.dx_in tt ∷ sized s.requires.numbers.dt_in tt ∷ sized s.requires.sized.S tt ∷ []
+env s = sized s.requires.1.dx_in tt ∷ sized s.requires.1.dt_in tt ∷ sized s.requires.0.S tt ∷ []
 
 abbrev room : X
 room = k (pos 4096) ⊗ v 0

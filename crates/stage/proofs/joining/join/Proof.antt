@@ -30,16 +30,16 @@ loop-i-init c = (omega arith, filled_none [] c.args.u.now _)
 -- the rows of face i, in both tables
 rows : (s : tie.Start invariant-loop decreases-loop) (i : ℕ) → i < suc s.args.reach.n
     → Row (get_or s.args.f.now i []) × Row (get_or s.args.g.now i [])
-rows s i h = (s.requires.face_rows.0 i h, s.requires.face_rows.1 i h)
+rows s i h = (s.requires.1.1.0 i h, s.requires.1.1.1 i h)
 
 end_volume-wl-requires : tie.Need-end_volume-wl-requires invariant-loop decreases-loop
-end_volume-wl-requires c κs = let l = c.before in let s = l.before in record { i_in_bounds = (omega arith, omega arith); row = rows s l.loop-i.i (omega arith) }
+end_volume-wl-requires c κs = let l = c.before in let s = l.before in ((omega arith, omega arith), rows s l.loop-i.i (omega arith))
 
 end_volume-wr-requires : tie.Need-end_volume-wr-requires invariant-loop decreases-loop
 end_volume-wr-requires c κs =
     let l = c.before.before in
     let s = l.before in
-    record { i_in_bounds = (omega arith, omega arith); row = rows s (l.loop-i.i + 1) (omega arith) }
+    ((omega arith, omega arith), rows s (l.loop-i.i + 1) (omega arith))
 
 -- ---- what a turn reads: the volumes of its two faces, and its cell
 module _ (c : tie.After-joined_cell-arg-in-loop-i-1 invariant-loop decreases-loop) where
@@ -68,10 +68,13 @@ volume_in r = half_size (b_up 70368744177664 r.0.vol tt) (b_up 70368744177664 r.
 
 joined_cell-requires : tie.Need-joined_cell-requires invariant-loop decreases-loop
 joined_cell-requires c κs =
-    let s = start c in let i = at c in record { wide = (s.requires.wides.0 i (omega arith), subst (λ (m : List ℤ). Wide (as_cell m)) (sym (cell c)) (s.requires.wides.1 i (omega arith))); up_to = (
+    let s = start c in let i = at c in (
+      (s.requires.1.0.0 i (omega arith), subst (λ (m : List ℤ). Wide (as_cell m)) (sym (cell c)) (s.requires.1.0.1 i (omega arith))),
+      (
         subst (UpTo widest) (sym (wl c)) (volume_in (rows s i (omega arith))),
         subst (UpTo widest) (sym (wr c)) (volume_in (rows s (suc i) (omega arith))),
-      ) }
+      ),
+    )
 
 loop-i-preserved : tie.Need-loop-i-preserved invariant-loop decreases-loop
 loop-i-preserved c =

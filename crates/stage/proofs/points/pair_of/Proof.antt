@@ -22,24 +22,24 @@ places_of-s-requires : tie.Need-places_of-s-requires
 places_of-s-requires c κs = search rules
 
 overflow_sub-p : tie.Need-overflow_sub-p
-overflow_sub-p c = let s = c.before.before.before in simp (to_z-of_z, s.ranges.p, s.ranges.q) (ql_fits s.requires.around)
+overflow_sub-p c = let s = c.before.before.before in simp (to_z-of_z, s.ranges.p, s.ranges.q) (ql_fits s.requires.0)
 
 overflow_add-p : tie.Need-overflow_add-p
-overflow_add-p c = let s = c.before.before.before in simp (to_z-of_z, s.ranges.p, s.ranges.q) (qr_fits s.requires.around)
+overflow_add-p c = let s = c.before.before.before in simp (to_z-of_z, s.ranges.p, s.ranges.q) (qr_fits s.requires.0)
 
 carried_both-requires : tie.Need-carried_both-requires
 carried_both-requires c κs =
-    let b = c.before in let l = b.before in let s = l.before in let a = s.args in let r = s.requires.around in
+    let b = c.before in let l = b.before in let s = l.before in let a = s.args in let r = s.requires.0 in
     simp (to_z-of_z, s.ranges.p, s.ranges.q, ql_fits r, qr_fits r)
     (rw (back b.u-1.given, back c.w-1.given, row l) (
-      (r.ql, speed_size a.dry (a.p -ℤ a.q) (a.m -ℤ a.d) s.requires.dry_depth.least r.ql),
-      (r.qr, speed_size a.dry (a.p +ℤ a.q) (a.m +ℤ a.d) s.requires.dry_depth.least r.qr),
+      (r.ql, speed_size a.dry (a.p -ℤ a.q) (a.m -ℤ a.d) s.requires.1.least r.ql),
+      (r.qr, speed_size a.dry (a.p +ℤ a.q) (a.m +ℤ a.d) s.requires.1.least r.qr),
     ))
 
 returns : tie.Need-returns
 unfolding carried
 returns c =
-    let b = c.before in let a = b.before in let l = a.before in let s = l.before in let r = s.requires.around in
+    let b = c.before in let a = b.before in let l = a.before in let s = l.before in let r = s.requires.0 in
     let u = back a.u-1.given ∙ ap (λ (t : List ℤ). get_or t 1 (pos 0)) (row l) in
     let w = back b.w-1.given ∙ ap (λ (t : List ℤ). get_or t 3 (pos 0)) (row l) in
     let g = rw (u, w) at (simp (to_z-of_z, s.ranges.p, s.ranges.q, ql_fits r, qr_fits r) at c.carried_both.ensures) in

@@ -28,7 +28,7 @@ points_of-p-requires : tie.Need-points_of-p-requires invariant-loop decreases-lo
 points_of-p-requires c κs =
     let b = c.before.before in let e = b.before in let l = e.before in let s = l.before in
     rw (b.under.ensures, back {z = s.args.call.dry} c.struct_told-1.given.1.1.0.1)
-    record { inside = s.requires.ranged l.loop-i.i e.loop-i-test.true; dry_depth = s.requires.dry_depth }
+    (s.requires.1.0 l.loop-i.i e.loop-i-test.true, s.requires.1.1)
 
 -- what a turn finds: the row of its cell, and whether that is too fast
 row : (c : tie.After-points_of-p invariant-loop decreases-loop) →
@@ -61,13 +61,13 @@ module _ (f : tie.After-either_fast invariant-loop decreases-loop) where
 returns-then-either_fast : tie.Need-returns-then-either_fast invariant-loop decreases-loop
 returns-then-either_fast c =
     let f = c.before in let e = turn f in let l = e.before in let s = l.before in
-    fill_stops (pos 0) _ _ _ _ l.loop-i.g l.loop-i.i _ s.requires.room.1 e.loop-i-test.taken l.loop-i.inv
+    fill_stops (pos 0) _ _ _ _ l.loop-i.g l.loop-i.i _ s.requires.0.1 e.loop-i-test.taken l.loop-i.inv
     (momentum f) (fast f ∙ c.if-either_fast.true)
 
 loop-i-preserved : tie.Need-loop-i-preserved invariant-loop decreases-loop
 loop-i-preserved c =
     let f = c.before in let e = turn f in let l = e.before in let s = l.before in
-    fill_more (pos 0) _ _ _ _ l.loop-i.g l.loop-i.i _ s.requires.room.1 e.loop-i-test.taken l.loop-i.inv
+    fill_more (pos 0) _ _ _ _ l.loop-i.g l.loop-i.i _ s.requires.0.1 e.loop-i-test.taken l.loop-i.inv
     (momentum f) (fast f ∙ c.if-either_fast.false)
 
 returns : tie.Need-returns invariant-loop decreases-loop

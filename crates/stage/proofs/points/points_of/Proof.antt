@@ -13,7 +13,7 @@ use Rattle.stage.proofs.points.points_of.Statement.{statement}
 use Rattle.stage.proofs.points.points_of.Tie as tie
 
 depths-h-requires : tie.Need-depths-h-requires
-depths-h-requires c κs = record { ground = c.requires.inside.ground; wide = (cell_sizes c.requires.inside).wide }
+depths-h-requires c κs = (c.requires.0.ground, (cell_sizes c.requires.0).wide)
 
 bounds-h-0 : tie.Need-bounds-h-0
 bounds-h-0 c = search rules
@@ -24,7 +24,7 @@ bounds-h-1 c = search rules
 share_of-requires : tie.Need-share_of-requires
 share_of-requires c κs =
     let d = c.before.before in
-    rw (back c.share_of-arg-1.given, d.depths-h.ensures) (b_up 8388608 (cell_sizes d.before.requires.inside).slope tt)
+    rw (back c.share_of-arg-1.given, d.depths-h.ensures) (b_up 8388608 (cell_sizes d.before.requires.0).slope tt)
 
 -- the share of the depth's slope, and of the discharge's
 depth_share : (c : tie.After-share_of) → let s = c.before.before.before.before in
@@ -40,7 +40,7 @@ bounds-x-3 c = search rules
 share_of-requires-2 : tie.Need-share_of-requires-2
 share_of-requires-2 c κs =
     let s = c.before.before.before.before.before.before in
-    rw (back c.share_of-arg-2-1.given) (cell_sizes s.requires.inside).q1
+    rw (back c.share_of-arg-2-1.given) (cell_sizes s.requires.0).q1
 
 flow_share : (c : tie.After-share_of-2) → let s = c.before.before.before.before.before.before.before in
     c.share_of-2.result ≡ share (as_cell s.args.x).q1
@@ -57,7 +57,7 @@ pair_of-requires c κs =
       d.depths-h.ensures,
       back {z = s.args.dry} s.ranges.dry.sfits,
     )
-    record { around = (cell_sizes s.requires.inside).points; dry_depth = s.requires.dry_depth }
+    ((cell_sizes s.requires.0).points, s.requires.1)
 
 returns : tie.Need-returns
 unfolding point_row gauss

@@ -44,10 +44,10 @@ module _ (s : tie.Start) where
 
   -- what is asked of the cell and of the dry depth
   inside : Inside bed cell
-  inside = s.requires.inside.0
+  inside = s.requires.1.1.0.0
 
   dry_in : DryDepth dry
-  dry_in = s.requires.inside.1
+  dry_in = s.requires.1.1.0.1
 
   sizes : CellSizes bed cell
   sizes = cell_sizes inside
@@ -57,7 +57,7 @@ module _ (s : tie.Start) where
   strong = drag s.args.call.dt s.args.f (h0 bed cell) (speed dry cell.q0 (h0 bed cell))
 
 depths-h-requires : tie.Need-depths-h-requires
-depths-h-requires c κs = record { ground = (inside c).ground; wide = (sizes c).wide }
+depths-h-requires c κs = ((inside c).ground, (sizes c).wide)
 
 -- ---- what the two tests say
 module _ (k : tie.After-struct_told-1) where
@@ -110,7 +110,7 @@ unfolding fast_cell
 strength-requires c κs =
     let a = c.before in let e = deep a.before in let d = measured e.before in let s = d.before in let m = sizes s in
     rw (to_z-of_z s.ranges.f, back a.strength-arg-1.given, back c.strength-arg-2-1.given, d.depths-h.ensures)
-    record { pos_bound = s.requires.pos_bound; pos_bound_2 = s.requires.pos_bound_2; up_to = (m.q0, dry_in s); least_dry_lt_h = (low e, m.mean_most); h_value = s.requires.x_value }
+    (s.requires.0, (s.requires.1.0, ((m.q0, dry_in s), ((low e, m.mean_most), s.requires.1.1.1))))
 
 x_is : (c : tie.After-strength) → c.strength.result ≡ strong (start (deep c.before.before.before))
 unfolding strong
@@ -123,13 +123,13 @@ unfolding strong fast_cell
 x_size c =
     let e = deep c.before.before.before in let s = start e in let m = sizes s in let p = s.args in
     let h = h0 (bed s) (cell s) in let u = speed (dry s) (cell s).q0 h in (
-      drag_nonneg p.call.dt p.f h u s.requires.pos_bound.0 m.mean,
-      drag_most h (low e) m.mean_most p.call.dt p.f u s.requires.pos_bound.1 s.requires.pos_bound_2.1 (within_past 131072 u s.requires.x_value),
+      drag_nonneg p.call.dt p.f h u s.requires.0.0 m.mean,
+      drag_most h (low e) m.mean_most p.call.dt p.f u s.requires.0.1 s.requires.1.0.1 (within_past 131072 u s.requires.1.1.1),
     )
 
 slowed_cell-requires : tie.Need-slowed_cell-requires
 slowed_cell-requires c κs =
-    let m = sizes (start (deep c.before.before.before)) in rw (back64 c.strength.type_inv (x_is c)) record { pos_bound = x_size c; up_to = (m.q0, m.q1) }
+    let m = sizes (start (deep c.before.before.before)) in rw (back64 c.strength.type_inv (x_is c)) (x_size c, (m.q0, m.q1))
 
 returns : tie.Need-returns
 unfolding rubbed_cell strong

@@ -16,7 +16,7 @@ slowed-requires c κs = search rules
 answer : (c : tie.After-slowed) → let a = c.before.args in value_of c.slowed.result ≡ given (slowed a.x a.q)
 answer c =
     let s = c.before in
-    (simp (to_z-of_z, s.ranges.x, s.ranges.q) at c.slowed.ensures) ∙ slowed_given_lem s.args.x s.args.q s.requires.pos_bound s.requires.up_to
+    (simp (to_z-of_z, s.ranges.x, s.ranges.q) at c.slowed.ensures) ∙ slowed_given_lem s.args.x s.args.q s.requires.0 s.requires.1
 
 enum_known-left : tie.Need-enum_known-left
 enum_known-left c = search rules

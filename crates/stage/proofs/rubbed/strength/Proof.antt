@@ -24,23 +24,23 @@ use Rattle.stage.proofs.rubbed.strength.Tie as tie
 -- what is asked of the discharge and the dry depth, of the depth, and of the speed
 module _ (s : tie.Start) where
   flow : UpTo fullest s.args.q × DryDepth s.args.call.dry
-  flow = s.requires.up_to
+  flow = s.requires.1.1.0
 
   depth : (least_dry <ℤ s.args.h) × (s.args.h ≤ℤ deepest)
-  depth = let p = s.pre.1.1 in p.1.0
+  depth = let p = s.requires.1.1 in p.1.0
 
   -- the speed
   abbrev fast : ℤ
   fast = speed s.args.call.dry s.args.q s.args.h
 
   checked : past fastest fast ≡ false
-  checked = let p = s.pre.1.1 in p.1.1
+  checked = let p = s.requires.1.1 in p.1.1
 
 speed_of-u-requires : tie.Need-speed_of-u-requires
 speed_of-u-requires c κs =
     let s = c.before in let h = depth s in
     simp (to_z-of_z, s.ranges.q, s.ranges.h, back {z = s.args.call.dry} (omega (arith, c.struct_told-1.given)))
-    record { up_to = (flow s).0; depth_in = (lt_le (wet s.args.h h.0 h.1), h.1); dry_depth = (flow s).1 }
+    ((flow s).0, ((lt_le (wet s.args.h h.0 h.1), h.1), (flow s).1))
 
 u_is : (c : tie.After-speed_of-u) → c.speed_of-u.result ≡ fast c.before.before
 u_is c = let k = c.before in let s = k.before in
@@ -58,7 +58,7 @@ answer c =
     let k = c.before in let t = k.before in let s = start c in let a = s.args in
     let dt = back {z = a.call.dt} (omega (arith, k.struct_told-2-1.given)) in
     (simp (to_z-of_z, s.ranges.f, s.ranges.h, dt, back64 t.speed_of-u.type_inv (u_is t)) at c.strength.ensures)
-    ∙ strength_given_lem a.call.dt a.f a.h (fast s) s.requires.pos_bound s.requires.pos_bound_2 (depth s) (within_past 131072 (fast s) (checked s))
+    ∙ strength_given_lem a.call.dt a.f a.h (fast s) s.requires.0 s.requires.1.0 (depth s) (within_past 131072 (fast s) (checked s))
 
 enum_known-x : tie.Need-enum_known-x
 enum_known-x c = search rules

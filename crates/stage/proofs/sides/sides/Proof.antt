@@ -24,7 +24,7 @@ sides_of-s-requires : tie.Need-sides_of-s-requires invariant-loop decreases-loop
 sides_of-s-requires c κs =
     let b = c.before.before in let e = b.before in let l = e.before in let s = l.before in
     rw (b.under.ensures, back {z = s.args.call.dry} c.struct_told-1.given.1.1.0.1)
-    record { inside = s.requires.ranged l.loop-i.i e.loop-i-test.true; dry_depth = s.requires.dry_depth }
+    (s.requires.1.0 l.loop-i.i e.loop-i-test.true, s.requires.1.1)
 
 -- what a turn finds: the row of its cell, and whether that is too fast
 row : (c : tie.After-sides_of-s invariant-loop decreases-loop) →
@@ -54,13 +54,13 @@ module _ (f : tie.After-either_fast invariant-loop decreases-loop) where
 returns-then-either_fast : tie.Need-returns-then-either_fast invariant-loop decreases-loop
 returns-then-either_fast c =
     let f = c.before in let e = turn f in let l = e.before in let s = l.before in
-    fill_stops [] _ _ _ _ l.loop-i.d l.loop-i.i _ s.requires.room.1 e.loop-i-test.taken l.loop-i.inv (row (sided f))
+    fill_stops [] _ _ _ _ l.loop-i.d l.loop-i.i _ s.requires.0.1 e.loop-i-test.taken l.loop-i.inv (row (sided f))
     (fast f ∙ c.if-either_fast.true)
 
 loop-i-preserved : tie.Need-loop-i-preserved invariant-loop decreases-loop
 loop-i-preserved c =
     let f = c.before in let e = turn f in let l = e.before in let s = l.before in
-    fill_more [] _ _ _ _ l.loop-i.d l.loop-i.i _ s.requires.room.1 e.loop-i-test.taken l.loop-i.inv (row (sided f))
+    fill_more [] _ _ _ _ l.loop-i.d l.loop-i.i _ s.requires.0.1 e.loop-i-test.taken l.loop-i.inv (row (sided f))
     (fast f ∙ c.if-either_fast.false)
 
 returns : tie.Need-returns invariant-loop decreases-loop

@@ -88,7 +88,10 @@ module _ (e : tie.Else-cell-n) where
 
 faces-long-requires : tie.Need-faces-long-requires
 faces-long-requires c κs =
-    let h = c.before.before in let p = slowed h in let s = begun h in record { n_nonzero = (s.requires.n_nonzero.0, room (worked (first h)), omega arith); numbers = s.requires.numbers; sounds = (sides_sound p.faces-long s.requires.ranged, p.faces-long.slow_ends) }
+    let h = c.before.before in let p = slowed h in let s = begun h in (
+      (s.requires.0.0, room (worked (first h)), omega arith),
+      (s.requires.1.1.0, (sides_sound p.faces-long s.requires.1.1.1, p.faces-long.slow_ends)),
+    )
 
 -- ---- the faces
 returns-then-long-n : tie.Need-returns-then-long-n
@@ -116,12 +119,21 @@ module _ (t : tie.Else-long-n) where
 update-requires : tie.Need-update-requires
 update-requires c κs =
     let t = c.before.before.before in let h = passed t in let p = slowed h in
-    let s = begun h in let a = s.args in let given = s.pre.1.1 in record { room = (omega arith, omega arith, omega arith, room (worked (first h))); ranged = given.1; face_rows = rows_sized p given.1 given.0 (f t) (rows t); momenta = momenta a.call.dry a.reach.n a.bed.now (state s) given.1 p.slow_points (g h) (points h); numbers = given.0 }
+    let s = begun h in let a = s.args in let given = s.requires.1.1 in (
+      (omega arith, omega arith, omega arith, room (worked (first h))),
+      (
+        given.1,
+        (
+          rows_sized p given.1 given.0 (f t) (rows t),
+          (momenta a.call.dry a.reach.n a.bed.now (state s) given.1 p.slow_points (g h) (points h), given.0),
+        ),
+      ),
+    )
 
 returns : tie.Need-returns
 returns c ρ =
     let u = c.before in let t = u.before.before.before.before in let h = passed t in let p = slowed h in
-    let given = (begun h).pre.1.1 in record {
+    let given = (begun h).requires.1.1 in record {
       found = says_none p ρ (faced t).faces-long.result (faced t).faces-long.ensures.stops t.if-long-n.false;
       done = λ z. stage_done p ρ given.1 given.0 (f t) (g h) (rows t) (points h) _ u.update.ensures;
     }

@@ -27,7 +27,7 @@ loop-i-init c = scan_none _ _
 off_cell-requires : tie.Need-off_cell-requires invariant-loop decreases-loop
 off_cell-requires c κs =
     let u = c.before in let e = u.before in let l = e.before in
-    rw (u.under.ensures, c.cell_of.ensures.0) record { ground = l.before.requires.2 l.loop-i.i e.loop-i-test.true; wide = c.cell_of.ensures.1 }
+    rw (u.under.ensures, c.cell_of.ensures.0) (l.before.requires.2 l.loop-i.i e.loop-i-test.true, c.cell_of.ensures.1)
 
 -- what the test of this turn says
 here : (c : tie.After-off_cell invariant-loop decreases-loop) →

@@ -14,8 +14,8 @@ use Rattle.stage.proofs.update.flow_mean.Tie as tie
 
 -- the five numbers of the line, in their order, and then others
 abbrev and_then : tie.Start → List Entry → List Entry
-and_then s l = let rows = s.requires.row in let w = s.requires.numbers in
-    sized s.requires.up_to.0 tt ∷ sized rows.0.A tt ∷ sized rows.1.A tt ∷ sized w.dx_in tt ∷ sized w.dt_in tt ∷ l
+and_then s l = let rows = s.requires.1.0 in let w = s.requires.1.1 in
+    sized s.requires.0.0 tt ∷ sized rows.0.A tt ∷ sized rows.1.A tt ∷ sized w.dx_in tt ∷ sized w.dt_in tt ∷ l
 
 abbrev env : tie.Start → List Entry
 env s = and_then s []
@@ -41,7 +41,7 @@ overflow_mul-result c = need (env c.before.before.before.before.before) ((v 1 �
 nonzero_div-result : tie.Need-nonzero_div-result
 nonzero_div-result c =
     let s = c.before.before.before.before.before.before.before in
-    (divisor (env s) (v 3) tt s.requires.numbers.dx_pos, need (env s) carried tt)
+    (divisor (env s) (v 3) tt s.requires.1.1.dx_pos, need (env s) carried tt)
 
 overflow_add-result : tie.Need-overflow_add-result
 overflow_add-result c = need (env c.before.before.before.before.before.before.before) (v 0 ⊕ carried) tt
@@ -49,7 +49,7 @@ overflow_add-result c = need (env c.before.before.before.before.before.before.be
 thrust_of-requires : tie.Need-thrust_of-requires
 thrust_of-requires c κs =
     let s = c.before.before.before.before.before.before.before in
-    rw (to_z-of_z s.ranges.e) record { up_to = s.requires.up_to.1; numbers = s.requires.numbers }
+    rw (to_z-of_z s.ranges.e) (s.requires.0.1, s.requires.1.1)
 
 -- what the call gave
 abbrev start : tie.After-thrust_of → tie.Start
@@ -61,7 +61,7 @@ moved c = let s = start c in rw (to_z-of_z s.ranges.e) at c.thrust_of.ensures
 moved_size : (c : tie.After-thrust_of) → UpTo most_thrust c.thrust_of.result-1
 moved_size c =
     let s = start c in
-    subst (UpTo most_thrust) (sym (moved c)) (thrust_size _ _ _ s.requires.up_to.1 s.requires.numbers.dx_pos s.requires.numbers.dt_in)
+    subst (UpTo most_thrust) (sym (moved c)) (thrust_size _ _ _ s.requires.0.1 s.requires.1.1.dx_pos s.requires.1.1.dt_in)
 
 abbrev after : tie.After-thrust_of → List Entry
 after c = and_then (start c) (sized (moved_size c) tt ∷ [])

@@ -15,7 +15,7 @@ use Rattle.stage.proofs.update.flow_slope.Statement.{statement}
 use Rattle.stage.proofs.update.flow_slope.Tie as tie
 
 abbrev env : tie.Start → List Entry
-env s = sized s.requires.row.0.A tt ∷ sized s.requires.row.1.A tt ∷ entry s.ranges.g s.requires.up_to.1 ∷ []
+env s = sized s.requires.1.0.0.A tt ∷ sized s.requires.1.0.1.A tt ∷ entry s.ranges.g s.requires.0.1 ∷ []
 
 abbrev change : X
 change = v 1 ⊕ v 0 ⊝ v 2
@@ -41,7 +41,7 @@ overflow_sub-f c = need (env c.before.before.before) change tt
 slope_change-requires : tie.Need-slope_change-requires
 slope_change-requires c κs =
     let s = c.before.before.before in
-    rw (value (env s) change tt) record { up_to = change_size s; numbers = s.requires.numbers }
+    rw (value (env s) change tt) (change_size s, s.requires.1.1)
 
 -- what the first call gave
 abbrev start : tie.After-slope_change → tie.Start
@@ -52,15 +52,15 @@ changed : (c : tie.After-slope_change)
 changed c = let s = start c in rw (value (env s) change tt) at c.slope_change.ensures
 
 changed_size : (c : tie.After-slope_change) → UpTo most_turn c.slope_change.result-1
-changed_size c = subst (UpTo most_turn) (sym (changed c)) (slope_size _ _ _ (change_size (start c)) (start c).requires.numbers.dt_in)
+changed_size c = subst (UpTo most_turn) (sym (changed c)) (slope_size _ _ _ (change_size (start c)) (start c).requires.1.1.dt_in)
 
 overflow_sub-result : tie.Need-overflow_sub-result
-overflow_sub-result c = need (sized (start c).requires.up_to.0 tt ∷ sized (changed_size c) tt ∷ []) (v 0 ⊝ v 1) tt
+overflow_sub-result c = need (sized (start c).requires.0.0 tt ∷ sized (changed_size c) tt ∷ []) (v 0 ⊝ v 1) tt
 
 thrust_of-requires : tie.Need-thrust_of-requires
 thrust_of-requires c κs =
     let s = start c in
-    rw (to_z-of_z s.ranges.d) record { up_to = s.requires.up_to.2; numbers = s.requires.numbers }
+    rw (to_z-of_z s.ranges.d) (s.requires.0.2, s.requires.1.1)
 
 -- what the second gave
 moved : (c : tie.After-thrust_of) → let s = start c.before in
@@ -70,10 +70,10 @@ moved c = let s = start c.before in rw (to_z-of_z s.ranges.d) at c.thrust_of.ens
 moved_size : (c : tie.After-thrust_of) → UpTo most_thrust c.thrust_of.result-1
 moved_size c =
     let s = start c.before in
-    subst (UpTo most_thrust) (sym (moved c)) (thrust_size _ _ _ s.requires.up_to.2 s.requires.numbers.dx_pos s.requires.numbers.dt_in)
+    subst (UpTo most_thrust) (sym (moved c)) (thrust_size _ _ _ s.requires.0.2 s.requires.1.1.dx_pos s.requires.1.1.dt_in)
 
 abbrev after : tie.After-thrust_of → List Entry
-after c = sized (start c.before).requires.up_to.0 tt ∷ sized (changed_size c.before) tt ∷ sized (moved_size c) tt ∷ []
+after c = sized (start c.before).requires.0.0 tt ∷ sized (changed_size c.before) tt ∷ sized (moved_size c) tt ∷ []
 
 overflow_sub-result-2 : tie.Need-overflow_sub-result-2
 overflow_sub-result-2 c = need (after c) (v 0 ⊝ v 1 ⊝ v 2) tt

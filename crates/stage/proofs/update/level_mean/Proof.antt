@@ -6,7 +6,7 @@ use Rattle.stage.proofs.update.level_mean.Statement.{statement}
 use Rattle.stage.proofs.update.level_mean.Tie as tie
 
 abbrev env : tie.Start → List Entry
-env s = sized s.requires.up_to tt ∷ sized s.requires.row.0.vol tt ∷ sized s.requires.row.1.vol tt ∷ []
+env s = sized s.requires.0 tt ∷ sized s.requires.1.0.vol tt ∷ sized s.requires.1.1.vol tt ∷ []
 
 bounds-x-0 : tie.Need-bounds-x-0
 bounds-x-0 c = search rules

@@ -14,7 +14,7 @@ use Rattle.stage.proofs.update.level_slope.Statement.{statement}
 use Rattle.stage.proofs.update.level_slope.Tie as tie
 
 abbrev env : tie.Start → List Entry
-env s = sized s.requires.up_to.0 tt ∷ sized s.requires.up_to.1 tt ∷ sized s.requires.row.0.F tt ∷ sized s.requires.row.1.F tt ∷ []
+env s = sized s.requires.0.0 tt ∷ sized s.requires.0.1 tt ∷ sized s.requires.1.0.0.F tt ∷ sized s.requires.1.0.1.F tt ∷ []
 
 abbrev change : X
 change = v 3 ⊕ v 2 ⊝ k (pos 2) ⊗ v 1
@@ -46,7 +46,7 @@ overflow_sub-f c = need (env c.before.before.before.before) change tt
 slope_change-requires : tie.Need-slope_change-requires
 slope_change-requires c κs =
     let s = c.before.before.before.before in
-    rw (value (env s) change tt) record { up_to = change_size s; numbers = s.requires.numbers }
+    rw (value (env s) change tt) (change_size s, s.requires.1.1)
 
 -- what the call gave
 abbrev start : tie.After-slope_change → tie.Start
@@ -57,10 +57,10 @@ changed : (c : tie.After-slope_change)
 changed c = let s = start c in rw (value (env s) change tt) at c.slope_change.ensures
 
 changed_size : (c : tie.After-slope_change) → UpTo most_turn c.slope_change.result-1
-changed_size c = subst (UpTo most_turn) (sym (changed c)) (slope_size _ _ _ (change_size (start c)) (start c).requires.numbers.dt_in)
+changed_size c = subst (UpTo most_turn) (sym (changed c)) (slope_size _ _ _ (change_size (start c)) (start c).requires.1.1.dt_in)
 
 abbrev after : tie.After-slope_change → List Entry
-after c = sized (start c).requires.up_to.0 tt ∷ sized (changed_size c) tt ∷ []
+after c = sized (start c).requires.0.0 tt ∷ sized (changed_size c) tt ∷ []
 
 overflow_sub-result : tie.Need-overflow_sub-result
 overflow_sub-result c = need (after c) (v 0 ⊝ v 1) tt

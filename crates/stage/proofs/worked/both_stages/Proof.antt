@@ -8,7 +8,7 @@ use Rattle.stage.proofs.worked.both_stages.Tie as tie
 stage_one-k-requires : tie.Need-stage_one-k-requires
 stage_one-k-requires c κs =
     let s = c.before.before.before.before in
-    record { in_order = s.requires.in_order; room = (omega arith, omega arith, omega arith, omega arith, omega arith); ranged = s.requires.ranged }
+    (s.requires.0, ((omega arith, omega arith, omega arith, omega arith, omega arith), s.requires.1.1.1))
 
 module _ (w : tie.After-stage_one-k) where
   abbrev start : tie.Start
@@ -24,7 +24,13 @@ returns-then-k-ne0 c ρ v shows = let w = c.before.before.before.before.before.b
 
 stage_two-requires : tie.Need-stage_two-requires
 stage_two-requires c κs =
-    let e = c.before.before.before.before.before in let one = (went e).stage_one-k.ensures in let s = start (went e) in record { in_order = s.requires.in_order; room = (omega arith, omega arith, omega arith, omega arith); face_room = (omega arith, omega arith); ranged = (s.requires.ranged, one.ranged e.if-k-ne0.false); face_rows = one.sized e.if-k-ne0.false }
+    let e = c.before.before.before.before.before in let one = (went e).stage_one-k.ensures in let s = start (went e) in (
+      s.requires.0,
+      (
+        (omega arith, omega arith, omega arith, omega arith),
+        ((omega arith, omega arith), ((s.requires.1.1.1, one.ranged e.if-k-ne0.false), one.sized e.if-k-ne0.false)),
+      ),
+    )
 
 returns : tie.Need-returns
 returns c ρ v shows =

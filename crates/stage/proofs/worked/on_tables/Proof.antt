@@ -33,10 +33,13 @@ returns-then-k-ne0 c = ready_stops (lent c.before.before) c.if-k-ne0.true _
 ready-k-requires : tie.Need-ready-k-requires
 ready-k-requires c κs =
     let l = c.before.before in let b = l.before.before.before in
-    record { room = (omega arith, b.requires.in_order.0.beds, b.requires.in_order.3); wides = (l.load.ensures.wide, b.requires.in_order.0.numbers.dry) }
+    ((omega arith, b.requires.0.0.beds, b.requires.0.3), (l.load.ensures.wide, b.requires.0.0.numbers.dry))
 
 rub-requires : tie.Need-rub-requires
-rub-requires c κs = let e = c.before in let w = e.before.before in let b = s w in record { room = (omega arith, omega arith); numbers = b.requires.in_order.0.numbers; ranged = loaded_ranged (lent w) e.if-k-ne0.false; slows = loaded_slow (lent w) e.if-k-ne0.false }
+rub-requires c κs = let e = c.before in let w = e.before.before in let b = s w in (
+  (omega arith, omega arith),
+  (b.requires.0.0.numbers, (loaded_ranged (lent w) e.if-k-ne0.false, loaded_slow (lent w) e.if-k-ne0.false)),
+)
 
 -- ---- after friction
 module _ (t : tie.After-rub) where
@@ -49,7 +52,16 @@ module _ (t : tie.After-rub) where
 both_stages-m-requires : tie.Need-both_stages-m-requires
 both_stages-m-requires c κs =
     let t = c.before.before.before.before.before.before.before in let w = checked t in
-    let b = s w in let given = b.requires.in_order.0.numbers in record { in_order = b.requires.in_order.0; room = (omega arith, omega arith, omega arith, omega arith); face_room = (omega arith, omega arith); ranged = rubbed_ranged (lent w) (passed t).if-k-ne0.false t.rub.ensures given.dt_pos given.dry.least }
+    let b = s w in let given = b.requires.0.0.numbers in (
+      b.requires.0.0,
+      (
+        (omega arith, omega arith, omega arith, omega arith),
+        (
+          (omega arith, omega arith),
+          rubbed_ranged (lent w) (passed t).if-k-ne0.false t.rub.ensures given.dt_pos given.dry.least,
+        ),
+      ),
+    )
 
 -- ---- both stages
 module _ (m : tie.After-both_stages-m) where
@@ -80,7 +92,7 @@ module _ (m : tie.After-both_stages-m) where
 returns-then-m-ne0 : tie.Need-returns-then-m-ne0
 returns-then-m-ne0 c =
     let m = c.before.before.before.before.before.before.before in let t = rubbed m in
-    both_stops (lent (checked t)) (passed t).if-k-ne0.left (start m).requires.in_order.0.some (both m) c.if-m-ne0.true _
+    both_stops (lent (checked t)) (passed t).if-k-ne0.left (start m).requires.0.0.some (both m) c.if-m-ne0.true _
 
 -- ---- what is stored
 module _ (e : tie.Else-m-ne0) where
@@ -88,8 +100,8 @@ module _ (e : tie.Else-m-ne0) where
   made = e.before.before.before.before.before.before.before
 
 store-requires : tie.Need-store-requires
-store-requires c κs = let e = c.before.before in let m = made e in let t = rubbed m in let o = (start m).requires.in_order in (
-  omega (arith, m.both_stages-m.kept, (start m).requires.room),
+store-requires c κs = let e = c.before.before in let m = made e in let t = rubbed m in let o = (start m).requires.0 in (
+  omega (arith, m.both_stages-m.kept, (start m).requires.1.0),
   o.0.most,
   o.2,
   both_fits (lent (checked t)) (passed t).if-k-ne0.left o.0.some (both m) e.if-m-ne0.false,
@@ -97,12 +109,18 @@ store-requires c κs = let e = c.before.before in let m = made e in let t = rubb
 
 end_volume-requires : tie.Need-end_volume-requires
 end_volume-requires c κs =
-    let e = c.before.before.before.before.before.before in let m = made e in let d = (both m).done e.if-m-ne0.false in record { i_in_bounds = (omega (arith, m.both_stages-m.kept, (start m).requires.face_room), omega (arith, m.both_stages-m.kept, (start m).requires.face_room)); row = (d.one.sized 0 (omega arith), d.two.sized 0 (omega arith)) }
+    let e = c.before.before.before.before.before.before in let m = made e in let d = (both m).done e.if-m-ne0.false in (
+      (omega (arith, m.both_stages-m.kept, (start m).requires.1.1), omega (arith, m.both_stages-m.kept, (start m).requires.1.1)),
+      (d.one.sized 0 (omega arith), d.two.sized 0 (omega arith)),
+    )
 
 end_volume-requires-2 : tie.Need-end_volume-requires-2
 end_volume-requires-2 c κs =
     let e = c.before.before.before.before.before.before.before.before.before in let m = made e in
-    let n = (start m).args.reach.n in let d = (both m).done e.if-m-ne0.false in record { i_in_bounds = (omega (arith, m.both_stages-m.kept, (start m).requires.face_room), omega (arith, m.both_stages-m.kept, (start m).requires.face_room)); row = (d.one.sized n (omega arith), d.two.sized n (omega arith)) }
+    let n = (start m).args.reach.n in let d = (both m).done e.if-m-ne0.false in (
+      (omega (arith, m.both_stages-m.kept, (start m).requires.1.1), omega (arith, m.both_stages-m.kept, (start m).requires.1.1)),
+      (d.one.sized n (omega arith), d.two.sized n (omega arith)),
+    )
 
 -- ---- the end
 module _ (c : tie.After-end_volume-2) where
@@ -115,7 +133,7 @@ module _ (c : tie.After-end_volume-2) where
 returns : tie.Need-returns
 returns c =
     let v = c.before.before.before in let e = last c in let m = made e in let t = rubbed m in
-    both_done (lent (checked t)) (passed t).if-k-ne0.left (start m).requires.in_order.0.some (both m) e.if-m-ne0.left (start m).args.next.now
+    both_done (lent (checked t)) (passed t).if-k-ne0.left (start m).requires.0.0.some (both m) e.if-m-ne0.left (start m).args.next.now
     (stored c).store.ensures
     (back64 v.end_volume.type_inv v.end_volume.ensures) (back64 c.end_volume-2.type_inv c.end_volume-2.ensures)
 

@@ -23,14 +23,14 @@ list s = ready_checks s.args.call.dry s.args.reach.n s.args.bed.now s.args.frict
 
 -- ---- the tests of the lent tables, which go over as many values as there are
 bed_test : (c : tie.After-bad_bed-z) → let s = c.before.before in c.bad_bed-z.result ≡ lowest_of (check_at (list s) 0)
-bed_test c = let s = c.before.before in let e : length s.args.bed.now ≡ suc s.args.reach.n = omega (arith, s.requires.room) in
+bed_test c = let s = c.before.before in let e : length s.args.bed.now ≡ suc s.args.reach.n = omega (arith, s.requires.0) in
     c.bad_bed-z.ensures ∙ ap (lowest (λ i. bad_bed (get_or s.args.bed.now i (pos 0)))) e
 
 rough_test : (c : tie.After-bad_friction-f) → let s = c.before.before.before.before in
     c.bad_friction-f.result ≡ lowest_of (check_at (list s) 1)
 rough_test c =
     let s = c.before.before.before.before in
-    let e : length s.args.friction.now ≡ s.args.reach.n = omega (arith, s.requires.room) in
+    let e : length s.args.friction.now ≡ s.args.reach.n = omega (arith, s.requires.0) in
     c.bad_friction-f.ensures ∙ ap (lowest (λ i. bad_rough (pos (get_or s.args.friction.now i 0)))) e
 
 -- ---- past each of them
@@ -58,7 +58,7 @@ returns-then-f-n : tie.Need-returns-then-f-n
 returns-then-f-n c = let e = c.before.before in stops_at (list (one e)) 1 _ (bed_passed e, tt) (rough_test c.before) c.if-f-n.true
 
 off-i-requires : tie.Need-off-i-requires
-off-i-requires c κs = let s = one (two c) in record { room = s.requires.room.0; all_unfinished = λ i l. record { ground = ground (two c) i l; wide = s.requires.wides.0 i l } }
+off-i-requires c κs = let s = one (two c) in (s.requires.0.0, λ i l. record { ground = ground (two c) i l; wide = s.requires.1.0 i l })
 
 returns-then-i-n : tie.Need-returns-then-i-n
 returns-then-i-n c = let e = c.before.before in let d = two e in
@@ -74,7 +74,7 @@ module _ (c : tie.Else-i-n) where
 
 fast-j-requires : tie.Need-fast-j-requires
 fast-j-requires c κs = let d = two (three c) in let s = one d in
-    record { room = s.requires.room.0; ranged = ranged s.args.reach.n s.args.bed.now (seen s.args.t.now) (ground d) (range_passed c); dry_depth = s.requires.wides.1 }
+    (s.requires.0.0, (ranged s.args.reach.n s.args.bed.now (seen s.args.t.now) (ground d) (range_passed c), s.requires.1.1))
 
 returns-then-j-n : tie.Need-returns-then-j-n
 returns-then-j-n c = let g = c.before.before in let e = three g in let d = two e in

@@ -10,8 +10,8 @@ use Rattle.stage.proofs.worked.stage_one.Tie as tie
 
 stage-k-requires : tie.Need-stage-k-requires
 stage-k-requires c κs =
-    let s = c.before.before.before in let order = s.requires.in_order in
-    record { n_nonzero = (order.some, order.most, omega arith, omega arith); face_room = (omega arith, omega arith); numbers = order.numbers; ranged = s.requires.ranged }
+    let s = c.before.before.before in let order = s.requires.0 in
+    ((order.some, order.most, omega arith, omega arith), ((omega arith, omega arith), (order.numbers, s.requires.1.1)))
 
 module _ (w : tie.After-stage-k) where
   abbrev start : tie.Start
@@ -24,14 +24,17 @@ module _ (e : tie.Else-k-ne0) where
 returns-then-k-ne0 : tie.Need-returns-then-k-ne0
 returns-then-k-ne0 c =
     let w = c.before.before.before.before.before in let s = start w in let a = s.args in record {
-      half = λ ρ v shows. half_stops s.requires.in_order.some a.a.now shows (w.stage-k.ensures ρ) c.if-k-ne0.true;
+      half = λ ρ v shows. half_stops s.requires.0.some a.a.now shows (w.stage-k.ensures ρ) c.if-k-ne0.true;
       sized = λ z. absurd (c.if-k-ne0.true z);
       ranged = λ z. absurd (c.if-k-ne0.true z);
     }
 
 end-requires : tie.Need-end-requires
 end-requires c κs =
-    let e = c.before.before in let s = start (went e) in record { n_le_most_cells = (s.requires.in_order.most, s.requires.in_order.beds, omega arith, omega arith); numbers = s.requires.in_order.numbers; grounds = ((λ i l. (s.requires.ranged i l).ground), done_small (((went e).stage-k.ensures (λ i. pos 0)).done e.if-k-ne0.false)) }
+    let e = c.before.before in let s = start (went e) in (
+      (s.requires.0.most, s.requires.0.beds, omega arith, omega arith),
+      (s.requires.0.numbers, ((λ i l. (s.requires.1.1 i l).ground), done_small (((went e).stage-k.ensures (λ i. pos 0)).done e.if-k-ne0.false))),
+    )
 
 returns : tie.Need-returns
 returns c =
@@ -40,14 +43,14 @@ returns c =
     let w = went e in
     let s = start w in
     let a = s.args in
-    let o = s.requires.in_order.some in
+    let o = s.requires.0.some in
     record {
       half = λ ρ v shows. let says = w.stage-k.ensures ρ in
           half_ends o a.a.now shows says e.if-k-ne0.false
           (one_state o v a.a.now shows (says.done e.if-k-ne0.false)) (n.end.ensures ρ);
       sized = λ z. ((w.stage-k.ensures (λ i. pos 0)).done e.if-k-ne0.false).faces.sized;
       ranged = λ z. end_ranged a.reach a.call a.bed.now (λ i. pos 0) (n.end.ensures (λ i. pos 0)) z
-          (λ i l. (s.requires.ranged i l).ground);
+          (λ i l. (s.requires.1.1 i l).ground);
     }
 
 pub stage_one_spec : {M : Type 1} → statement M

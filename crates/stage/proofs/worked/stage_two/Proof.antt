@@ -9,8 +9,8 @@ use Rattle.stage.proofs.worked.stage_two.Tie as tie
 
 stage-k-requires : tie.Need-stage-k-requires
 stage-k-requires c κs =
-    let s = c.before.before.before.before in let order = s.requires.in_order in let ranged = s.requires.1.1.1 in
-    record { n_nonzero = (order.some, order.most, omega arith, omega arith); face_room = (omega arith, omega arith); numbers = order.numbers; ranged = ranged.0.1 }
+    let s = c.before.before.before.before in let order = s.requires.0 in let ranged = s.requires.1.1.1 in
+    ((order.some, order.most, omega arith, omega arith), ((omega arith, omega arith), (order.numbers, ranged.0.1)))
 
 module _ (w : tie.After-stage-k) where
   abbrev start : tie.Start
@@ -26,20 +26,32 @@ module _ (e : tie.Else-k-ne0) where
 returns-then-k-ne0 : tie.Need-returns-then-k-ne0
 returns-then-k-ne0 c ρ v shows faces one =
     let w = c.before.before.before.before.before in let s = start w in let a = s.args in
-    half_stops s.requires.in_order.some a.b-1.now one (w.stage-k.ensures ρ) c.if-k-ne0.true
+    half_stops s.requires.0.some a.b-1.now one (w.stage-k.ensures ρ) c.if-k-ne0.true
 
 join-requires : tie.Need-join-requires
 join-requires c κs =
     let e = c.before.before in let s = begun e in let done = ((went e).stage-k.ensures (λ i. pos 0)).done e.if-k-ne0.false in
-    let given = s.pre.1.1.1 in record { room = (omega arith, omega arith, omega arith, omega arith); wides = ((λ i l. small_wide (inside_small (given.0.0 i l))), (λ i l. small_wide (done_small done i l))); face_rows = (given.1, done.faces.sized) }
+    let given = s.requires.1.1.1 in (
+      (omega arith, omega arith, omega arith, omega arith),
+      (
+        ((λ i l. small_wide (inside_small (given.0.0 i l))), (λ i l. small_wide (done_small done i l))),
+        (given.1, done.faces.sized),
+      ),
+    )
 
 end-requires : tie.Need-end-requires
 end-requires c κs =
     let j = c.before.before.before in let e = j.before.before.before in let s = begun e in
-    let done = ((went e).stage-k.ensures (λ i. pos 0)).done e.if-k-ne0.false in let given = s.pre.1.1.1 in record { n_le_most_cells = (s.requires.in_order.most, s.requires.in_order.beds, omega arith, omega arith); numbers = s.requires.in_order.numbers; grounds = (
+    let done = ((went e).stage-k.ensures (λ i. pos 0)).done e.if-k-ne0.false in let given = s.requires.1.1.1 in (
+      (s.requires.0.most, s.requires.0.beds, omega arith, omega arith),
+      (
+        s.requires.0.numbers,
+        (
           (λ i l. (given.0.0 i l).ground),
           join_small s.args.bed.now j.join.ensures given.0.0 (done_small done) given.1 done.faces.sized,
-        ) }
+        ),
+      ),
+    )
 
 returns : tie.Need-returns
 returns c ρ v shows faces one =
@@ -49,7 +61,7 @@ returns c ρ v shows faces one =
     let w = went e in
     let s = start w in
     let a = s.args in
-    let o = s.requires.in_order.some in
+    let o = s.requires.0.some in
     let says = w.stage-k.ensures ρ in
     half_ends o a.b-1.now one says e.if-k-ne0.false
     (two_state o v a.a.now shows a.b-1.now one faces (says.done e.if-k-ne0.false) j.join.ensures)

@@ -16,10 +16,10 @@ module _ (s : tie.Start) where
   within : let bed = s.args.bed.now in let k = s.args.k in
       (block_from k < block_to (cells_over bed) k) × (block_to (cells_over bed) k ≤ cells_over bed)
       × (block_to (cells_over bed) k ≤ block_from k + block_cells)
-  within = block_within s.args.bed.now s.args.state.now s.args.k (rw (← s.requires.n_value.0) s.requires.n_value.3)
+  within = block_within s.args.bed.now s.args.state.now s.args.k (rw (← s.requires.0.0) s.requires.0.3)
 
 depths-requires : tie.Need-depths-requires
-depths-requires c κs = let s = c.before in let w = within s in let p = s.requires.n_value in let e = c.Block-to.ensures in
+depths-requires c κs = let s = c.before in let w = within s in let p = s.requires.0 in let e = c.Block-to.ensures in
     rw (e, p.0) (omega (arith, w), omega (arith, w, p), omega (arith, w, p), omega (arith, w, p))
 
 -- what the cells of the block come to
@@ -27,11 +27,11 @@ sum_is : (c : tie.After-depths) → let p = c.before.before.args in c.depths.res
 unfolding block_sum
 sum_is c = let t = c.before in let s = t.before in
     c.depths.ensures.is ∙ ap (sum_to (depth_in s.args.bed.now s.args.state.now) (block_from s.args.k))
-    (t.Block-to.ensures ∙ ap (λ (n : ℕ). block_to n s.args.k) s.requires.n_value.0)
+    (t.Block-to.ensures ∙ ap (λ (n : ℕ). block_to n s.args.k) s.requires.0.0)
 
 small : (c : tie.After-depths) → mag c.depths.result < 2 ^ 31
 small c = let s = c.before.before in
-    rw (sum_is c) (block_small s.args.bed.now s.args.state.now s.args.k (rw (← s.requires.n_value.0) s.requires.n_value.3) s.requires.depths_in)
+    rw (sum_is c) (block_small s.args.bed.now s.args.state.now s.args.k (rw (← s.requires.0.0) s.requires.0.3) s.requires.1)
 
 overflow_cast-result : tie.Need-overflow_cast-result
 overflow_cast-result c = narrows c.depths.result (small c)
