@@ -23,6 +23,6 @@ one_flux carried.Refused (carried.Flux f k a s) e = never (sym e)
 one_flux carried.Refused carried.Refused e = refl
 
 -- a flux by its four values
-pub carries : (f k a s : ℤ) (g : Flux) → f ≡ g.row.F → k ≡ g.row.K → a ≡ g.row.A → s ≡ g.row.S → flux (carried.Flux f k a s) ≡ given g
+pub carries : (f k a s : ℤ) (g : Flux) → f ≡ g.F → k ≡ g.K → a ≡ g.A → s ≡ g.S → flux (carried.Flux f k a s) ≡ given g
 unfolding flux
 carries f k a s g p q r t = λ j. given (record { F = p j; K = q j; A = r j; S = t j })

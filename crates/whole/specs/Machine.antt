@@ -197,6 +197,10 @@ back {z} h = to_z-of_z w64 z (record { sfits = h })
 pub back64 : {z v : ℤ} → mag z < 2 ^ 63 → z ≡ v → to_z w64 (of_z w64 z) ≡ v
 back64 h e = back h ∙ e
 
+-- one that is a number within a size that fits
+pub back_in : {z v : ℤ} {A : ℕ} → z ≡ v → Within A v → T (ltb A (2 ^ 63)) → to_z w64 (of_z w64 z) ≡ v
+back_in e w t = back64 (g_fits (record { same = e; bound = w }) t).sfits e
+
 -- `x as i64` of an i32: the cast's need, and the value
 pub widens : (z : ℤ) → mag z < 2 ^ 31 → SFits w64 (to_z w32 (of_z w32 z))
 widens z h = let f : SFits w32 z = record { sfits = h } in rw (to_z-of_z w32 z f) (sfits_widen tt f)
