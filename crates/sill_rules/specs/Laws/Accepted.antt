@@ -91,6 +91,7 @@ large_of r s w e = let f = some_yes (off r s) r.n e in let i = f.0 in let z = r.
     go : (z : ℤ) (x : Pool) → pos 0 ≤ℤ depth z x → One (pool_tests z x) → TooLarge z x
     go z x h (inl a) = inl (lt_yes deepest (depth z x) (rw (no_lt (depth z x) (pos 0) h) at a))
     go z x h (inr (inl a)) = inr (lt_yes fullest (size_z x.q) a)
+    go z x h (inr (inr y)) = elim y [ ]
 
 pub eight : (r : Reach) → Lawful r.face → (c : Call) (s : State) → refusal r c s ≡ 8 → Large r (next r c s)
 unfolding refusal checks early verdict
