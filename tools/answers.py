@@ -13,7 +13,7 @@ def chains(s,steps):
         out=[parts[0]]
         for i in range(1,len(parts)):
             a=parts[i-1]
-            stop=a in KEEP or a.startswith('loop') or norm(a) in steps and steps[norm(a)].startswith('loop')
+            stop=not (i==1 or a=='before') or a in KEEP
             out.append(steps[norm(parts[i])] if norm(parts[i]) in steps and not stop and not parts[i].isdigit() else parts[i])
         return '.'.join(out)
     s=re.sub(r"[^\s(){}.;,@\"«»]*(?:\.[^\s(){}.;,@\"«»]+)+",one,s)

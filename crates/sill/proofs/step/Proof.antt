@@ -40,15 +40,15 @@ module _ (c : tie.Else-bad_lengths) where
   s = c.before.before.before
 
   lengths : misfit (states s) (room s) (beds s) (n s) ≡ false
-  lengths = sym c.before.bad_lengths.ensures ∙ c.if-bad_lengths.false
+  lengths = sym c.bad_lengths.ensures ∙ c.if-bad_lengths.false
 
   fits : Fitted (states s) (room s) (beds s) (n s)
   fits = fitted (states s) (room s) (beds s) (n s) lengths
 
 returns-then-bad_lengths : tie.Need-returns-then-bad_lengths
-returns-then-bad_lengths c = let b = c.before.before.before in let p = b.args in
-    length_refused p.state.now (room b) p.bed.now p.friction.now p.given
-    (sym c.before.bad_lengths.ensures ∙ c.if-bad_lengths.true) _
+returns-then-bad_lengths c = let p = c.args in
+    length_refused p.state.now (room c.before.before.before) p.bed.now p.friction.now p.given
+    (sym c.bad_lengths.ensures ∙ c.if-bad_lengths.true) _
 
 -- ---- the numbers of the call, widened
 module _ (c : tie.After-bad_numbers) where
@@ -78,9 +78,9 @@ module _ (c : tie.After-bad_numbers) where
   call_is : call ≡ call_by (n (s fit)) (s fit).args.given
   call_is =
       let g = (s fit).args.given in
-      let dx = back64 w1.widened.ok w1.widened.ensures in
-      let dt = back64 w2.widened-2.ok w2.widened-2.ensures in
-      let dry = back64 w3.widened-3.ok w3.widened-3.ensures in
+      let dx = back64 w1.widened.type_inv w1.widened.ensures in
+      let dt = back64 w2.widened-2.type_inv w2.widened-2.ensures in
+      let dry = back64 w3.widened-3.type_inv w3.widened-3.ensures in
       λ j. record { n = n (s fit); dx = dx j; dt = dt j; dry = dry j; left = g.left; right = g.right }
 
   judged : bad_call (reach_of (lent (s fit))) (call_of (lent (s fit))) ≡ c.bad_numbers.result
@@ -89,8 +89,8 @@ module _ (c : tie.After-bad_numbers) where
       ∙ (λ j. bad_call (reach_in (call_is j) p.bed.now) (call_in (call_is j) rough)))
 
 returns-then-bad_numbers : tie.Need-returns-then-bad_numbers
-returns-then-bad_numbers c = let m = c.before in let e = fit m in let p = (s e).args in
-    call_refused p.state.now (room (s e)) p.bed.now p.friction.now p.given (lengths e) (judged m ∙ c.if-bad_numbers.true) _
+returns-then-bad_numbers c = let e = fit c.before in let p = (s e).args in
+    call_refused p.state.now (room (s e)) p.bed.now p.friction.now p.given (lengths e) (judged c.before ∙ c.if-bad_numbers.true) _
 
 -- ---- a call in order
 module _ (e : tie.Else-bad_numbers) where
@@ -102,20 +102,20 @@ module _ (e : tie.Else-bad_numbers) where
 
   asked : let p = start.args in Numbers (call m) × Lengths (call m) p.state.now p.next-1.now p.bed.now p.friction.now
   asked = let p = start.args in let f = fits (fit m) in let rough : ℕ → ℤ = λ i. pos (get_or p.friction.now i 0) in (
-    numbers (call m) p.bed.now rough f.some f.most (sym (m.bad_numbers.ensures p.bed.now rough) ∙ e.if-bad_numbers.left),
+    numbers (call m) p.bed.now rough f.some f.most (sym (m.bad_numbers.ensures p.bed.now rough) ∙ e.if-bad_numbers.false),
     record { state_is = f.now; next_is = f.next-1; bed_is = f.beds; friction_is = refl },
   )
 
   outcome_is : let p = start.args in tables_outcome (call m) p.bed.now p.friction.now p.state.now ≡ step_of (lent start)
   outcome_is = let p = start.args in
       (λ j. tables_outcome (call_is m j) p.bed.now p.friction.now p.state.now)
-      ∙ further p.state.now (room start) p.bed.now p.friction.now p.given (lengths (fit m)) (judged m ∙ e.if-bad_numbers.left)
+      ∙ further p.state.now (room start) p.bed.now p.friction.now p.given (lengths (fit m)) (judged m ∙ e.if-bad_numbers.false)
 
 returns-then-n-le-SHORT_CELLS : tie.Need-returns-then-n-le-SHORT_CELLS
-returns-then-n-le-SHORT_CELLS c = same_gives (outcome_is c.before.before.before.before) c.before.short_step.ensures
+returns-then-n-le-SHORT_CELLS c = same_gives (outcome_is c.before.before.before.before) c.short_step.ensures
 
 returns : tie.Need-returns
-returns c = same_gives (outcome_is c.before.before.before.before) c.before.long_step.ensures
+returns c = same_gives (outcome_is c.before.before.before.before) c.long_step.ensures
 
 pub step_spec : {M : Type 1} → statement M
 step_spec =

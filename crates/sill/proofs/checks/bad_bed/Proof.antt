@@ -25,17 +25,15 @@ decreases-loop bed i₀ i = length bed - i
 
 -- what the test of this turn says
 here : (c : tie.After-outside invariant-loop decreases-loop) →
-    let l = c.before.before.before in bad l.before.args.bed.now l.loop-i.i ≡ c.outside.result
+    bad c.args.bed.now c.loop-i.i ≡ c.outside.result
 unfolding bad_bed
-here c = let a = c.before.bed_at in sym (c.outside.ensures ∙ ap (outside (pos 0) highest_bed) (back64 a.type_inv a.ensures))
+here c = let a = c.bed_at in sym (c.outside.ensures ∙ ap (outside (pos 0) highest_bed) (back64 a.type_inv a.ensures))
 
 returns-then-outside : tie.Need-returns-then-outside invariant-loop decreases-loop
-returns-then-outside c = let b = c.before in let e = b.before.before in
-    scan_lowest e.before.loop-i.invariant e.loop-i-test.true (here b) c.if-outside.true
+returns-then-outside c = scan_lowest c.loop-i.invariant c.loop-i-test.true (here c.before) c.if-outside.true
 
 loop-i-preserved : tie.Need-loop-i-preserved invariant-loop decreases-loop
-loop-i-preserved c = let b = c.before in let e = b.before.before in
-    scan_more e.before.loop-i.invariant e.loop-i-test.true (here b) c.if-outside.false
+loop-i-preserved c = scan_more c.loop-i.invariant c.loop-i-test.true (here c.before) c.if-outside.false
 
 pub bad_bed_spec : {M : Type 1} → statement M
 bad_bed_spec =
@@ -48,4 +46,4 @@ bad_bed_spec =
     returns-then-outside
     (λ c. search rules) (λ c. search rules)
     loop-i-preserved
-    (λ c. scan_past c.before.loop-i.invariant c.loop-i-test.false))
+    (λ c. scan_past c.loop-i.invariant c.loop-i-test.false))

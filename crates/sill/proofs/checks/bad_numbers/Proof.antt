@@ -22,24 +22,22 @@ abbrev second : tie.Else-bad_dry → tie.Else-outside-2
 second c = c.before.before.before
 
 -- ---- the three tests of numbers, and what is known past each
-length_test : (o : tie.After-outside) → outside (pos 1) longest_cell o.before.before.args.call.dx ≡ o.outside.result
+length_test : (o : tie.After-outside) → outside (pos 1) longest_cell o.args.call.dx ≡ o.outside.result
 length_test o =
-    let k = o.before in
-    sym (rw (back {z = k.before.args.call.dx} k.struct_told-1.given.0.1) at o.outside.ensures)
+    sym (rw (back {z = o.args.call.dx} o.struct_told-1.given.0.1) at o.outside.ensures)
 
 length_in : (c : tie.Else-outside) → outside (pos 1) longest_cell (start c).args.call.dx ≡ false
 length_in c = length_test c.before ∙ c.if-outside.false
 
 step_test : (o : tie.After-outside-2) → outside (pos 1) longest_step (start o.before.before).args.call.dt ≡ o.outside-2.result
-step_test o = let k = o.before in
-    sym (rw (back {z = (start k.before).args.call.dt} k.struct_told-2-1.given.1.0.1) at o.outside-2.ensures)
+step_test o = sym (rw (back {z = (start o.before.before).args.call.dt} o.struct_told-2-1.given.1.0.1) at o.outside-2.ensures)
 
 step_in : (c : tie.Else-outside-2) → outside (pos 1) longest_step (start (first c)).args.call.dt ≡ false
 step_in c = step_test c.before ∙ c.if-outside-2.false
 
 dry_test : (o : tie.After-bad_dry) → bad_dry (start (first o.before.before)).args.call.dry ≡ o.bad_dry.result
-dry_test o = let k = o.before in let s = start (first k.before) in
-    sym (rw (back {z = s.args.call.dry} k.struct_told-3-1.given.1.1.0.1) at o.bad_dry.ensures)
+dry_test o = let s = start (first o.before.before) in
+    sym (rw (back {z = s.args.call.dry} o.struct_told-3-1.given.1.1.0.1) at o.bad_dry.ensures)
 
 dry_in : (c : tie.Else-bad_dry) → bad_dry (start (first (second c))).args.call.dry ≡ false
 dry_in c = dry_test c.before ∙ c.if-bad_dry.false
@@ -50,29 +48,29 @@ returns-then-outside c bed ρ = rw (length_test c.before ∙ c.if-outside.true)
 
 returns-then-outside-2 : tie.Need-returns-then-outside-2
 unfolding bad_call any
-returns-then-outside-2 c bed ρ = let o = c.before in rw (length_in o.before.before, step_test o ∙ c.if-outside-2.true)
+returns-then-outside-2 c bed ρ = rw (length_in c.before.before.before, step_test c.before ∙ c.if-outside-2.true)
 
 returns-then-bad_dry : tie.Need-returns-then-bad_dry
 unfolding bad_call any
 returns-then-bad_dry c bed ρ =
-    let o = c.before in let e = o.before.before in rw (length_in (first e), step_in e, dry_test o ∙ c.if-bad_dry.true)
+    rw (length_in (first c.before.before.before), step_in c.before.before.before, dry_test c.before ∙ c.if-bad_dry.true)
 
 returns-then-call-gt-OPEN : tie.Need-returns-then-call-gt-OPEN
 unfolding bad_call any
 returns-then-call-gt-OPEN c bed ρ =
-    let f = c.before.before in let e = second f in rw (length_in (first e), step_in e, dry_in f, lt-ltb _ _ c.if-call-gt-OPEN.true)
+    let e = second c.before.before in rw (length_in (first e), step_in e, dry_in c.before.before, lt-ltb _ _ c.if-call-gt-OPEN.true)
 
 returns-then-call-gt-OPEN-2 : tie.Need-returns-then-call-gt-OPEN-2
 unfolding bad_call any
 returns-then-call-gt-OPEN-2 c bed ρ =
-    let g = c.before.before in let f = g.before.before in let e = second f in
-    rw (length_in (first e), step_in e, dry_in f, le-ltb _ _ g.if-call-gt-OPEN.false, lt-ltb _ _ c.if-call-gt-OPEN-2.true)
+    let e = second c.before.before.before.before in
+    rw (length_in (first e), step_in e, dry_in c.before.before.before.before, le-ltb _ _ c.if-call-gt-OPEN.false, lt-ltb _ _ c.if-call-gt-OPEN-2.true)
 
 returns : tie.Need-returns
 unfolding bad_call any
 returns c bed ρ =
-    let g = c.before.before in let f = g.before.before in let e = second f in
-    rw (length_in (first e), step_in e, dry_in f, le-ltb _ _ g.if-call-gt-OPEN.false, le-ltb _ _ c.if-call-gt-OPEN-2.false)
+    let e = second c.before.before.before.before in
+    rw (length_in (first e), step_in e, dry_in c.before.before.before.before, le-ltb _ _ c.if-call-gt-OPEN.false, le-ltb _ _ c.if-call-gt-OPEN-2.false)
 
 pub bad_numbers_spec : {M : Type 1} → statement M
 bad_numbers_spec =

@@ -24,25 +24,21 @@ decreases-loop state bed n i₀ i = n - i
 
 off_pool-requires : tie.Need-off_pool-requires invariant-loop decreases-loop
 off_pool-requires c κs =
-    let u = c.before in let e = u.before in let l = e.before in
-    rw (back64 u.bed_at.type_inv u.bed_at.ensures, c.pool_of.ensures.0)
-    (l.before.requires.2 l.loop-i.i e.loop-i-test.true, c.pool_of.ensures.1)
+    rw (back64 c.bed_at.type_inv c.bed_at.ensures, c.pool_of.ensures.0)
+    (c.requires.2 c.loop-i.i c.loop-i-test.true, c.pool_of.ensures.1)
 
 -- what the test of this turn says
 here : (c : tie.After-off_pool invariant-loop decreases-loop) →
-    let l = c.before.before.before.before in
-    let a = l.before.args in
-    bad a.state.now a.bed.now a.n l.loop-i.i ≡ c.off_pool.result
-here c = let x = c.before in let z = x.before.bed_at in
-    sym (rw (back64 z.type_inv z.ensures, x.pool_of.ensures.0) at c.off_pool.ensures)
+    let a = c.args in
+    bad a.state.now a.bed.now a.n c.loop-i.i ≡ c.off_pool.result
+here c = let z = c.bed_at in
+    sym (rw (back64 z.type_inv z.ensures, c.pool_of.ensures.0) at c.off_pool.ensures)
 
 returns-then-off_pool : tie.Need-returns-then-off_pool invariant-loop decreases-loop
-returns-then-off_pool c = let o = c.before in let e = o.before.before.before in
-    scan_lowest e.before.loop-i.invariant e.loop-i-test.true (here o) c.if-off_pool.true
+returns-then-off_pool c = scan_lowest c.loop-i.invariant c.loop-i-test.true (here c.before) c.if-off_pool.true
 
 loop-i-preserved : tie.Need-loop-i-preserved invariant-loop decreases-loop
-loop-i-preserved c = let o = c.before in let e = o.before.before.before in
-    scan_more e.before.loop-i.invariant e.loop-i-test.true (here o) c.if-off_pool.false
+loop-i-preserved c = scan_more c.loop-i.invariant c.loop-i-test.true (here c.before) c.if-off_pool.false
 
 pub off_state_spec : {M : Type 1} → statement M
 off_state_spec =
@@ -57,4 +53,4 @@ off_state_spec =
     (λ c. search rules)
     (λ c. search rules)
     loop-i-preserved
-    (λ c. scan_past c.before.loop-i.invariant c.loop-i-test.false))
+    (λ c. scan_past c.loop-i.invariant c.loop-i-test.false))

@@ -22,19 +22,19 @@ at_inner r zero f = absurd (f (λ j. zero))
 at_inner r (suc i) f = let e : suc i - 1 ≡ i = omega arith in rw e
 
 -- the bed of the cell
-own : (c : tie.After-bed_at-own) → let a = c.before.args in c.bed_at-own.result ≡ get_or a.bed.now a.i (pos 0)
+own : (c : tie.After-bed_at-own) → let a = c.args in c.bed_at-own.result ≡ get_or a.bed.now a.i (pos 0)
 own c = c.bed_at-own.ensures
 
 returns-then-i-eq0 : tie.Need-returns-then-i-eq0
-returns-then-i-eq0 c = let b = c.before in let a = b.before.args in
-    back64 b.bed_at-own.type_inv (own b) ∙ at_first (reach_in a.call a.bed.now) a.i c.if-i-eq0.true
+returns-then-i-eq0 c = let a = c.args in
+    back64 c.bed_at-own.type_inv (own c.before) ∙ at_first (reach_in a.call a.bed.now) a.i c.if-i-eq0.true
 
 returns : tie.Need-returns
 returns c =
-    let d = c.before in let e = d.before in let b = e.before in let a = b.before.args in
+    let a = c.args in
     back64 c.higher.type_inv (c.higher.ensures
-    ∙ ap₂ max_z (back64 d.bed_at.type_inv d.bed_at.ensures) (back64 b.bed_at-own.type_inv (own b)))
-    ∙ at_inner (reach_in a.call a.bed.now) a.i e.if-i-eq0.false
+    ∙ ap₂ max_z (back64 c.bed_at.type_inv c.bed_at.ensures) (back64 c.bed_at-own.type_inv (own c.before.before.before)))
+    ∙ at_inner (reach_in a.call a.bed.now) a.i c.if-i-eq0.false
 
 pub crest_left_spec : {M : Type 1} → statement M
 crest_left_spec =

@@ -24,19 +24,19 @@ at_inner r i f =
     rw (e, ne_eqb (suc i) r.n g)
 
 -- the bed of the cell
-own : (c : tie.After-bed_at-own) → let a = c.before.args in c.bed_at-own.result ≡ get_or a.bed.now a.i (pos 0)
+own : (c : tie.After-bed_at-own) → let a = c.args in c.bed_at-own.result ≡ get_or a.bed.now a.i (pos 0)
 own c = c.bed_at-own.ensures
 
 returns-then-i-call : tie.Need-returns-then-i-call
-returns-then-i-call c = let b = c.before.before in let a = b.before.args in
-    back64 b.bed_at-own.type_inv (own b) ∙ at_last (reach_in a.call a.bed.now) a.i c.if-i-call.true
+returns-then-i-call c = let a = c.args in
+    back64 c.bed_at-own.type_inv (own c.before.before) ∙ at_last (reach_in a.call a.bed.now) a.i c.if-i-call.true
 
 returns : tie.Need-returns
 returns c =
-    let d = c.before in let e = d.before in let b = e.before.before in let a = b.before.args in
+    let a = c.args in
     back64 c.higher.type_inv (c.higher.ensures
-    ∙ ap₂ max_z (back64 b.bed_at-own.type_inv (own b)) (back64 d.bed_at.type_inv d.bed_at.ensures))
-    ∙ at_inner (reach_in a.call a.bed.now) a.i e.if-i-call.false
+    ∙ ap₂ max_z (back64 c.bed_at-own.type_inv (own c.before.before.before.before)) (back64 c.bed_at.type_inv c.bed_at.ensures))
+    ∙ at_inner (reach_in a.call a.bed.now) a.i c.if-i-call.false
 
 pub crest_right_spec : {M : Type 1} → statement M
 crest_right_spec =

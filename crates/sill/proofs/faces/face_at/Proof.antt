@@ -21,10 +21,10 @@ module _ (f : tie.After-left_side-first) where
 
 returns-then-i-eq0 : tie.Need-returns-then-i-eq0
 returns-then-i-eq0 c =
-    let o = c.before in let f = o.before in let t = f.before.before in let a = (left_start f).args in
+    let a = (left_start c.before.before).args in
     c.crossing.ensures
-    ∙ ap₂ face (o.outer.ensures.0 ∙ ap (outer a.call.left) f.left_side-first.ensures) f.left_side-first.ensures
-    ∙ sym (at_left a.call a.b.now a.i t.if-i-eq0.true)
+    ∙ ap₂ face (c.outer.ensures.0 ∙ ap (outer a.call.left) c.left_side-first.ensures) c.left_side-first.ensures
+    ∙ sym (at_left a.call a.b.now a.i c.if-i-eq0.true)
 
 -- ---- a face behind a cell
 module _ (b : tie.After-right_side-before) where
@@ -36,29 +36,29 @@ module _ (b : tie.After-right_side-before) where
 
   before_sound : Sound (side_in b.right_side-before.result)
   before_sound =
-      let s = start in let i = s.args.i - 1 in let l : i < s.args.call.n = omega (arith, else.if-i-eq0.left, s.requires.0) in
+      let s = start in let i = s.args.i - 1 in let l : i < s.args.call.n = omega (arith, else.if-i-eq0.false, s.requires.0) in
       subst Sound (sym b.right_side-before.ensures) (s.requires.1 i l).right
 
 returns-then-i-call : tie.Need-returns-then-i-call
 returns-then-i-call c =
-    let o = c.before in let t = o.before in let b = t.before.before in let a = (start b).args in
+    let a = (start c.before.before.before.before).args in
     c.crossing-then-i-call.ensures
-    ∙ ap₂ face b.right_side-before.ensures (o.outer-then-i-call.ensures.0 ∙ ap (outer a.call.right) b.right_side-before.ensures)
-    ∙ sym (at_right a.call a.b.now a.i (else b).if-i-eq0.false t.if-i-call.true)
+    ∙ ap₂ face c.right_side-before.ensures (c.outer-then-i-call.ensures.0 ∙ ap (outer a.call.right) c.right_side-before.ensures)
+    ∙ sym (at_right a.call a.b.now a.i (else c.before.before.before.before).if-i-eq0.false c.if-i-call.true)
 
 -- ---- and before another
 crossing-requires-2 : tie.Need-crossing-requires-2
 crossing-requires-2 c κs =
-    let e = c.before.before in let b = e.before.before in let s = start b in
-    let l : s.args.i < s.args.call.n = omega (arith, e.if-i-call.false, s.requires.0) in
-    (before_sound b, subst Sound (sym c.left_side.ensures) (s.requires.1 s.args.i l).left)
+    let s = start c.before.before.before.before in
+    let l : s.args.i < s.args.call.n = omega (arith, c.if-i-call.false, s.requires.0) in
+    (before_sound c.before.before.before.before, subst Sound (sym c.left_side.ensures) (s.requires.1 s.args.i l).left)
 
 returns : tie.Need-returns
 returns c =
-    let f = c.before in let e = f.before.before in let b = e.before.before in let a = (start b).args in
+    let a = (start c.before.before.before.before.before).args in
     c.crossing-2.ensures
-    ∙ ap₂ face b.right_side-before.ensures f.left_side.ensures
-    ∙ sym (at_inner a.call a.b.now a.i (else b).if-i-eq0.false e.if-i-call.false)
+    ∙ ap₂ face c.right_side-before.ensures c.left_side.ensures
+    ∙ sym (at_inner a.call a.b.now a.i (else c.before.before.before.before.before).if-i-eq0.false c.if-i-call.false)
 
 pub face_at_spec : {M : Type 1} → statement M
 face_at_spec =

@@ -26,14 +26,14 @@ overflow_sub-result c = need (env c.before.before.before) less tt
 returns-then-kind-eq0 : tie.Need-returns-then-kind-eq0
 unfolding outer
 returns-then-kind-eq0 c =
-    let t = c.before.before.before in let s = t.before in let e = env s in let u = s.args.x.u in
-    let is : _ ≡ mirror (side_in s.args.x) =
+    let e = env c.before.before.before.before in let u = c.args.x.u in
+    let is : _ ≡ mirror (side_in c.args.x) =
     λ j. record { h = value e (v 1) tt j; u = (value e less tt ∙ eq! (lit 0 ⊟ at u) (⊖ (at u)) (omega arith)) j } in
-    rw (eq-eqb _ _ t.if-kind-eq0.true) (is, subst Sound (sym is) (turned_sound s.requires))
+    rw (eq-eqb _ _ c.if-kind-eq0.true) (is, subst Sound (sym is) (turned_sound c.requires))
 
 returns : tie.Need-returns
 unfolding outer
-returns c = rw (ne_eqb _ _ c.if-kind-eq0.false) (refl, c.before.requires)
+returns c = rw (ne_eqb _ _ c.if-kind-eq0.false) (refl, c.requires)
 
 pub outer_spec : {M : Type 1} → statement M
 outer_spec = tie.close (tie.spec overflow_sub-result returns-then-kind-eq0 returns)

@@ -26,7 +26,7 @@ overflow_mul-result-3 : tie.Need-overflow_mul-result-3
 overflow_mul-result-3 c = need (env c.before.before.before.before.before.before) way tt
 
 returns : tie.Need-returns
-returns c = let s = c.before.before.before.before.before.before in ap₂ lt_z (value (env s) room tt) (value (env s) way tt)
+returns c = ap₂ lt_z (value (env c.before.before.before.before.before.before) room tt) (value (env c.before.before.before.before.before.before) way tt)
 
 pub too_long_spec : {M : Type 1} → statement M
 too_long_spec = tie.close (tie.spec overflow_mul-result overflow_mul-result-2 overflow_mul-result-3 returns)

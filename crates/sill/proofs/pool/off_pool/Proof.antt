@@ -16,7 +16,7 @@ use Rattle.sill.proofs.pool.off_pool.Tie as tie
 depth_of-requires : tie.Need-depth_of-requires
 depth_of-requires c κs = rw (to_z-of_z c.ranges.z) c.requires
 
-deep_test : (c : tie.After-outside) → let a = c.before.before.args in
+deep_test : (c : tie.After-outside) → let a = c.args in
     outside (pos 0) deepest (depth a.z (as_pool a.t2)) ≡ c.outside.result
 deep_test c = let d = c.before in let s = d.before in
     sym (c.outside.ensures
@@ -29,8 +29,7 @@ returns-then-outside c = rw (deep_test c.before ∙ c.if-outside.true)
 returns : tie.Need-returns
 unfolding off_pool any
 returns c =
-    let a = c.before in let e = a.before in
-    rw (deep_test e.before ∙ e.if-outside.false, sym (rw (back a.past-arg-1.given) at c.past.ensures)) (or_last c.past.result)
+    rw (deep_test c.before.before.before ∙ c.if-outside.false, sym (rw (back c.past-arg-1.given) at c.past.ensures)) (or_last c.past.result)
 
 pub off_pool_spec : {M : Type 1} → statement M
 off_pool_spec =

@@ -16,7 +16,7 @@ use Rattle.sill.proofs.rubbing.row_of.Tie as tie
 
 module _ (s : tie.Start) where
   abbrev pool : Pool
-  pool = as_pool s.args.t4
+  pool = as_pool s.args.x
 
   abbrev bed : List ℤ
   bed = s.args.bed.now
@@ -33,7 +33,7 @@ module _ (a : tie.After-over-arg-1) where
   from_left = a.before.before
 
   left_is : rd a.before.crest_left.result ≡ crest_left (reach_in from_left.args.call (bed from_left)) from_left.args.i
-  left_is = back64 a.before.crest_left.ok a.before.crest_left.ensures
+  left_is = back64 a.crest_left.type_inv a.crest_left.ensures
 
 over-l-requires : tie.Need-over-l-requires
 over-l-requires c κs = let s = from_left c in
@@ -48,7 +48,7 @@ module _ (a : tie.After-over-arg-2-1) where
   from_right = from_left first
 
   right_is : rd a.before.crest_right.result ≡ crest_right (reach_in from_right.args.call (bed from_right)) from_right.args.i
-  right_is = back64 a.before.crest_right.ok a.before.crest_right.ensures
+  right_is = back64 a.crest_right.type_inv a.crest_right.ensures
 
 over-r-requires : tie.Need-over-r-requires
 over-r-requires c κs = let s = from_right c in
@@ -64,7 +64,7 @@ module _ (b : tie.After-bed_at) where
   start = from_right second
 
   z_is : rd b.bed_at.result ≡ get_or (bed start) start.args.i (pos 0)
-  z_is = back64 b.bed_at.ok b.bed_at.ensures
+  z_is = back64 b.bed_at.type_inv b.bed_at.ensures
 
 depth_of-requires : tie.Need-depth_of-requires
 depth_of-requires c κs = let i = inside (start c) in rw (z_is c) (i.ground, pool_wide i)
@@ -75,24 +75,23 @@ module _ (d : tie.After-depth_of) where
 
 speed_of-u-requires : tie.Need-speed_of-u-requires
 speed_of-u-requires c κs =
-    let d = c.before in let s = start d.before in let k = sizes s in
-    rw (back d.before.before.speed_of-arg-1.given, h_is d, back {z = s.args.call.dry} c.struct_told-1.given.1.1.0.1)
+    let s = start c.before.before in let k = sizes s in
+    rw (back c.speed_of-arg-1.given, h_is c.before, back {z = s.args.call.dry} c.struct_told-1.given.1.1.0.1)
     (k.flow, ((k.least, k.most), s.requires.0.0.dry))
 
 returns : tie.Need-returns
 unfolding over pace
 returns c =
-    let t = c.before in let sp = t.before in let k = sp.before in let d = k.before in let b = d.before in let o2 = b.before.before in
-    let a2 = second b in let o1 = a2.before.before in let a1 = first a2 in let s = start b in let x = s.args.t4 in
+    let a2 = second c.before.before.before.before.before in let o1 = a2.before.before in let a1 = first a2 in let s = start c.before.before.before.before.before in let x = s.args.x in
     let l = rw (left_is a1, back {z = get_or x 0 (pos 0)} a1.over-arg-1.given) at o1.over-l.ensures in
-    let r = rw (right_is a2, back {z = get_or x 0 (pos 0)} a2.over-arg-2-1.given) at o2.over-r.ensures in
+    let r = rw (right_is a2, back {z = get_or x 0 (pos 0)} a2.over-arg-2-1.given) at c.over-r.ensures in
     let u = rw (
-      back {z = get_or x 1 (pos 0)} b.before.speed_of-arg-1.given,
-      h_is d,
-      back {z = s.args.call.dry} k.struct_told-1.given.1.1.0.1,
-    ) at sp.speed_of-u.ensures in
-    λ j. back {z = get_or x 0 (pos 0)} t.result-1.given j ∷ back {z = get_or x 1 (pos 0)} c.result-2-1.given j
-    ∷ back64 o1.over-l.ok l j ∷ back64 o2.over-r.type_inv r j ∷ back64 sp.speed_of-u.type_inv u j ∷ []
+      back {z = get_or x 1 (pos 0)} c.speed_of-arg-1.given,
+      h_is c.before.before.before.before,
+      back {z = s.args.call.dry} c.struct_told-1.given.1.1.0.1,
+    ) at c.speed_of-u.ensures in
+    λ j. back {z = get_or x 0 (pos 0)} c.result-1.given j ∷ back {z = get_or x 1 (pos 0)} c.result-2-1.given j
+    ∷ back64 o1.over-l.type_inv l j ∷ back64 c.over-r.type_inv r j ∷ back64 c.speed_of-u.type_inv u j ∷ []
 
 pub row_of_spec : {M : Type 1} → statement M
 row_of_spec =

@@ -57,7 +57,7 @@ module _ (a : tie.After-speed_of-arg-1 invariant-loop decreases-loop) where
   start = turn.before.before.before
 
   abbrev i : ℕ
-  i = turn.before.loop-i.i
+  i = turn.loop-i.i
 
   abbrev z : ℤ
   z = get_or start.args.bed.now i (pos 0)
@@ -66,10 +66,10 @@ module _ (a : tie.After-speed_of-arg-1 invariant-loop decreases-loop) where
   cell = pool_in start.args.call.n start.args.state.now i
 
   inside : Inside z cell
-  inside = start.requires.1.1 i turn.loop-i-test.taken
+  inside = start.requires.1.1 i turn.loop-i-test.true
 
   z_is : rd bedded.bed_at-z.result ≡ z
-  z_is = back64 bedded.bed_at-z.ok bedded.bed_at-z.ensures
+  z_is = back64 bedded.bed_at-z.type_inv bedded.bed_at-z.ensures
 
   cell_is : as_pool read.pool_of-x.result ≡ cell
   cell_is = ap as_pool read.pool_of-x.ensures.0
@@ -89,7 +89,7 @@ module _ (k : tie.After-struct_told-1 invariant-loop decreases-loop) where
   here = deep.before
 
   h_is : rd deep.depth_of.result ≡ depth (z here) (cell here)
-  h_is = back64 deep.depth_of.ok (deep.depth_of.ensures ∙ (λ j. depth (z_is here j) (cell_is here j)))
+  h_is = back64 deep.depth_of.type_inv (deep.depth_of.ensures ∙ (λ j. depth (z_is here j) (cell_is here j)))
 
   q_is : rd (get_or (read here).pool_of-x.result 1 (pos 0)) ≡ (cell here).q
   q_is = back here.speed_of-arg-1.given ∙ ap (λ (x : Pool). x.q) (cell_is here)
@@ -122,19 +122,19 @@ module _ (t : tie.After-past invariant-loop decreases-loop) where
 
   u_is : rd sped.speed_of-u.result ≡ pace begun.args.call.dry (z place) (cell place)
   unfolding pace
-  u_is = back64 sped.speed_of-u.ok (sped.speed_of-u.ensures ∙ (λ j. speed (dry_is told j) (q_is told j) (h_is told j)))
+  u_is = back64 sped.speed_of-u.type_inv (sped.speed_of-u.ensures ∙ (λ j. speed (dry_is told j) (q_is told j) (h_is told j)))
 
   fast_here : let a = begun.args in fast a.state.now a.bed.now a.friction.now a.call (i place) ≡ t.past.result
   unfolding fast_friction fast_pool
   fast_here = sym (t.past.ensures ∙ ap (past fastest) u_is)
 
 pool_of-x-requires : tie.Need-pool_of-x-requires invariant-loop decreases-loop
-pool_of-x-requires c κs = let s = c.before.before.before in (s.requires.0.0.most, c.loop-i-test.true, s.requires.0.2)
+pool_of-x-requires c κs = (c.requires.0.0.most, c.loop-i-test.true, c.requires.0.2)
 
 returns-then-past : tie.Need-returns-then-past invariant-loop decreases-loop
 returns-then-past c =
-    let t = c.before in let e = turn (place t) in let below = e.loop-i-test.taken in record {
-      stops = scan_lowest e.before.loop-i.inv.0 below (fast_here t) c.if-past.true;
+    let e = turn (place c.before) in let below = e.loop-i-test.true in record {
+      stops = scan_lowest e.loop-i.invariant.0 below (fast_here c.before) c.if-past.true;
       rows = λ m. let y : ⊥ = omega (arith, m) in absurd y;
     }
 
@@ -153,11 +153,11 @@ module _ (r : tie.After-rough_at invariant-loop decreases-loop) where
   rough = pos (get_or (begun tried).args.friction.now (i at) 0)
 
   rough_is : rd r.rough_at.result ≡ rough
-  rough_is = back64 r.rough_at.ok r.rough_at.ensures
+  rough_is = back64 r.rough_at.type_inv r.rough_at.ensures
 
   slow : fast_pool dry (z at) (cell at) ≡ false
   unfolding fast_friction
-  slow = fast_here tried ∙ r.before.if-past.left
+  slow = fast_here tried ∙ r.if-past.false
 
 rubbed_pool-requires : tie.Need-rubbed_pool-requires invariant-loop decreases-loop
 rubbed_pool-requires c κs =
@@ -165,7 +165,7 @@ rubbed_pool-requires c κs =
       s.requires.0.0,
       (
         subst (λ (f : ℤ). (pos 0 ≤ℤ f) × UpTo roughest f) (sym (rough_is c))
-            (nat_nonneg _, record { abs = s.requires.1.0 (i a) (turn a).loop-i-test.taken }),
+            (nat_nonneg _, record { abs = s.requires.1.0 (i a) (turn a).loop-i-test.true }),
         (
           subst (λ (b : ℤ). Inside b x) (sym (z_is a)) (subst (Inside (z a)) (sym (cell_is a)) (inside a)),
           (
@@ -199,7 +199,7 @@ module _ (y : tie.After-rubbed_pool invariant-loop decreases-loop) where
 
 row_of-requires : tie.Need-row_of-requires invariant-loop decreases-loop
 row_of-requires c κs = let o = own c in let s = start o in
-    ((s.requires.0.0, (turn o).loop-i-test.taken, s.requires.0.1), subst (Inside (z o)) (sym (end_is c)) (end_inside c))
+    ((s.requires.0.0, (turn o).loop-i-test.true, s.requires.0.1), subst (Inside (z o)) (sym (end_is c)) (end_inside c))
 
 row_is : (w : tie.After-row_of invariant-loop decreases-loop) → let o = own w.before in let p = (start o).args in
     w.row_of.result ≡ row p.state.now p.bed.now p.friction.now p.call (i o)
@@ -209,15 +209,15 @@ row_is w = let y = w.before in let o = own y in let p = (start o).args in
 
 loop-i-preserved : tie.Need-loop-i-preserved invariant-loop decreases-loop
 loop-i-preserved c =
-    let y = c.before in let r = roughened y in let t = tried r in let e = turn (own y) in let l = e.before in let v = l.loop-i.inv in
-    let room : l.loop-i.i < length l.loop-i.b = omega (arith, v.1, (start (own y)).requires.0.3, e.loop-i-test.taken) in (
-      scan_more v.0 e.loop-i-test.taken (fast_here t) r.before.if-past.left,
+    let r = roughened c.before in let t = tried r in let e = turn (own c.before) in let l = e.before in let v = l.loop-i.invariant in
+    let room : l.loop-i.i < length l.loop-i.b = omega (arith, v.1, (start (own c.before)).requires.0.3, e.loop-i-test.true) in (
+      scan_more v.0 e.loop-i-test.true (fast_here t) r.if-past.false,
       length-set l.loop-i.b l.loop-i.i _ ∙ v.1,
       written_more [] l.loop-i.b l.loop-i.i _ _ room v.2 (row_is c),
     )
 
 returns : tie.Need-returns invariant-loop decreases-loop
-returns c = let l = c.before.loop-i in record {
+returns c = let l = c.loop-i in record {
   stops = scan_past l.invariant.0 c.loop-i-test.false;
   rows = λ m k h. l.invariant.2 k (omega (arith, c.loop-i-test.false));
 }
@@ -228,7 +228,7 @@ rub_spec =
     (tie.spec
     invariant-loop
     decreases-loop
-    (λ c. (scan_none _ _, refl, written_none [] c.before.args.b.now _))
+    (λ c. (scan_none _ _, refl, written_none [] c.args.b.now _))
     pool_of-x-requires
     (λ c κs. search rules) (λ c. search rules)
     depth_of-requires

@@ -27,7 +27,7 @@ use Rattle.sill.proofs.rubbing.rubbed_pool.Tie as tie
 
 module _ (s : tie.Start) where
   abbrev pool : Pool
-  pool = as_pool s.args.t4
+  pool = as_pool s.args.x
 
   inside : Inside s.args.z pool
   inside = s.requires.1.1.0
@@ -44,7 +44,7 @@ module _ (k : tie.After-struct_told-1) where
   begun = measured.before
 
   h_is : rd measured.depth_of-h.result ≡ depth begun.args.z (pool begun)
-  h_is = back64 measured.depth_of-h.ok (rw (to_z-of_z begun.ranges.z) at measured.depth_of-h.ensures)
+  h_is = back64 measured.depth_of-h.type_inv (rw (to_z-of_z begun.ranges.z) at measured.depth_of-h.ensures)
 
   -- the first of them is the rule's
   test_is : let a = begun.args in
@@ -76,10 +76,10 @@ module _ (s : tie.Start) where
 
 returns-then-h-call : tie.Need-returns-then-h-call
 returns-then-h-call c =
-    let k = c.before in let s = begun k in let good = s.good.1.1 in let size = good.1.0.1 in let q = (pool s).q in
-    of_two s.args.t4 size.0.1
+    let s = begun c.before in let good = s.good.1.1 in let size = good.1.0.1 in let q = (pool s).q in
+    of_two s.args.x size.0.1
     ∙ sym (ap as_row (left s (⊎_elim
-    (λ w. dry_left s (test_is k ∙ w.taken))
+    (λ w. dry_left s (test_is c.before ∙ w.taken))
     (λ w. calm_left s (eq_yes q (pos 0)
     (sym (same_test {a = q} (record { sfits = w.1.given }) (sfits_lit tt)) ∙ w.2.taken)))
     c.then-h-call.branch)))
@@ -115,9 +115,9 @@ slowed_of-requires c κs =
 returns : tie.Need-returns
 unfolding rubbed_pool
 returns c =
-    let k = c.before in let s = start k in let num = s.requires.0 in let m = pool_sizes (inside s) in
-    let q = (simp (to_z-of_z, fit num.dt_in tt, s.ranges.f, s.ranges.u, fit m.flow tt, h_is (shown k)) at c.slowed_of.ensures)
-    ∙ sym (wet_left s (wet k)) in
+    let s = start c.before in let num = s.requires.0 in let m = pool_sizes (inside s) in
+    let q = (simp (to_z-of_z, fit num.dt_in tt, s.ranges.f, s.ranges.u, fit m.flow tt, h_is (shown c.before)) at c.slowed_of.ensures)
+    ∙ sym (wet_left s (wet c.before)) in
     λ j. to_z-of_z (fit m.level tt) j ∷ back64 c.slowed_of.type_inv q j ∷ []
 
 pub rubbed_pool_spec : {M : Type 1} → statement M

@@ -30,9 +30,9 @@ module _ (s : tie.Start) where
   )
 
 strength_is : (c : tie.After-strength) → value_of c.strength.result ≡ given (strong c.before)
-strength_is c = let s = c.before in let a = s.args in let rest = s.requires.1 in
-    (simp (to_z-of_z, s.ranges.dt, s.ranges.f, s.ranges.h, s.ranges.u) at c.strength.ensures)
-    ∙ strength_given_lem a.dt a.f a.h a.u s.requires.0 rest.0 rest.1.0 rest.1.1.0
+strength_is c = let a = c.args in let rest = c.requires.1 in
+    (simp (to_z-of_z, c.ranges.dt, c.ranges.f, c.ranges.h, c.ranges.u) at c.strength.ensures)
+    ∙ strength_given_lem a.dt a.f a.h a.u c.requires.0 rest.0 rest.1.0 rest.1.1.0
 
 -- the strength that was answered
 module _ (x : tie.After-slowed) where
@@ -40,26 +40,24 @@ module _ (x : tie.After-slowed) where
   known = x.before
 
   abbrev worked : tie.After-strength
-  worked = known.before.before.before
+  worked = known.before
 
   -- as it is read back, it is the rule's
   x_is : rd known.before.x-1.given.0.0 ≡ strong worked.before
-  x_is = back64 known.known_told-1.given.0.1 (told worked.strength.result _ _ known.before.x-1.given.1 (strength_is worked))
+  x_is = back64 known.known_told-1.given.0.1 (told worked.strength.result _ _ known.x-1.given.1 (strength_is worked))
 
   left_is : let s = worked.before in value_of x.slowed.result ≡ given (slowed (strong s) s.args.q)
-  left_is = let s = worked.before in
-      let rest = s.requires.1.1 in
-      (rw (x_is, to_z-of_z s.ranges.q) at x.slowed.ensures) ∙ slowed_given_lem (strong s) s.args.q (strong_in s) rest.1.1
+  left_is = let rest = worked.requires.1.1 in
+      (rw (x_is, to_z-of_z worked.ranges.q) at x.slowed.ensures) ∙ slowed_given_lem (strong worked.before) worked.args.q (strong_in worked.before) rest.1.1
 
 returns-in-Is-slowed : tie.Need-returns-in-Is-slowed
-returns-in-Is-slowed c = let x = c.before.before.before in
-    back64 c.known_told-in-Is-slowed-1.given.0.1 (told x.slowed.result _ _ c.before.r-1.given.1 (left_is x))
+returns-in-Is-slowed c = back64 c.known_told-in-Is-slowed-1.given.0.1 (told c.slowed.result _ _ c.r-1.given.1 (left_is c.before))
 
 returns-in-Refused-slowed : tie.Need-returns-in-Refused-slowed
-returns-in-Refused-slowed c = let x = c.before.before in untold x.slowed.result _ c.enum_told-1.given.1 (left_is x)
+returns-in-Refused-slowed c = untold c.slowed.result _ c.enum_told-1.given.1 (left_is c.before)
 
 returns-in-Refused : tie.Need-returns-in-Refused
-returns-in-Refused c = let k = c.before.before in untold k.strength.result _ c.enum_told-in-Refused-1.given.1 (strength_is k)
+returns-in-Refused c = untold c.strength.result _ c.enum_told-in-Refused-1.given.1 (strength_is c.before)
 
 pub slowed_of_spec : {M : Type 1} → statement M
 slowed_of_spec =

@@ -14,10 +14,10 @@ use Rattle.sill.proofs.store.put_pool.Tie as tie
 -- the two numbers, which are to be stored
 module _ (s : tie.Start) where
   abbrev level : ℤ
-  level = get_or s.args.t4 0 (pos 0)
+  level = get_or s.args.x 0 (pos 0)
 
   abbrev flow : ℤ
-  flow = get_or s.args.t4 1 (pos 0)
+  flow = get_or s.args.x 1 (pos 0)
 
   level_fits : mag level < 2 ^ 31
   level_fits = omega (arith, mag_abs level, s.requires.3.e.abs)
@@ -26,15 +26,15 @@ module _ (s : tie.Start) where
   flow_fits = omega (arith, mag_abs flow, s.requires.3.q.abs)
 
 bounds-next-n : tie.Need-bounds-next-n
-bounds-next-n c = let s = c.before.before in let t = s.args.next.now in
-    subst (λ (m : ℕ). s.args.n + s.args.i < m) (sym (length-set t s.args.i _)) (omega (arith, s.requires.2))
+bounds-next-n c = let t = c.args.next.now in
+    subst (λ (m : ℕ). c.args.n + c.args.i < m) (sym (length-set t c.args.i _)) (omega (arith, c.requires.2))
 
 returns : tie.Need-returns
 returns c =
-    let s = c.before.before in let n = s.args.n in let i = s.args.i in
+    let n = c.args.n in let i = c.args.i in
     let first : i ≡ 0 * n + i = omega arith in let then : n + i ≡ 1 * n + i = omega arith in
-    let e = narrowed {z = level s} (level_fits s) in let q = narrowed {z = flow s} (flow_fits s) in
-    λ j. set (set s.args.next.now (first j) (e j)) (then j) (q j)
+    let e = narrowed {z = level c.before.before} (level_fits c.before.before) in let q = narrowed {z = flow c.before.before} (flow_fits c.before.before) in
+    λ j. set (set c.args.next.now (first j) (e j)) (then j) (q j)
 
 pub put_pool_spec : {M : Type 1} → statement M
 put_pool_spec =

@@ -24,14 +24,14 @@ test_is d = let s = d.before in
 returns-then-depth_of-dry : tie.Need-returns-then-depth_of-dry
 unfolding dried_pool
 returns-then-depth_of-dry c =
-    let t = c.before in let d = t.before in let x = d.before.args.x in
-    rw (test_is d ∙ t.if-depth_of-dry.true) (λ j. back {z = get_or x 0 (pos 0)} c.result-1.given j ∷ pos 0 ∷ [])
+    let x = c.args.x in
+    rw (test_is c.before.before ∙ c.if-depth_of-dry.true) (λ j. back {z = get_or x 0 (pos 0)} c.result-1.given j ∷ pos 0 ∷ [])
 
 returns : tie.Need-returns
 unfolding dried_pool
 returns c =
-    let d = c.before in let s = d.before in let good = s.well_formed.1.0.1 in
-    rw (test_is d ∙ c.if-depth_of-dry.false) (of_two s.args.x good.0.1)
+    let good = c.well_formed.1.0.1 in
+    rw (test_is c.before ∙ c.if-depth_of-dry.false) (of_two c.args.x good.0.1)
 
 pub dried_spec : {M : Type 1} → statement M
 dried_spec = tie.close (tie.spec depth_of-requires (λ c. search rules) returns-then-depth_of-dry returns)

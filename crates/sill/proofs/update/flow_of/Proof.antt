@@ -34,24 +34,23 @@ overflow_mul-result c = need (env c.before.before.before.before.before) ((v 1 �
 
 nonzero_div-result : tie.Need-nonzero_div-result
 nonzero_div-result c =
-    let s = c.before.before.before.before.before.before.before in
-    (divisor (env s) (v 3) tt (given s).dx_pos, need (env s) carried tt)
+    (divisor (env c.before.before.before.before.before.before.before) (v 3) tt (given c.before.before.before.before.before.before.before).dx_pos, need (env c.before.before.before.before.before.before.before) carried tt)
 
 overflow_add-result : tie.Need-overflow_add-result
 overflow_add-result c = need (env c.before.before.before.before.before.before.before) (v 0 ⊕ carried) tt
 
 thrust_of-requires : tie.Need-thrust_of-requires
 thrust_of-requires c κs =
-    let s = c.before.before.before.before.before.before.before in rw (to_z-of_z s.ranges.e) s.requires.1
+    rw (to_z-of_z c.ranges.e) c.requires.1
 
 -- what the call gave
 abbrev start : tie.After-thrust_of → tie.Start
 start c = c.before.before.before.before.before.before.before.before
 
-moved : (c : tie.After-thrust_of) → c.thrust_of.result-1 ≡ thrust (start c).args.e (start c).args.call.dx (start c).args.call.dt
+moved : (c : tie.After-thrust_of) → c.thrust_of.result ≡ thrust (start c).args.e (start c).args.call.dx (start c).args.call.dt
 moved c = let s = start c in rw (to_z-of_z s.ranges.e) at c.thrust_of.ensures
 
-moved_size : (c : tie.After-thrust_of) → UpTo most_thrust c.thrust_of.result-1
+moved_size : (c : tie.After-thrust_of) → UpTo most_thrust c.thrust_of.result
 moved_size c =
     let s = start c in
     subst (UpTo most_thrust) (sym (moved c)) (thrust_size _ _ _ s.requires.1.0 (given s).dx_pos (given s).dt_in)

@@ -38,10 +38,10 @@ module _ (u : tie.After-updated invariant-loop decreases-loop) where
   start = turn.before.before
 
   abbrev i : ℕ
-  i = turn.before.loop-i.i
+  i = turn.loop-i.i
 
   z_is : rd read.bed_at-z.result ≡ get_or start.args.bed.now i (pos 0)
-  z_is = back64 read.bed_at-z.ok read.bed_at-z.ensures
+  z_is = back64 read.bed_at-z.type_inv read.bed_at-z.ensures
 
   -- the cell after the stage
   abbrev moved : Pool
@@ -55,22 +55,21 @@ module _ (u : tie.After-updated invariant-loop decreases-loop) where
       (get_or a.f.now (next j) [])))
 
   moved_wide : Wide moved
-  moved_wide = let s = start in let num = s.requires.0.0 in let below = turn.loop-i-test.taken in
+  moved_wide = let s = start in let num = s.requires.0.0 in let below = turn.loop-i-test.true in
       let rows = s.requires.1.1 in
       update_wide s.args.call.dx s.args.call.dt (rows.0 i below) (rows.1 i (omega arith))
       (rows.1 (suc i) (omega arith)) num.dx_pos num.dt_in
 
   ground : UpTo highest_bed (rd read.bed_at-z.result)
-  ground = subst (UpTo highest_bed) (sym z_is) (start.requires.0.1 i turn.loop-i-test.taken)
+  ground = subst (UpTo highest_bed) (sym z_is) (start.requires.0.1 i turn.loop-i-test.true)
 
 updated-requires : tie.Need-updated-requires invariant-loop decreases-loop
 updated-requires c κs =
-    let e = c.before.before.before.before in let l = e.before in let s = l.before in let i = l.loop-i.i in let rows = s.requires.1.1 in
-    ((rows.0 i e.loop-i-test.true, rows.1 i (omega arith), rows.1 (i + 1) (omega arith)), s.requires.0.0)
+    let i = c.loop-i.i in let rows = c.requires.1.1 in
+    ((rows.0 i c.loop-i-test.true, rows.1 i (omega arith), rows.1 (i + 1) (omega arith)), c.requires.0.0)
 
 dried-x-requires : tie.Need-dried-x-requires invariant-loop decreases-loop
-dried-x-requires c κs = let u = c.before in
-    (ground u, subst (λ (l : List ℤ). Wide (as_pool l)) (sym (moved_is u)) (moved_wide u))
+dried-x-requires c κs = (ground c.before, subst (λ (l : List ℤ). Wide (as_pool l)) (sym (moved_is c.before)) (moved_wide c.before))
 
 module _ (d : tie.After-dried-x invariant-loop decreases-loop) where
   abbrev told : tie.After-struct_told-1 invariant-loop decreases-loop
@@ -102,15 +101,15 @@ off_here o = let d = o.before in sym (o.off_pool.ensures ∙ (λ j. off_pool (z_
 
 returns-then-off_pool : tie.Need-returns-then-off_pool invariant-loop decreases-loop
 returns-then-off_pool c =
-    let o = c.before in let d = o.before in let t = turn (moving d) in let l = t.before in
-    fill_stops [] _ _ _ _ l.loop-i.a l.loop-i.i _ (begun d).requires.1.0.2 t.loop-i-test.taken l.loop-i.inv
-    (end_is d) (off_here o ∙ c.if-off_pool.true)
+    let t = turn (moving c.before.before) in let l = t.before in
+    fill_stops [] _ _ _ _ l.loop-i.a l.loop-i.i _ (begun c.before.before).requires.1.0.2 t.loop-i-test.true l.loop-i.invariant
+    (end_is c.before.before) (off_here c.before ∙ c.if-off_pool.true)
 
 loop-i-preserved : tie.Need-loop-i-preserved invariant-loop decreases-loop
 loop-i-preserved c =
-    let o = c.before in let d = o.before in let t = turn (moving d) in let l = t.before in
-    fill_more [] _ _ _ _ l.loop-i.a l.loop-i.i _ (begun d).requires.1.0.2 t.loop-i-test.taken l.loop-i.inv
-    (end_is d) (off_here o ∙ c.if-off_pool.false)
+    let t = turn (moving c.before.before) in let l = t.before in
+    fill_more [] _ _ _ _ l.loop-i.a l.loop-i.i _ (begun c.before.before).requires.1.0.2 t.loop-i-test.true l.loop-i.invariant
+    (end_is c.before.before) (off_here c.before ∙ c.if-off_pool.false)
 
 pub update_spec : {M : Type 1} → statement M
 update_spec =
@@ -131,4 +130,4 @@ update_spec =
     (λ c. search rules) (λ c. search rules)
     loop-i-preserved
     (λ c. search rules)
-    (λ c. let l = c.before.loop-i in fill_ends [] _ _ _ _ l.a l.i c.loop-i-test.false l.invariant))
+    (λ c. let l = c.loop-i in fill_ends [] _ _ _ _ l.a l.i c.loop-i-test.false l.invariant))

@@ -39,9 +39,9 @@ module _ (s : tie.Start) where
 
 stage-m-requires : tie.Need-stage-m-requires
 stage-m-requires c κs =
-    let s = c.before.before.before.before in let k = clear s in
-    let n = (call s).n in let z = bed s in let f = friction s in let t = state s in let room = s.requires.1.0 in (
-      (s.requires.0.0, s.requires.0.1.state_is),
+    let k = clear c.before.before.before.before in
+    let n = (call c.before.before.before.before).n in let z = bed c.before.before.before.before in let f = friction c.before.before.before.before in let t = state c.before.before.before.before in let room = c.requires.1.0 in (
+      (c.requires.0.0, c.requires.0.1.state_is),
       (
         (omega (arith, room), omega (arith, room), omega (arith, room)),
         (lent_grounds n z f t k, lent_smooth n z f t k, lent_ranged n z f t k),
@@ -69,8 +69,8 @@ module _ (m : tie.After-stage-m) where
   said = m.stage-m.ensures
 
 returns-then-m-ne0 : tie.Need-returns-then-m-ne0
-returns-then-m-ne0 c = let m = c.before.before.before.before.before in let s = opened m in
-    stage_stops (call s) (bed s) (friction s) (state s) (passed m) refl (said m) c.if-m-ne0.true _
+returns-then-m-ne0 c = let s = opened c.before.before.before.before.before in
+    stage_stops (call s) (bed s) (friction s) (state s) (passed c.before.before.before.before.before) refl (said c.before.before.before.before.before) c.if-m-ne0.true _
 
 -- ---- what is stored
 module _ (h : tie.Else-m-ne0) where
@@ -78,31 +78,31 @@ module _ (h : tie.Else-m-ne0) where
   made = h.before.before.before.before.before
 
   fits : let s = opened made in (i : ℕ) → i < (call s).n → Fits (pools_seen (a made) i)
-  fits i l = let d = (said made).done h.if-m-ne0.left in subst Fits (sym (ap as_pool (d.pools i l))) (d.fits i l)
+  fits i l = let d = (said made).done h.if-m-ne0.false in subst Fits (sym (ap as_pool (d.pools i l))) (d.fits i l)
 
 store-requires : tie.Need-store-requires
-store-requires c κs = let h = c.before.before in let m = made h in let s = opened m in
-    ((omega (arith, m.stage-m.kept, s.requires.1.0), s.requires.0.0.most, s.requires.0.1.next_is), fits h)
+store-requires c κs = let m = made c.before in let s = opened m in
+    ((omega (arith, m.stage-m.auto, s.requires.1.0), s.requires.0.0.most, s.requires.0.1.next_is), fits c.before)
 
 module _ (t : tie.After-store) where
   abbrev last : tie.Else-m-ne0
-  last = t.before.before.before
+  last = t.before.before
 
 volume_at-requires : tie.Need-volume_at-requires
-volume_at-requires c κs = let m = made (last c.before.before) in omega (arith, m.stage-m.kept, (opened m).requires.1.0)
+volume_at-requires c κs = let m = made (last c.before) in omega (arith, m.stage-m.auto, (opened m).requires.1.0)
 
 volume_at-requires-2 : tie.Need-volume_at-requires-2
-volume_at-requires-2 c κs = let m = made (last c.before.before.before.before) in omega (arith, m.stage-m.kept, (opened m).requires.1.0)
+volume_at-requires-2 c κs = let m = made (last c.before.before) in omega (arith, m.stage-m.auto, (opened m).requires.1.0)
 
 -- ---- the end
 abbrev stored : tie.After-volume_at-2 → tie.After-store
-stored c = c.before.before.before.before.before
+stored c = c.before.before.before
 
 returns : tie.Need-returns
 returns c =
-    let w = c.before.before in let t = stored c in let h = last t in let m = made h in let s = opened m in
-    stage_done (call s) (bed s) (friction s) (state s) (passed m) refl (said m) h.if-m-ne0.left s.args.next.now
-    t.store.ensures (back64 w.volume_at.type_inv w.volume_at.ensures) (back64 c.volume_at-2.type_inv c.volume_at-2.ensures)
+    let t = stored c in let h = last t in let m = made h in let s = opened m in
+    stage_done (call s) (bed s) (friction s) (state s) (passed m) refl (said m) h.if-m-ne0.false s.args.next.now
+    t.store.ensures (back64 c.volume_at.type_inv c.volume_at.ensures) (back64 c.volume_at-2.type_inv c.volume_at-2.ensures)
 
 pub on_tables_spec : {M : Type 1} → statement M
 on_tables_spec =
@@ -115,7 +115,7 @@ on_tables_spec =
     volume_at-requires
     volume_at-requires-2
     (λ c. search (rules, (stored c).store.auto))
-    (λ c. search (rules, (made (last (stored c))).stage-m.kept))
-    (λ c. search (rules, (made (last (stored c))).stage-m.kept))
-    (λ c. search (rules, (made (last (stored c))).stage-m.kept))
+    (λ c. search (rules, (made (last (stored c))).stage-m.auto))
+    (λ c. search (rules, (made (last (stored c))).stage-m.auto))
+    (λ c. search (rules, (made (last (stored c))).stage-m.auto))
     returns)

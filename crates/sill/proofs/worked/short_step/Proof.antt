@@ -13,11 +13,11 @@ module _ (w : tie.After-ready-k) where
   start = w.before.before.before
 
 ready-k-requires : tie.Need-ready-k-requires
-ready-k-requires c κs = let s = c.before.before in let f = s.requires.1 in (s.requires.0.most, f.state_is, f.bed_is, f.friction_is)
+ready-k-requires c κs = let f = c.requires.1 in (c.requires.0.most, f.state_is, f.bed_is, f.friction_is)
 
 returns-then-k-ne0 : tie.Need-returns-then-k-ne0
-returns-then-k-ne0 c = let w = c.before.before in let p = (start w).args in
-    ready_stops p.call p.bed.now p.friction.now p.state.now w.ready-k.ensures c.if-k-ne0.true _
+returns-then-k-ne0 c = let p = (start c.before.before).args in
+    ready_stops p.call p.bed.now p.friction.now p.state.now c.ready-k.ensures c.if-k-ne0.true _
 
 module _ (e : tie.Else-k-ne0) where
   abbrev checked : tie.After-ready-k
@@ -25,13 +25,13 @@ module _ (e : tie.Else-k-ne0) where
 
   clear : let p = (start checked).args in Clear (ready_checks p.call.n p.bed.now p.friction.now p.state.now)
   clear = let p = (start checked).args in
-      clear_found (ready_checks p.call.n p.bed.now p.friction.now p.state.now) tt checked.ready-k.ensures e.if-k-ne0.left
+      clear_found (ready_checks p.call.n p.bed.now p.friction.now p.state.now) tt checked.ready-k.ensures e.if-k-ne0.false
 
 on_tables-requires : tie.Need-on_tables-requires
 on_tables-requires c κs =
-    let e = c.before.before.before.before in let s = start (checked e) in
-    let w = s.requires.1.state_is in let l = (checked e).before.if-state.false in
-    (s.requires, ((omega (arith, w, l), omega (arith, w, l), omega (arith, w, l)), clear e))
+    let s = start (checked c.before.before.before.before) in
+    let w = s.requires.1.state_is in let l = (checked c.before.before.before.before).before.if-state.false in
+    (s.requires, ((omega (arith, w, l), omega (arith, w, l), omega (arith, w, l)), clear c.before.before.before.before))
 
 pub short_step_spec : {M : Type 1} → statement M
 short_step_spec =

@@ -29,8 +29,8 @@ module _ (w : tie.After-rub-fast) where
   said = w.rub-fast.ensures
 
 rub-fast-requires : tie.Need-rub-fast-requires
-rub-fast-requires c κs = let s = c.before.before in let tables = s.requires.1.1 in
-    ((s.requires.0.0, tables.0, s.requires.0.1, s.requires.1.0.0), (tables.1, tables.2))
+rub-fast-requires c κs = let tables = c.requires.1.1 in
+    ((c.requires.0.0, tables.0, c.requires.0.1, c.requires.1.0.0), (tables.1, tables.2))
 
 -- what the law of the stage asks
 module _ (s : tie.Start) where
@@ -50,8 +50,8 @@ module _ (s : tie.Start) where
   ranged = s.requires.1.1.2
 
 returns-then-fast-n : tie.Need-returns-then-fast-n
-returns-then-fast-n c = let w = c.before.before in let s = start w in record {
-  found = fast_stops (call s) s.requires.0.0 (bed s) (friction s) (state s) (ranged s) (said w) c.if-fast-n.true;
+returns-then-fast-n c = let s = start c.before.before in record {
+  found = fast_stops (call s) s.requires.0.0 (bed s) (friction s) (state s) (ranged s) (said c.before.before) c.if-fast-n.true;
   done = λ z. let y : ⊥ = omega arith in absurd y;
 }
 
@@ -62,16 +62,16 @@ module _ (e : tie.Else-fast-n) where
 
   rows : Rows (b rubbed) (call (start rubbed)).n
   rows = let s = start rubbed in
-      rows_in (call s) s.requires.0.0 (bed s) (friction s) (state s) (ranged s) (said rubbed) e.if-fast-n.left
+      rows_in (call s) s.requires.0.0 (bed s) (friction s) (state s) (ranged s) (said rubbed) e.if-fast-n.false
 
 faces-long-requires : tie.Need-faces-long-requires
-faces-long-requires c κs = let e = c.before.before in let s = start (rubbed e) in
-    ((s.requires.0.0, omega (arith, (rubbed e).rub-fast.auto, s.requires.1.0), omega (arith, s.requires.1.0)), rows e)
+faces-long-requires c κs = let s = start (rubbed c.before) in
+    ((s.requires.0.0, omega (arith, (rubbed c.before).rub-fast.auto, s.requires.1.0), omega (arith, s.requires.1.0)), rows c.before)
 
 returns-then-long-n : tie.Need-returns-then-long-n
-returns-then-long-n c = let g = c.before.before in let e = g.before.before.before in let s = start (rubbed e) in record {
-  found = long_stops (call s) s.requires.0.0 (bed s) (friction s) (state s) (ranged s) (said (rubbed e)) e.if-fast-n.false
-      g.faces-long.ensures c.if-long-n.true;
+returns-then-long-n c = let s = start (rubbed c.before.before.before.before) in record {
+  found = long_stops (call s) s.requires.0.0 (bed s) (friction s) (state s) (ranged s) (said (rubbed c.before.before.before.before)) c.if-fast-n.false
+      c.faces-long.ensures c.if-long-n.true;
   done = λ z. let y : ⊥ = omega arith in absurd y;
 }
 
@@ -81,46 +81,46 @@ module _ (t : tie.Else-long-n) where
   faced = t.before.before
 
   abbrev slow : tie.Else-fast-n
-  slow = faced.before.before.before
+  slow = faced.before.before
 
   abbrev begun : tie.Start
   begun = start (rubbed slow)
 
   -- the table of the faces
   abbrev f : List (List ℤ)
-  f = faced.faces-long.last.1.1.0
+  f = faced.faces-long.new.f
 
   face_rows : FaceRows f (call begun).n
   face_rows = let s = begun in
-      faces_in (call s) s.requires.0.0 (bed s) (friction s) (state s) (ranged s) (said (rubbed slow)) slow.if-fast-n.left
-      faced.faces-long.ensures t.if-long-n.left
+      faces_in (call s) s.requires.0.0 (bed s) (friction s) (state s) (ranged s) (said (rubbed slow)) slow.if-fast-n.false
+      faced.faces-long.ensures t.if-long-n.false
 
 update-off-requires : tie.Need-update-off-requires
-update-off-requires c κs = let t = c.before.before.before in let s = begun t in let e = slow t in (
+update-off-requires c κs = let s = begun c.before in let e = slow c.before in (
   (s.requires.0.0, s.requires.1.1.0),
   (
     (
-      omega (arith, (rubbed e).rub-fast.kept, s.requires.1.0),
-      omega (arith, (faced t).faces-long.auto, s.requires.1.0),
+      omega (arith, (rubbed e).rub-fast.auto, s.requires.1.0),
+      omega (arith, (faced c.before).faces-long.auto, s.requires.1.0),
       omega (arith, s.requires.1.0),
     ),
-    (rows e, face_rows t),
+    (rows e, face_rows c.before),
   ),
 )
 
 returns-then-off-n : tie.Need-returns-then-off-n
-returns-then-off-n c = let u = c.before.before in let t = u.before.before.before.before in let s = begun t in let e = slow t in record {
-  found = off_stops (call s) s.requires.0.0 (bed s) (friction s) (state s) (ranged s) (said (rubbed e)) e.if-fast-n.left
-      (faced t).faces-long.ensures t.if-long-n.false u.update-off.ensures c.if-off-n.true;
+returns-then-off-n c = let s = begun c.before.before.before.before in let e = slow c.before.before.before.before in record {
+  found = off_stops (call s) s.requires.0.0 (bed s) (friction s) (state s) (ranged s) (said (rubbed e)) e.if-fast-n.false
+      (faced c.before.before.before.before).faces-long.ensures c.if-long-n.false c.update-off.ensures c.if-off-n.true;
   done = λ z. let y : ⊥ = omega arith in absurd y;
 }
 
 returns : tie.Need-returns
-returns c = let u = c.before.before in let t = u.before.before.before.before in let s = begun t in let e = slow t in record {
-  found = none_found (call s) s.requires.0.0 (bed s) (friction s) (state s) (ranged s) (said (rubbed e)) e.if-fast-n.left
-      (faced t).faces-long.ensures t.if-long-n.false u.update-off.ensures c.if-off-n.false;
-  done = λ z. stage_done (call s) s.requires.0.0 (bed s) (friction s) (state s) (ranged s) (said (rubbed e)) e.if-fast-n.left
-      (faced t).faces-long.ensures t.if-long-n.false u.update-off.ensures c.if-off-n.false;
+returns c = let s = begun c.before.before.before.before in let e = slow c.before.before.before.before in record {
+  found = none_found (call s) s.requires.0.0 (bed s) (friction s) (state s) (ranged s) (said (rubbed e)) e.if-fast-n.false
+      (faced c.before.before.before.before).faces-long.ensures c.if-long-n.false c.update-off.ensures c.if-off-n.false;
+  done = λ z. stage_done (call s) s.requires.0.0 (bed s) (friction s) (state s) (ranged s) (said (rubbed e)) e.if-fast-n.false
+      (faced c.before.before.before.before).faces-long.ensures c.if-long-n.false c.update-off.ensures c.if-off-n.false;
 }
 
 pub stage_spec : {M : Type 1} → statement M

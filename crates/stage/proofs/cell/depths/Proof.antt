@@ -12,17 +12,16 @@ abbrev bed : tie.Start → Bed
 bed s = bed_in s.args.b
 
 overflow_sub-result : tie.Need-overflow_sub-result
-overflow_sub-result c = let s = c.before.before in depth_fits_lem s.requires.1.e0 (z0_size (bed s) s.requires.0) c.z0.ensures
+overflow_sub-result c = depth_fits_lem c.requires.1.e0 (z0_size (bed c.before.before) c.requires.0) c.z0.ensures
 
 overflow_sub-result-2 : tie.Need-overflow_sub-result-2
-overflow_sub-result-2 c = let s = c.before.before.before.before in depth_fits_lem s.requires.1.e1 (z1_size (bed s) s.requires.0) c.z1.ensures
+overflow_sub-result-2 c = depth_fits_lem c.requires.1.e1 (z1_size (bed c.before.before.before.before) c.requires.0) c.z1.ensures
 
 returns : tie.Need-returns
 unfolding h0 h1
 returns c =
-    let m = c.before.before in let s = m.before.before in
-    let mean = depth_is s.requires.1.e0 (z0_size (bed s) s.requires.0) m.z0.ensures in
-    let slope = depth_is s.requires.1.e1 (z1_size (bed s) s.requires.0) c.z1.ensures in
+    let mean = depth_is c.requires.1.e0 (z0_size (bed c.before.before.before.before) c.requires.0) c.z0.ensures in
+    let slope = depth_is c.requires.1.e1 (z1_size (bed c.before.before.before.before) c.requires.0) c.z1.ensures in
     λ i. mean i ∷ slope i ∷ []
 
 pub depths_spec : {M : Type 1} → statement M

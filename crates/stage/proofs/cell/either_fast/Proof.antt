@@ -10,8 +10,8 @@ use Rattle.stage.proofs.cell.either_fast.Tie as tie
 past-requires : tie.Need-past-requires
 past-requires c κs = search rules
 
-first : (c : tie.After-past) → past fastest c.before.args.u ≡ c.past.result
-first c = sym (simp (to_z-of_z, c.before.ranges.u) at c.past.ensures)
+first : (c : tie.After-past) → past fastest c.args.u ≡ c.past.result
+first c = sym (simp (to_z-of_z, c.ranges.u) at c.past.ensures)
 
 returns-then-past : tie.Need-returns-then-past
 returns-then-past c = rw (first c.before ∙ c.if-past.true)
@@ -20,7 +20,7 @@ past-requires-2 : tie.Need-past-requires-2
 past-requires-2 c κs = search rules
 
 returns : tie.Need-returns
-returns c = let e = c.before in rw (first e.before ∙ e.if-past.false) (simp (to_z-of_z, e.before.before.ranges.w) at c.past-2.ensures)
+returns c = rw (first c.before.before ∙ c.if-past.false) (simp (to_z-of_z, c.ranges.w) at c.past-2.ensures)
 
 pub either_fast_spec : {M : Type 1} → statement M
 either_fast_spec = tie.close (tie.spec past-requires returns-then-past past-requires-2 returns)

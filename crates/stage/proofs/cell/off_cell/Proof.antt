@@ -52,7 +52,7 @@ module _ (a : tie.After-off_depths-arg-2-1) where
 
   -- the two depths as they are read back
   mean : rd (get_or told.depths-h.result 0 (pos 0)) ≡ h0 (bed told.before) (cell told.before)
-  mean = back a.before.off_depths-arg-1.given ∙ ap (λ (l : List ℤ). get_or l 0 (pos 0)) told.depths-h.ensures
+  mean = back a.off_depths-arg-1.given ∙ ap (λ (l : List ℤ). get_or l 0 (pos 0)) told.depths-h.ensures
 
   slope : rd (get_or told.depths-h.result 1 (pos 0)) ≡ h1 (bed told.before) (cell told.before)
   slope = back a.off_depths-arg-2-1.given ∙ ap (λ (l : List ℤ). get_or l 1 (pos 0)) told.depths-h.ensures
@@ -67,28 +67,27 @@ module _ (c : tie.After-off_depths) where
       ∙ ap₂ (λ (m d : ℤ). outside (pos 0) deepest (m -ℤ d) || outside (pos 0) deepest (m +ℤ d)) (mean c.before) (slope c.before)
 
 off_depths-requires : tie.Need-off_depths-requires
-off_depths-requires c κs = let s = c.before.before.before in
-    let w : Unfinished (bed s) (cell s) = record { ground = s.requires.0; wide = s.requires.1 } in (
-      subst (UpTo widest_depth) (sym (mean c)) (h0_size (bed s) (cell s) w),
-      subst (UpTo widest_depth) (sym (slope c)) (h1_size (bed s) (cell s) w),
+off_depths-requires c κs = let w : Unfinished (bed c.before.before.before) (cell c.before.before.before) = record { ground = c.requires.0; wide = c.requires.1 } in (
+      subst (UpTo widest_depth) (sym (mean c)) (h0_size (bed c.before.before.before) (cell c.before.before.before) w),
+      subst (UpTo widest_depth) (sym (slope c)) (h1_size (bed c.before.before.before) (cell c.before.before.before) w),
     )
 
 returns-then-off_depths : tie.Need-returns-then-off_depths
-returns-then-off_depths c = let d = c.before in off_is (bed (s d)) (cell (s d)) true (sym c.if-off_depths.true ∙ first d)
+returns-then-off_depths c = off_is (bed (s c.before)) (cell (s c.before)) true (sym c.if-off_depths.true ∙ first c.before)
 
 off_flows-requires : tie.Need-off_flows-requires
 off_flows-requires c κs = let w = (s c.before.before.before).requires.1 in
-    rw (back c.before.off_flows-arg-1.given, back c.off_flows-arg-2-1.given)
+    rw (back c.off_flows-arg-1.given, back c.off_flows-arg-2-1.given)
     (b_up 70368745226240 w.q0 tt, b_up 70368745226240 w.q1 tt)
 
 returns : tie.Need-returns
 returns c =
-    let b = c.before in let a = b.before in let e = a.before in let d = e.before in let x = cell (s d) in
+    let x = cell (s c.before.before.before.before) in
     c.off_flows.ensures
-    ∙ ap₂ (λ (m d : ℤ). past fullest (m -ℤ d) || past fullest (m +ℤ d))
-    (back {z = x.q0} a.off_flows-arg-1.given)
-    (back {z = x.q1} b.off_flows-arg-2-1.given)
-    ∙ off_is (bed (s d)) x false (sym e.if-off_depths.false ∙ first d)
+    ∙ ap₂ (λ (m c : ℤ). past fullest (m -ℤ c) || past fullest (m +ℤ c))
+    (back {z = x.q0} c.off_flows-arg-1.given)
+    (back {z = x.q1} c.off_flows-arg-2-1.given)
+    ∙ off_is (bed (s c.before.before.before.before)) x false (sym c.if-off_depths.false ∙ first c.before.before.before.before)
 
 pub off_cell_spec : {M : Type 1} → statement M
 off_cell_spec =

@@ -32,9 +32,8 @@ outside-requires-2 : tie.Need-outside-requires-2
 outside-requires-2 c κs = search rules
 
 returns : tie.Need-returns
-returns c = let b = c.before in
-    rw (first b.before ∙ b.if-outside.false)
-    (c.outside-2.ensures ∙ ap (λ (z : ℤ). outside (pos 0) deepest z) (value (env b.before.before) (v 0 ⊕ v 1) tt))
+returns c = rw (first c.before.before ∙ c.if-outside.false)
+    (c.outside-2.ensures ∙ ap (λ (z : ℤ). outside (pos 0) deepest z) (value (env c.before.before.before) (v 0 ⊕ v 1) tt))
 
 pub off_depths_spec : {M : Type 1} → statement M
 off_depths_spec = tie.close (tie.spec overflow_sub-m outside-requires returns-then-outside overflow_add-m outside-requires-2 returns)

@@ -32,9 +32,8 @@ past-requires-2 : tie.Need-past-requires-2
 past-requires-2 c κs = search rules
 
 returns : tie.Need-returns
-returns c = let b = c.before in
-    rw (first b.before ∙ b.if-past.false)
-    (c.past-2.ensures ∙ ap (λ (z : ℤ). past fullest z) (value (env b.before.before) (v 0 ⊕ v 1) tt))
+returns c = rw (first c.before.before ∙ c.if-past.false)
+    (c.past-2.ensures ∙ ap (λ (z : ℤ). past fullest z) (value (env c.before.before.before) (v 0 ⊕ v 1) tt))
 
 pub off_flows_spec : {M : Type 1} → statement M
 off_flows_spec = tie.close (tie.spec overflow_sub-m past-requires returns-then-past overflow_add-m past-requires-2 returns)

@@ -32,12 +32,11 @@ bad_value-requires c κs = search rules
 
 -- what the test of this turn says
 here : (c : tie.After-bad_value invariant-loop decreases-loop) →
-    let l = c.before.before.before in bad l.before.args.bed.now l.loop-i.i ≡ c.bad_value.result
-here c = let a = c.before.bed_at in sym (c.bad_value.ensures ∙ ap bad_bed (back64 a.type_inv a.ensures))
+    bad c.args.bed.now c.loop-i.i ≡ c.bad_value.result
+here c = let a = c.bed_at in sym (c.bad_value.ensures ∙ ap bad_bed (back64 a.type_inv a.ensures))
 
 returns-then-bad_value : tie.Need-returns-then-bad_value invariant-loop decreases-loop
-returns-then-bad_value c = let b = c.before in let e = b.before.before in
-    scan_lowest e.before.loop-i.invariant e.loop-i-test.true (here b) c.if-bad_value.true
+returns-then-bad_value c = scan_lowest c.loop-i.invariant c.loop-i-test.true (here c.before) c.if-bad_value.true
 
 overflow_add-i : tie.Need-overflow_add-i invariant-loop decreases-loop
 overflow_add-i c = search rules
@@ -46,11 +45,10 @@ loop-i-smaller : tie.Need-loop-i-smaller invariant-loop decreases-loop
 loop-i-smaller c = search rules
 
 loop-i-preserved : tie.Need-loop-i-preserved invariant-loop decreases-loop
-loop-i-preserved c = let b = c.before in let e = b.before.before in
-    scan_more e.before.loop-i.invariant e.loop-i-test.true (here b) c.if-bad_value.false
+loop-i-preserved c = scan_more c.loop-i.invariant c.loop-i-test.true (here c.before) c.if-bad_value.false
 
 returns : tie.Need-returns invariant-loop decreases-loop
-returns c = scan_past c.before.loop-i.invariant c.loop-i-test.false
+returns c = scan_past c.loop-i.invariant c.loop-i-test.false
 
 pub bad_bed_spec : {M : Type 1} → statement M
 bad_bed_spec =

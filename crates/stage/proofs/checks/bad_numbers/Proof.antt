@@ -24,17 +24,15 @@ abbrev third : tie.Else-bad_dry → tie.Else-outside-3
 third c = c.before.before.before
 
 -- ---- the four tests of numbers, and what is known past each
-length_test : (o : tie.After-outside) → outside (pos 1) longest_cell o.before.before.args.reach.dx ≡ o.outside.result
+length_test : (o : tie.After-outside) → outside (pos 1) longest_cell o.args.reach.dx ≡ o.outside.result
 length_test o =
-    let k = o.before in
-    sym (rw (back {z = k.before.args.reach.dx} k.struct_told-1.given.1.0.1) at o.outside.ensures)
+    sym (rw (back {z = o.args.reach.dx} o.struct_told-1.given.1.0.1) at o.outside.ensures)
 
 length_in : (c : tie.Else-outside) → outside (pos 1) longest_cell (start c).args.reach.dx ≡ false
 length_in c = length_test c.before ∙ c.if-outside.false
 
 step_test : (o : tie.After-outside-2) → outside (pos 1) longest_step (start o.before.before).args.call.dt ≡ o.outside-2.result
-step_test o = let k = o.before in
-    sym (rw (back {z = (start k.before).args.call.dt} k.struct_told-2-1.given.0.1) at o.outside-2.ensures)
+step_test o = sym (rw (back {z = (start o.before.before).args.call.dt} o.struct_told-2-1.given.0.1) at o.outside-2.ensures)
 
 step_in : (c : tie.Else-outside-2) → outside (pos 1) longest_step (start (first c)).args.call.dt ≡ false
 step_in c = step_test c.before ∙ c.if-outside-2.false
@@ -48,8 +46,8 @@ jump_in : (c : tie.Else-outside-3) → outside (pos 0) largest_jump (start (firs
 jump_in c = jump_test c.before ∙ c.if-outside-3.false
 
 dry_test : (o : tie.After-bad_dry) → bad_dry (start (first (second o.before.before))).args.call.dry ≡ o.bad_dry.result
-dry_test o = let k = o.before in let s = start (first (second k.before)) in
-    sym (rw (back {z = s.args.call.dry} k.struct_told-4-1.given.1.1.0.1) at o.bad_dry.ensures)
+dry_test o = let s = start (first (second o.before.before)) in
+    sym (rw (back {z = s.args.call.dry} o.struct_told-4-1.given.1.1.0.1) at o.bad_dry.ensures)
 
 dry_in : (c : tie.Else-bad_dry) → bad_dry (start (first (second (third c)))).args.call.dry ≡ false
 dry_in c = dry_test c.before ∙ c.if-bad_dry.false
@@ -60,31 +58,30 @@ returns-then-outside c bed ρ = rw (length_test c.before ∙ c.if-outside.true)
 
 returns-then-outside-2 : tie.Need-returns-then-outside-2
 unfolding bad_call any
-returns-then-outside-2 c bed ρ = let o = c.before in rw (length_in o.before.before, step_test o ∙ c.if-outside-2.true)
+returns-then-outside-2 c bed ρ = rw (length_in c.before.before.before, step_test c.before ∙ c.if-outside-2.true)
 
 returns-then-outside-3 : tie.Need-returns-then-outside-3
 unfolding bad_call any
 returns-then-outside-3 c bed ρ =
-    let o = c.before in let e = o.before.before in
-    rw (length_in (first e), step_in e, jump_test o ∙ c.if-outside-3.true)
+    rw (length_in (first c.before.before.before), step_in c.before.before.before, jump_test c ∙ c.if-outside-3.true)
 
 returns-then-bad_dry : tie.Need-returns-then-bad_dry
 unfolding bad_call any
 returns-then-bad_dry c bed ρ =
-    let o = c.before in let f = o.before.before in let e = second f in
-    rw (length_in (first e), step_in e, jump_in f, dry_test o ∙ c.if-bad_dry.true)
+    let e = second c.before.before.before in
+    rw (length_in (first e), step_in e, jump_in c.before.before.before, dry_test c.before ∙ c.if-bad_dry.true)
 
 returns-then-bad_end : tie.Need-returns-then-bad_end
 unfolding bad_call any
 returns-then-bad_end c bed ρ =
-    let o = c.before in let g = o.before in let f = third g in let e = second f in
-    rw (length_in (first e), step_in e, jump_in f, dry_in g, sym o.bad_end.ensures ∙ c.if-bad_end.true)
+    let f = third c.before.before.before in let e = second f in
+    rw (length_in (first e), step_in e, jump_in f, dry_in c.before.before.before, sym c.bad_end.ensures ∙ c.if-bad_end.true)
 
 returns : tie.Need-returns
 unfolding bad_call any
 returns c bed ρ =
-    let h = c.before in let o = h.before in let g = o.before in let f = third g in let e = second f in
-    rw (length_in (first e), step_in e, jump_in f, dry_in g, sym o.bad_end.ensures ∙ h.if-bad_end.false, sym c.bad_end-2.ensures)
+    let f = third c.before.before.before.before.before in let e = second f in
+    rw (length_in (first e), step_in e, jump_in f, dry_in c.before.before.before.before.before, sym c.bad_end.ensures ∙ c.if-bad_end.false, sym c.bad_end-2.ensures)
     (or_last c.bad_end-2.result)
 
 pub bad_numbers_spec : {M : Type 1} → statement M

@@ -27,28 +27,22 @@ loop-i-init c = scan_none _ _
 
 fast_cell-requires : tie.Need-fast_cell-requires invariant-loop decreases-loop
 fast_cell-requires c κs =
-    let b = c.before.before in let e = b.before in let l = e.before in let s = l.before in
-    rw (b.under.ensures, back {z = s.args.call.dry} c.struct_told-1.given.1.1.0.1)
-    (s.requires.1.0 l.loop-i.i e.loop-i-test.true, s.requires.1.1)
+    rw (c.under.ensures, back {z = c.args.call.dry} c.struct_told-1.given.1.1.0.1)
+    (c.requires.1.0 c.loop-i.i c.loop-i-test.true, c.requires.1.1)
 
 -- what the test of this turn says
 here : (c : tie.After-fast_cell invariant-loop decreases-loop) →
-    let l = c.before.before.before.before.before in
-    let s = l.before in
-    bad s.args.call.dry s.args.t.now s.args.bed.now l.loop-i.i ≡ c.fast_cell.result
-here c = let k = c.before in let b = k.before.before in let s = b.before.before.before in
-    sym (rw (b.under.ensures, back {z = s.args.call.dry} k.struct_told-1.given.1.1.0.1) at c.fast_cell.ensures)
+    bad c.args.call.dry c.args.t.now c.args.bed.now c.loop-i.i ≡ c.fast_cell.result
+here c = sym (rw (c.under.ensures, back {z = c.args.call.dry} c.struct_told-1.given.1.1.0.1) at c.fast_cell.ensures)
 
 returns-then-fast_cell : tie.Need-returns-then-fast_cell invariant-loop decreases-loop
-returns-then-fast_cell c = let o = c.before in let e = o.before.before.before.before in
-    scan_lowest e.before.loop-i.invariant e.loop-i-test.true (here o) c.if-fast_cell.true
+returns-then-fast_cell c = scan_lowest c.loop-i.invariant c.loop-i-test.true (here c.before) c.if-fast_cell.true
 
 loop-i-preserved : tie.Need-loop-i-preserved invariant-loop decreases-loop
-loop-i-preserved c = let o = c.before in let e = o.before.before.before.before in
-    scan_more e.before.loop-i.invariant e.loop-i-test.true (here o) c.if-fast_cell.false
+loop-i-preserved c = scan_more c.loop-i.invariant c.loop-i-test.true (here c.before) c.if-fast_cell.false
 
 returns : tie.Need-returns invariant-loop decreases-loop
-returns c = scan_past c.before.loop-i.invariant c.loop-i-test.false
+returns c = scan_past c.loop-i.invariant c.loop-i-test.false
 
 pub fast_spec : {M : Type 1} → statement M
 fast_spec =

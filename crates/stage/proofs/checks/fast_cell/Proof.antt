@@ -39,13 +39,13 @@ bounds-h-0 c = search rules
 
 speed_of-requires : tie.Need-speed_of-requires
 speed_of-requires c κs =
-    let d = c.before.before in let s = d.before in let m = keeps s in
+    let m = keeps c.before.before.before in
     rw (
-      back {z = (cell s).q0} c.before.speed_of-arg-1.given,
-      back64 {z = get_or d.depths-h.result 0 (pos 0)} c.speed_of-arg-2-1.given (mean d),
-      to_z-of_z s.ranges.dry,
+      back {z = (cell c.before.before.before).q0} c.speed_of-arg-1.given,
+      back64 {z = get_or c.depths-h.result 0 (pos 0)} c.speed_of-arg-2-1.given (mean c.before.before),
+      to_z-of_z c.ranges.dry,
     )
-    (m.q0, ((m.mean, m.mean_most), s.requires.1))
+    (m.q0, ((m.mean, m.mean_most), c.requires.1))
 
 past-requires : tie.Need-past-requires
 past-requires c κs = search rules
@@ -53,10 +53,9 @@ past-requires c κs = search rules
 returns : tie.Need-returns
 unfolding fast_cell
 returns c =
-    let u = c.before in let a = u.before in let d = a.before.before in let s = d.before in
-    c.past.ensures ∙ ap (past fastest) (back64 u.speed_of.type_inv (u.speed_of.ensures
-    ∙ (λ i. speed (to_z-of_z s.ranges.dry i) (back {z = (cell s).q0} a.before.speed_of-arg-1.given i)
-    (back64 {z = get_or d.depths-h.result 0 (pos 0)} a.speed_of-arg-2-1.given (mean d) i))))
+    c.past.ensures ∙ ap (past fastest) (back64 c.speed_of.type_inv (c.speed_of.ensures
+    ∙ (λ i. speed (to_z-of_z c.ranges.dry i) (back {z = (cell c.before.before.before.before.before).q0} c.speed_of-arg-1.given i)
+    (back64 {z = get_or c.depths-h.result 0 (pos 0)} c.speed_of-arg-2-1.given (mean c.before.before.before.before) i))))
 
 pub fast_cell_spec : {M : Type 1} → statement M
 fast_cell_spec =

@@ -27,16 +27,14 @@ module _ (f : tie.After-finish-done) where
   }))
 
 off-i-requires : tie.Need-off-i-requires
-off-i-requires c κs = let f = c.before.before in let p = (s f).requires.1.1 in
-    (omega arith, finished_wide f.finish-done.ensures (works f) (λ i. pos 0) p.0 p.1)
+off-i-requires c κs = let p = (s c.before).requires.1.1 in
+    (omega arith, finished_wide c.finish-done.ensures (works c.before) (λ i. pos 0) p.0 p.1)
 
 returns-then-i-reach : tie.Need-returns-then-i-reach
-returns-then-i-reach c ρ = let o = c.before.before in let f = o.before.before.before in
-    end_stops f.finish-done.ensures (works f) ρ o.off-i.result o.off-i.ensures c.if-i-reach.true
+returns-then-i-reach c ρ = end_stops c.finish-done.ensures (works c.before.before.before.before) ρ c.off-i.result c.off-i.ensures c.if-i-reach.true
 
 returns : tie.Need-returns
-returns c ρ = let o = c.before.before in let f = o.before.before.before in
-    end_passes f.finish-done.ensures (works f) ρ o.off-i.result o.off-i.ensures c.if-i-reach.false
+returns c ρ = end_passes c.finish-done.ensures (works c.before.before.before.before) ρ c.off-i.result c.off-i.ensures c.if-i-reach.false
 
 pub end_spec : {M : Type 1} → statement M
 end_spec = tie.close (tie.spec (λ c κs. search rules) off-i-requires (λ c. search rules) returns-then-i-reach (λ c. search rules) returns)

@@ -38,7 +38,7 @@ crossed c =
 
 returns-in-Flux : tie.Need-returns-in-Flux
 returns-in-Flux c =
-    let g = c.before.f-1.given in let z = g.0 in let t = c.known_told-1.given in
+    let g = c.f-1.given in let z = g.0 in let t = c.known_told-1.given in
     let y = z.1.1 in let v = t.1.1 in
     (λ j. record {
       F = back {z = z.0} t.0.1 j;
@@ -47,10 +47,10 @@ returns-in-Flux c =
       S = back {z = y.1.0} v.1.0.1 j;
     })
     ∙ ap made (sym g.1)
-    ∙ crossed c.before.before.before
+    ∙ crossed c.before
 
 returns-in-Refused : tie.Need-returns-in-Refused
-returns-in-Refused c = ap made (sym c.enum_told-1.given.1) ∙ crossed c.before.before
+returns-in-Refused c = ap made (sym c.enum_told-1.given.1) ∙ crossed c.before
 
 pub crossing_spec : {M : Type 1} → statement M
 crossing_spec = tie.close (tie.spec (λ c κs. search rules) (λ c. search rules) (λ c. search rules) returns-in-Flux returns-in-Refused)

@@ -29,14 +29,14 @@ unfolding inflow_speed
 fast_in s = speed_size s.args.dry (pos s.args.end.q) s.args.x.h s.requires.1.1.least (inflow_in s)
 
 fast_is : (c : tie.After-inflow_speed-v) → c.inflow_speed-v.result ≡ fast c.before
-fast_is c = rw (to_z-of_z c.before.ranges.dry) at c.inflow_speed-v.ensures
+fast_is c = rw (to_z-of_z c.ranges.dry) at c.inflow_speed-v.ensures
 
 inflow_top-s-requires : tie.Need-inflow_top-s-requires
-inflow_top-s-requires c κs = let s = c.before in rw (fast_is c, to_z-of_z (fit (fast_in s) tt)) (fast_in s, s.requires.1.0)
+inflow_top-s-requires c κs = rw (fast_is c, to_z-of_z (fit (fast_in c.before) tt)) (fast_in c.before, c.requires.1.0)
 
 -- ---- the two products
 overflow_mul-result : tie.Need-overflow_mul-result
-overflow_mul-result c = let s = c.before.before.before.before in need (sized (depth_size s.requires.1.0) tt ∷ []) (v 0 ⊗ v 0) tt
+overflow_mul-result c = need (sized (depth_size c.requires.1.0) tt ∷ []) (v 0 ⊗ v 0) tt
 
 abbrev speeded : tie.After-widened → tie.After-inflow_speed-v
 speeded c = c.before.before.before.before
@@ -60,12 +60,12 @@ nonzero_div-result c = (lit< tt, need (env c) advection tt)
 returns : tie.Need-returns
 unfolding inflow
 returns c =
-    let t = c.before.before.before in let f = speeded c in let s = f.before in
+    let f = speeded c in let s = f.before in
     λ j. record {
       F = back {z = s.args.f} s.ranges.f.sfits j;
       K = value (env c) (v 0 ⊗ v 0) tt j;
       A = (value (env c) advection tt ∙ ap₂ (λ (a b : ℤ). quot_z (a *ℤ b) (pos 4096)) c.widened.ensures (fast_is f)) j;
-      S = back64 t.inflow_top-s.type_inv (rw (fast_is f, to_z-of_z (fit (fast_in s) tt)) at t.inflow_top-s.ensures) j;
+      S = back64 c.inflow_top-s.type_inv (rw (fast_is f, to_z-of_z (fit (fast_in s) tt)) at c.inflow_top-s.ensures) j;
     }
 
 pub inflow_spec : {M : Type 1} → statement M

@@ -15,16 +15,16 @@ inflow_in s = inflow_most (end_in s.args.end) s.requires.0
 
 speed_of-requires : tie.Need-speed_of-requires
 speed_of-requires c κs =
-    let w = c.before in let s = w.before in let x = s.requires.1.0 in
-    rw (w.widened.ensures, to_z-of_z (fit (inflow_in s) tt), to_z-of_z (fit (b_nonneg x.0 x.1) tt), to_z-of_z s.ranges.dry)
-    (inflow_in s, (x, s.requires.1.1))
+    let x = c.requires.1.0 in
+    rw (c.widened.ensures, to_z-of_z (fit (inflow_in c.before.before) tt), to_z-of_z (fit (b_nonneg x.0 x.1) tt), to_z-of_z c.ranges.dry)
+    (inflow_in c.before.before, (x, c.requires.1.1))
 
 returns : tie.Need-returns
 unfolding inflow_speed
 returns c =
-    let w = c.before.before in let s = w.before in let x = s.requires.1.0 in
+    let x = c.requires.1.0 in
     back64 c.speed_of.type_inv
-    (rw (w.widened.ensures, to_z-of_z (fit (inflow_in s) tt), to_z-of_z (fit (b_nonneg x.0 x.1) tt), to_z-of_z s.ranges.dry)
+    (rw (c.widened.ensures, to_z-of_z (fit (inflow_in c.before.before.before) tt), to_z-of_z (fit (b_nonneg x.0 x.1) tt), to_z-of_z c.ranges.dry)
     at c.speed_of.ensures)
 
 pub inflow_speed_spec : {M : Type 1} → statement M

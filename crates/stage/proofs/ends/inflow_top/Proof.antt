@@ -36,16 +36,16 @@ overflow_add-top c = g_fits (top c) tt
 returns-then-v-top : tie.Need-returns-then-v-top
 unfolding max_z
 returns-then-v-top c =
-    let w = c.before in let s = w.before.before.before.before in let t = g_back (top w) tt in
-    let e : le_z s.args.v (against s) ≡ true = rw (to_z-of_z s.ranges.v, t.same) at c.if-v-top.true in
+    let t = g_back (top c.before) tt in
+    let e : le_z c.args.v (against c.before.before.before.before.before) ≡ true = rw (to_z-of_z c.ranges.v, t.same) at c.if-v-top.true in
     rw e t.same
 
 returns-else-v-top : tie.Need-returns-else-v-top
 unfolding max_z
 returns-else-v-top c =
-    let w = c.before in let s = w.before.before.before.before in let t = g_back (top w) tt in
-    let e : le_z s.args.v (against s) ≡ false = rw (to_z-of_z s.ranges.v, t.same) at c.if-v-top.false in
-    rw e (back s.ranges.v.sfits)
+    let t = g_back (top c.before) tt in
+    let e : le_z c.args.v (against c.before.before.before.before.before) ≡ false = rw (to_z-of_z c.ranges.v, t.same) at c.if-v-top.false in
+    rw e (back c.ranges.v.sfits)
 
 pub inflow_top_spec : {M : Type 1} → statement M
 inflow_top_spec = tie.close (tie.spec (λ c κs. search rules) (λ c κs. search rules) overflow_add-top returns-then-v-top returns-else-v-top)

@@ -23,8 +23,8 @@ overflow_sub-result c = need (env c.before.before.before) less tt
 returns-then-kind-eq0 : tie.Need-returns-then-kind-eq0
 unfolding outer
 returns-then-kind-eq0 c =
-    let t = c.before.before.before in let s = t.before in let e = env s in let u = s.args.x.u in
-    rw (eq-eqb _ _ t.if-kind-eq0.true)
+    let e = env c.before.before.before.before in let u = c.args.x.u in
+    rw (eq-eqb _ _ c.if-kind-eq0.true)
     (λ j. record { h = value e (v 1) tt j; u = (value e less tt ∙ eq! (lit 0 ⊟ at u) (⊖ (at u)) (omega arith)) j })
 
 returns : tie.Need-returns

@@ -38,19 +38,18 @@ mass_is w = let q = pos (start w).args.end.q in
 returns-then-end-eq-INFLOW : tie.Need-returns-then-end-eq-INFLOW
 unfolding right_end
 returns-then-end-eq-INFLOW c =
-    let w = c.before in let s = start w in
-    rw (eq-eqb _ _ w.before.if-end-eq-INFLOW.true) (rw (mass_is w, to_z-of_z s.ranges.dry) at c.inflow.ensures)
+    let s = start c.before in
+    rw (eq-eqb _ _ c.if-end-eq-INFLOW.true) (rw (mass_is c.before, to_z-of_z s.ranges.dry) at c.inflow.ensures)
 
 crossing-requires : tie.Need-crossing-requires
 crossing-requires c κs =
-    let s = c.before.before.before in let x = s.requires.1.0 in
-    (x, subst Sound (sym c.outer.ensures) (outer_sound s.args.end.kind _ x))
+    let x = c.requires.1.0 in
+    (x, subst Sound (sym c.outer.ensures) (outer_sound c.args.end.kind _ x))
 
 returns : tie.Need-returns
 unfolding right_end
 returns c =
-    let o = c.before in let e = o.before in let s = e.before.before in
-    rw (ne_eqb _ _ e.if-end-eq-INFLOW.false) (c.crossing.ensures ∙ ap (face (side_in s.args.x)) o.outer.ensures)
+    rw (ne_eqb _ _ c.if-end-eq-INFLOW.false) (c.crossing.ensures ∙ ap (face (side_in c.args.x)) c.outer.ensures)
 
 pub right_end_spec : {M : Type 1} → statement M
 right_end_spec =

@@ -10,17 +10,15 @@ use Rattle.speeds.proofs.Fits.{wave_given_lem}
 use Rattle.stage.proofs.ends.wave_of.Statement.{statement}
 use Rattle.stage.proofs.ends.wave_of.Tie as tie
 
-answer : (c : tie.After-wave) → value_of c.wave.result ≡ given (wave c.before.args.h)
-answer c = let s = c.before in
-    (rw (to_z-of_z s.ranges.h) at c.wave.ensures) ∙ wave_given_lem s.args.h s.requires.0 s.requires.1
+answer : (c : tie.After-wave) → value_of c.wave.result ≡ given (wave c.args.h)
+answer c = (rw (to_z-of_z c.ranges.h) at c.wave.ensures) ∙ wave_given_lem c.args.h c.requires.0 c.requires.1
 
 returns-in-Is : tie.Need-returns-in-Is
 returns-in-Is c =
-    let a = c.before.before.before in
-    back64 c.known_told-1.given.0.1 (told a.wave.result _ _ c.before.a-1.given.1 (answer a))
+    back64 c.known_told-1.given.0.1 (told c.wave.result _ _ c.a-1.given.1 (answer c.before))
 
 returns-in-Refused : tie.Need-returns-in-Refused
-returns-in-Refused c = let a = c.before.before in untold a.wave.result _ c.enum_told-1.given.1 (answer a)
+returns-in-Refused c = untold c.wave.result _ c.enum_told-1.given.1 (answer c.before)
 
 pub wave_of_spec : {M : Type 1} → statement M
 wave_of_spec = tie.close (tie.spec (λ c κs. search rules) (λ c. search rules) (λ c. search rules) returns-in-Is returns-in-Refused)

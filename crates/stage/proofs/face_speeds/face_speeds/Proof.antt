@@ -40,14 +40,14 @@ module _ (w : tie.After-sides-i) where
 -- ---- the left end
 module _ (l : tie.After-left_side) where
   abbrev sided : tie.After-sides-i
-  sided = l.before.before.before
+  sided = l.before.before.before.before
 
 fast_inflow-requires : tie.Need-fast_inflow-requires
 fast_inflow-requires c κs =
-    let l = c.before in let w = sided l in let s = start w in let a = s.args in let given = s.requires.1.0 in (
+    let w = sided c.before in let s = start w in let a = s.args in let given = s.requires.1.0 in (
       given.left_q,
       (
-        subst (λ (x : rules.Side). DepthIn x.h) (sym l.left_side.ensures)
+        subst (λ (x : rules.Side). DepthIn x.h) (sym c.left_side.ensures)
             (first_depth a.reach a.call (bed w) (state w) s.requires.0.0 (filled w) s.requires.1.1),
         rw (back {z = a.call.dry} c.struct_told-1.given.1.1.0.1) given.dry,
       ),
@@ -59,12 +59,12 @@ module _ (f : tie.After-fast_inflow) where
 
   left_test : let w = sided first in let a = (start w).args in fast_left a.reach a.call (d w) ≡ f.fast_inflow.result
   left_test = let a = (start (sided first)).args in
-      sym ((rw (back {z = a.call.dry} f.before.struct_told-1.given.1.1.0.1) at f.fast_inflow.ensures)
+      sym ((rw (back {z = a.call.dry} f.struct_told-1.given.1.1.0.1) at f.fast_inflow.ensures)
       ∙ ap (fast_inflow a.call.dry (end_in a.call.left)) first.left_side.ensures)
 
 returns-then-fast_inflow : tie.Need-returns-then-fast_inflow
-returns-then-fast_inflow c = let f = c.before in let w = sided (first f) in let s = start w in let a = s.args in
-    says_left_inflow a.reach a.call (bed w) (state w) s.requires.0.0 (filled w) (left_test f ∙ c.if-fast_inflow.true)
+returns-then-fast_inflow c = let w = sided (first c.before) in let s = start w in let a = s.args in
+    says_left_inflow a.reach a.call (bed w) (state w) s.requires.0.0 (filled w) (left_test c.before ∙ c.if-fast_inflow.true)
 
 -- ---- a side
 module _ (e : tie.Else-fast_inflow) where
@@ -72,27 +72,27 @@ module _ (e : tie.Else-fast_inflow) where
   slow = e.before
 
 returns-then-i-n : tie.Need-returns-then-i-n
-returns-then-i-n c = let t = c.before.before in let e = t.before in let w = sided (first (slow e)) in let s = start w in let a = s.args in
-    says_side a.reach a.call (bed w) (state w) s.requires.0.0 (filled w) (left_test (slow e) ∙ e.if-fast_inflow.false) t.if-i-n.true
+returns-then-i-n c = let w = sided (first (slow c.before.before.before)) in let s = start w in let a = s.args in
+    says_side a.reach a.call (bed w) (state w) s.requires.0.0 (filled w) (left_test (slow c.before.before.before) ∙ c.if-fast_inflow.false) c.if-i-n.true
     c.face_beside.ensures
 
 -- ---- the right end
 module _ (r : tie.After-right_side) where
   abbrev passed : tie.Else-i-n
-  passed = r.before.before
+  passed = r.before.before.before
 
   abbrev past_left : tie.Else-fast_inflow
   past_left = passed.before
 
 fast_inflow-requires-2 : tie.Need-fast_inflow-requires-2
 fast_inflow-requires-2 c κs =
-    let r = c.before in let e = past_left r in let w = sided (first (slow e)) in
+    let e = past_left c.before in let w = sided (first (slow e)) in
     let s = start w in let a = s.args in let given = s.requires.1.0 in (
       given.right_q,
       (
-        subst (λ (x : rules.Side). DepthIn x.h) (sym r.right_side.ensures)
-            (last_depth a.reach a.call (bed w) (state w) s.requires.0.0 (filled w) (left_test (slow e) ∙ e.if-fast_inflow.left)
-            (passed r).if-i-n.false s.requires.1.1),
+        subst (λ (x : rules.Side). DepthIn x.h) (sym c.right_side.ensures)
+            (last_depth a.reach a.call (bed w) (state w) s.requires.0.0 (filled w) (left_test (slow e) ∙ e.if-fast_inflow.false)
+            (passed c.before).if-i-n.false s.requires.1.1),
         rw (back {z = a.call.dry} c.struct_told-2-1.given.1.1.0.1) given.dry,
       ),
     )
@@ -106,21 +106,21 @@ module _ (f : tie.After-fast_inflow-2) where
 
   right_test : let a = (start table).args in fast_right a.reach a.call (d table) ≡ f.fast_inflow-2.result
   right_test = let a = (start table).args in
-      sym ((rw (back {z = a.call.dry} f.before.struct_told-2-1.given.1.1.0.1) at f.fast_inflow-2.ensures)
+      sym ((rw (back {z = a.call.dry} f.struct_told-2-1.given.1.1.0.1) at f.fast_inflow-2.ensures)
       ∙ ap (fast_inflow a.call.dry (end_in a.call.right)) second.right_side.ensures)
 
 returns-then-fast_inflow-2 : tie.Need-returns-then-fast_inflow-2
-returns-then-fast_inflow-2 c = let f = c.before in let p = passed (second f) in let e = p.before in let w = table f in
+returns-then-fast_inflow-2 c = let p = passed (second c.before) in let e = p.before in let w = table c.before in
     let s = start w in let a = s.args in
-    says_right_inflow a.reach a.call (bed w) (state w) s.requires.0.0 (filled w) (left_test (slow e) ∙ e.if-fast_inflow.left) p.if-i-n.left
-    (right_test f ∙ c.if-fast_inflow-2.true)
+    says_right_inflow a.reach a.call (bed w) (state w) s.requires.0.0 (filled w) (left_test (slow e) ∙ e.if-fast_inflow.false) p.if-i-n.false
+    (right_test c.before ∙ c.if-fast_inflow-2.true)
 
 returns : tie.Need-returns
-returns c = let f = c.before in let p = passed (second f) in let e = p.before in let w = table f in
+returns c = let p = passed (second c.before) in let e = p.before in let w = table c.before in
     let s = start w in let a = s.args in let n : suc a.reach.n ≡ a.reach.n + 1 = omega arith in
     rw (sym n)
-    (says_slow a.reach a.call (bed w) (state w) s.requires.0.0 (filled w) (left_test (slow e) ∙ e.if-fast_inflow.left) p.if-i-n.left
-    (right_test f ∙ c.if-fast_inflow-2.false))
+    (says_slow a.reach a.call (bed w) (state w) s.requires.0.0 (filled w) (left_test (slow e) ∙ e.if-fast_inflow.false) p.if-i-n.false
+    (right_test c.before ∙ c.if-fast_inflow-2.false))
 
 pub face_speeds_spec : {M : Type 1} → statement M
 face_speeds_spec =

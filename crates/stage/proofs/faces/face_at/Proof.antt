@@ -16,22 +16,22 @@ use Rattle.stage.proofs.faces.face_at.Tie as tie
 -- ---- the left end
 module _ (f : tie.After-left_side) where
   abbrev left_start : tie.Start
-  left_start = f.before.before.before
+  left_start = f.before.before.before.before
 
   first_sound : Sound (side_in f.left_side.result)
   first_sound = let s = left_start in subst Sound (sym f.left_side.ensures) (s.requires.1.1 0 s.requires.0.0).0
 
 left_end-requires : tie.Need-left_end-requires
 left_end-requires c κs =
-    let f = c.before in let s = left_start f in let given = s.requires.1.0 in
-    (given.left_q, (first_sound f, rw (back {z = s.args.call.dry} c.struct_told-1.given.1.1.0.1) given.dry))
+    let s = left_start c.before in let given = s.requires.1.0 in
+    (given.left_q, (first_sound c.before, rw (back {z = s.args.call.dry} c.struct_told-1.given.1.1.0.1) given.dry))
 
 returns-then-i-eq0 : tie.Need-returns-then-i-eq0
 returns-then-i-eq0 c =
-    let k = c.before in let f = k.before in let t = f.before.before in let a = (left_start f).args in
-    (rw (back {z = a.call.dry} k.struct_told-1.given.1.1.0.1) at c.left_end.ensures)
-    ∙ ap (left_end face a.call.dry (end_in a.call.left)) f.left_side.ensures
-    ∙ sym (at_left a.reach a.call a.d.now a.i t.if-i-eq0.true)
+    let a = (left_start c.before.before).args in
+    (rw (back {z = a.call.dry} c.struct_told-1.given.1.1.0.1) at c.left_end.ensures)
+    ∙ ap (left_end face a.call.dry (end_in a.call.left)) c.left_side.ensures
+    ∙ sym (at_left a.reach a.call a.d.now a.i c.if-i-eq0.true)
 
 -- ---- a face behind a cell
 module _ (b : tie.After-right_side-before) where
@@ -43,34 +43,34 @@ module _ (b : tie.After-right_side-before) where
 
   before_sound : Sound (side_in b.right_side-before.result)
   before_sound =
-      let s = start in let i = s.args.i - 1 in let l : i < s.args.reach.n = omega (arith, else.if-i-eq0.left, s.requires.0) in
+      let s = start in let i = s.args.i - 1 in let l : i < s.args.reach.n = omega (arith, else.if-i-eq0.false, s.requires.0) in
       subst Sound (sym b.right_side-before.ensures) (s.requires.1.1 i l).1
 
 right_end-requires : tie.Need-right_end-requires
 right_end-requires c κs =
-    let b = c.before.before.before in let s = start b in let given = s.requires.1.0 in
-    (given.right_q, (before_sound b, rw (back {z = s.args.call.dry} c.struct_told-then-i-reach-1.given.1.1.0.1) given.dry))
+    let s = start c.before.before.before.before in let given = s.requires.1.0 in
+    (given.right_q, (before_sound c.before.before.before.before, rw (back {z = s.args.call.dry} c.struct_told-then-i-reach-1.given.1.1.0.1) given.dry))
 
 returns-then-i-reach : tie.Need-returns-then-i-reach
 returns-then-i-reach c =
-    let k = c.before in let t = k.before in let b = t.before.before in let a = (start b).args in
-    (rw (back {z = a.call.dry} k.struct_told-then-i-reach-1.given.1.1.0.1) at c.right_end.ensures)
-    ∙ ap (right_end face a.call.dry (end_in a.call.right)) b.right_side-before.ensures
-    ∙ sym (at_right a.reach a.call a.d.now a.i (else b).if-i-eq0.false t.if-i-reach.true)
+    let a = (start c.before.before.before.before.before).args in
+    (rw (back {z = a.call.dry} c.struct_told-then-i-reach-1.given.1.1.0.1) at c.right_end.ensures)
+    ∙ ap (right_end face a.call.dry (end_in a.call.right)) c.right_side-before.ensures
+    ∙ sym (at_right a.reach a.call a.d.now a.i (else c.before.before.before.before.before).if-i-eq0.false c.if-i-reach.true)
 
 -- ---- and before another
 crossing-requires : tie.Need-crossing-requires
 crossing-requires c κs =
-    let e = c.before.before in let b = e.before.before in let s = start b in
-    let l : s.args.i < s.args.reach.n = omega (arith, e.if-i-reach.false, s.requires.0) in
-    (before_sound b, subst Sound (sym c.left_side-2.ensures) (s.requires.1.1 s.args.i l).0)
+    let s = start c.before.before.before.before in
+    let l : s.args.i < s.args.reach.n = omega (arith, c.if-i-reach.false, s.requires.0) in
+    (before_sound c.before.before.before.before, subst Sound (sym c.left_side-2.ensures) (s.requires.1.1 s.args.i l).0)
 
 returns : tie.Need-returns
 returns c =
-    let f = c.before in let e = f.before.before in let b = e.before.before in let a = (start b).args in
+    let a = (start c.before.before.before.before.before).args in
     c.crossing.ensures
-    ∙ ap₂ face b.right_side-before.ensures f.left_side-2.ensures
-    ∙ sym (at_inner a.reach a.call a.d.now a.i (else b).if-i-eq0.false e.if-i-reach.false)
+    ∙ ap₂ face c.right_side-before.ensures c.left_side-2.ensures
+    ∙ sym (at_inner a.reach a.call a.d.now a.i (else c.before.before.before.before.before).if-i-eq0.false c.if-i-reach.false)
 
 pub face_at_spec : {M : Type 1} → statement M
 face_at_spec =

@@ -16,8 +16,7 @@ overflow_mul-result c = need (env c.before.before.before.before) (v 0 ⊗ v 4) t
 
 nonzero_div-result : tie.Need-nonzero_div-result
 nonzero_div-result c =
-    let s = c.before.before.before.before.before.before in
-    (divisor (env s) (v 3) tt s.requires.1.dx_pos, need (env s) (v 0 ⊗ v 4 ⊘ v 3) tt)
+    (divisor (env c.before.before.before.before.before.before) (v 3) tt c.requires.1.dx_pos, need (env c.before.before.before.before.before.before) (v 0 ⊗ v 4 ⊘ v 3) tt)
 
 returns : tie.Need-returns
 unfolding volume

@@ -21,16 +21,16 @@ loop-i-init : tie.Need-loop-i-init invariant-loop decreases-loop
 loop-i-init c = fill_none [] _ _ _ c.args.f.now
 
 face_at-x-requires : tie.Need-face_at-x-requires invariant-loop decreases-loop
-face_at-x-requires c κs = let p = c.before.before.requires in
+face_at-x-requires c κs = let p = c.requires in
     ((p.0.0, p.0.1, c.loop-i-test.true), (p.1.0, p.1.1.0))
 
 -- what crosses face i, and whether the step is too long for it
 sized_here : (c : tie.After-face_at-x invariant-loop decreases-loop) → Sized (flux_in c.face_at-x.result)
 sized_here c =
-    let e = c.before in let l = e.before in let s = l.before in let sided = s.requires.1.1 in
+    let sided = c.requires.1.1 in
     subst Sized (sym c.face_at-x.ensures)
-    (cross_sized s.args.reach s.args.call s.args.d.now s.requires.0.0 s.requires.1.0 sided.0 sided.1 l.loop-i.i
-    e.loop-i-test.true)
+    (cross_sized c.args.reach c.args.call c.args.d.now c.requires.0.0 c.requires.1.0 sided.0 sided.1 c.loop-i.i
+    c.loop-i-test.true)
 
 -- the turn of a face
 module _ (c : tie.After-too_long invariant-loop decreases-loop) where
@@ -43,29 +43,29 @@ module _ (c : tie.After-too_long invariant-loop decreases-loop) where
   abbrev start : tie.Start invariant-loop decreases-loop
   start = turn.before.before
 
-  long_here : let a = start.args in long_at a.reach a.call a.d.now turn.before.loop-i.i ≡ c.too_long.result
+  long_here : let a = start.args in long_at a.reach a.call a.d.now turn.loop-i.i ≡ c.too_long.result
   long_here = let a = start.args in
       ap (long_flux a.reach.dx a.call.dt) (sym crossed.face_at-x.ensures) ∙ sym c.too_long.ensures
 
   row_here : let a = start.args in
-      c.before.face_row.result ≡ face_row_at a.reach a.call a.d.now turn.before.loop-i.i
+      c.face_row.result ≡ face_row_at a.reach a.call a.d.now turn.loop-i.i
   row_here = let a = start.args in
-      c.before.face_row.ensures ∙ ap (face_row a.reach.dx a.call.dt) crossed.face_at-x.ensures
+      c.face_row.ensures ∙ ap (face_row a.reach.dx a.call.dt) crossed.face_at-x.ensures
 
 returns-then-too_long : tie.Need-returns-then-too_long invariant-loop decreases-loop
 returns-then-too_long c =
-    let t = c.before in let e = turn t in let l = e.before in
-    fill_stops [] _ _ _ _ l.loop-i.f l.loop-i.i _ (start t).requires.0.2 (omega (arith, e.loop-i-test.taken)) l.loop-i.inv
-    (row_here t) (long_here t ∙ c.if-too_long.true)
+    let e = turn c.before in let l = e.before in
+    fill_stops [] _ _ _ _ l.loop-i.f l.loop-i.i _ (start c.before).requires.0.2 (omega (arith, e.loop-i-test.true)) l.loop-i.invariant
+    (row_here c.before) (long_here c.before ∙ c.if-too_long.true)
 
 loop-i-preserved : tie.Need-loop-i-preserved invariant-loop decreases-loop
 loop-i-preserved c =
-    let t = c.before in let e = turn t in let l = e.before in
-    fill_more [] _ _ _ _ l.loop-i.f l.loop-i.i _ (start t).requires.0.2 (omega (arith, e.loop-i-test.taken)) l.loop-i.inv
-    (row_here t) (long_here t ∙ c.if-too_long.false)
+    let e = turn c.before in let l = e.before in
+    fill_more [] _ _ _ _ l.loop-i.f l.loop-i.i _ (start c.before).requires.0.2 (omega (arith, e.loop-i-test.true)) l.loop-i.invariant
+    (row_here c.before) (long_here c.before ∙ c.if-too_long.false)
 
 returns : tie.Need-returns invariant-loop decreases-loop
-returns c = let l = c.before.loop-i in let n = c.before.before.args.reach.n in
+returns c = let l = c.loop-i in let n = c.args.reach.n in
     let e : suc n ≡ n + 1 = omega arith in rw (sym e) (fill_ends [] _ _ _ _ l.f l.i (omega (arith, c.loop-i-test.false)) l.invariant)
 
 pub faces_spec : {M : Type 1} → statement M
@@ -76,9 +76,9 @@ faces_spec =
     decreases-loop
     loop-i-init
     face_at-x-requires
-    (λ c κs. (sized_here c, c.before.before.before.requires.1.0))
+    (λ c κs. (sized_here c, c.requires.1.0))
     (λ c. search rules) (λ c. search rules)
-    (λ c κs. let f = c.before in (sized_here f, f.before.before.before.requires.1.0))
+    (λ c κs. let f = c.before in (sized_here f, f.requires.1.0))
     (λ c. search rules)
     returns-then-too_long
     (λ c. search rules) (λ c. omega arith)

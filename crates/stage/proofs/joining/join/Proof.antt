@@ -33,13 +33,11 @@ rows : (s : tie.Start invariant-loop decreases-loop) (i : ℕ) → i < suc s.arg
 rows s i h = (s.requires.1.1.0 i h, s.requires.1.1.1 i h)
 
 end_volume-wl-requires : tie.Need-end_volume-wl-requires invariant-loop decreases-loop
-end_volume-wl-requires c κs = let l = c.before in let s = l.before in ((omega arith, omega arith), rows s l.loop-i.i (omega arith))
+end_volume-wl-requires c κs = ((omega arith, omega arith), rows c c.loop-i.i (omega arith))
 
 end_volume-wr-requires : tie.Need-end_volume-wr-requires invariant-loop decreases-loop
 end_volume-wr-requires c κs =
-    let l = c.before.before in
-    let s = l.before in
-    ((omega arith, omega arith), rows s (l.loop-i.i + 1) (omega arith))
+    ((omega arith, omega arith), rows c (c.loop-i.i + 1) (omega arith))
 
 -- ---- what a turn reads: the volumes of its two faces, and its cell
 module _ (c : tie.After-joined_cell-arg-in-loop-i-1 invariant-loop decreases-loop) where
@@ -50,17 +48,17 @@ module _ (c : tie.After-joined_cell-arg-in-loop-i-1 invariant-loop decreases-loo
   start = right.before.before.before.before
 
   abbrev at : ℕ
-  at = right.before.before.before.loop-i.i
+  at = right.loop-i.i
 
   wl : rd right.before.end_volume-wl.result ≡ volume_at start.args.f.now start.args.g.now at
-  wl = back64 right.before.end_volume-wl.ok right.before.end_volume-wl.ensures
+  wl = back64 right.end_volume-wl.type_inv right.end_volume-wl.ensures
 
   wr : rd right.end_volume-wr.result ≡ volume_at start.args.f.now start.args.g.now (suc at)
   wr = let e : at + 1 ≡ suc at = omega arith in
-      back64 right.end_volume-wr.ok (right.end_volume-wr.ensures ∙ (λ j. volume_at start.args.f.now start.args.g.now (e j)))
+      back64 right.end_volume-wr.type_inv (right.end_volume-wr.ensures ∙ (λ j. volume_at start.args.f.now start.args.g.now (e j)))
 
   cell : get_or right.before.before.before.loop-i.u at [] ≡ get_or start.args.u.now at []
-  cell = right.before.before.before.loop-i.inv.1.above at (omega arith)
+  cell = right.loop-i.invariant.1.above at (omega arith)
 
 -- half of two volumes is small enough to be added to a level
 volume_in : {l m : List ℤ} → Row l × Row m → UpTo widest (half (volume_of l) (volume_of m))
@@ -78,15 +76,15 @@ joined_cell-requires c κs =
 
 loop-i-preserved : tie.Need-loop-i-preserved invariant-loop decreases-loop
 loop-i-preserved c =
-    let r = c.before in let l = (right r).before.before.before in let s = start r in let i = at r in
-    let room : i < length l.loop-i.u = omega (arith, l.loop-i.inv.1.size) in (
+    let l = (right c.before).before.before.before in let s = start c.before in let i = at c.before in
+    let room : i < length l.loop-i.u = omega (arith, l.loop-i.invariant.1.size) in (
       omega arith,
-      filled_more [] s.args.u.now l.loop-i.u i _ c.joined_cell.result room l.loop-i.inv.1
-          (c.joined_cell.ensures ∙ (λ j. as_list (joined_cell (seen s.args.x.now i) (as_cell (cell r j)) (wl r j) (wr r j)))),
+      filled_more [] s.args.u.now l.loop-i.u i _ c.joined_cell.result room l.loop-i.invariant.1
+          (c.joined_cell.ensures ∙ (λ j. as_list (joined_cell (seen s.args.x.now i) (as_cell (cell c.before j)) (wl c.before j) (wr c.before j)))),
     )
 
 returns : tie.Need-returns invariant-loop decreases-loop
-returns c = let l = c.before.loop-i in record { cells = λ k h. l.invariant.1.below k (omega arith) }
+returns c = let l = c.loop-i in record { cells = λ k h. l.invariant.1.below k (omega arith) }
 
 pub join_spec : {M : Type 1} → statement M
 join_spec =
@@ -102,5 +100,5 @@ join_spec =
     joined_cell-requires
     (λ c. search rules) (λ c. search rules) (λ c. search rules) (λ c. search rules)
     loop-i-preserved
-    (λ c. c.before.loop-i.invariant.1.size)
+    (λ c. c.loop-i.invariant.1.size)
     returns)

@@ -12,14 +12,14 @@ use Rattle.stage.proofs.lent.lent_number.Tie as tie
 
 -- what was read
 abbrev number : tie.After-index → ℤ
-number p = get_or p.before.args.s.now p.index.result-1 (pos 0)
+number p = get_or p.args.s.now p.index.result (pos 0)
 
 overflow_cast-result : tie.Need-overflow_cast-result
 overflow_cast-result c = widens (number c.before) c.result-1.given
 
 returns : tie.Need-returns
 returns c =
-    let p = c.before in let t = p.before.args.s.now in let e = p.index.ensures.0 in (
+    let t = c.args.s.now in let e = c.index.ensures.0 in (
       widened c.result-1.given ∙ ap (λ (j : ℕ). get_or t j (pos 0)) e,
       subst (λ (j : ℕ). UpTo widest (get_or t j (pos 0))) e (b_up _ (within32 c.result-1.given) tt),
     )

@@ -26,17 +26,13 @@ loop-i-init c = fill_none (pos 0) _ _ _ c.args.g.now
 
 points_of-p-requires : tie.Need-points_of-p-requires invariant-loop decreases-loop
 points_of-p-requires c κs =
-    let b = c.before.before in let e = b.before in let l = e.before in let s = l.before in
-    rw (b.under.ensures, back {z = s.args.call.dry} c.struct_told-1.given.1.1.0.1)
-    (s.requires.1.0 l.loop-i.i e.loop-i-test.true, s.requires.1.1)
+    rw (c.under.ensures, back {z = c.args.call.dry} c.struct_told-1.given.1.1.0.1)
+    (c.requires.1.0 c.loop-i.i c.loop-i-test.true, c.requires.1.1)
 
 -- what a turn finds: the row of its cell, and whether that is too fast
 row : (c : tie.After-points_of-p invariant-loop decreases-loop) →
-    let l = c.before.before.before.before.before in
-    let s = l.before in
-    c.points_of-p.result ≡ point_row s.args.call.dry (bed_at s.args.bed.now l.loop-i.i) (seen s.args.t.now l.loop-i.i)
-row c = let k = c.before in let b = k.before.before in let s = b.before.before.before in
-    rw (b.under.ensures, back {z = s.args.call.dry} k.struct_told-1.given.1.1.0.1) at c.points_of-p.ensures
+    c.points_of-p.result ≡ point_row c.args.call.dry (bed_at c.args.bed.now c.loop-i.i) (seen c.args.t.now c.loop-i.i)
+row c = rw (c.under.ensures, back {z = c.args.call.dry} c.struct_told-1.given.1.1.0.1) at c.points_of-p.ensures
 
 -- the turn of a cell
 module _ (f : tie.After-either_fast invariant-loop decreases-loop) where
@@ -49,29 +45,28 @@ module _ (f : tie.After-either_fast invariant-loop decreases-loop) where
   fast : let l = turn.before in let s = l.before in
       fast_points_at s.args.call.dry s.args.bed.now (seen s.args.t.now) l.loop-i.i ≡ f.either_fast.result
   unfolding fast_points point_row
-  fast = let y = f.before in let x = y.before in
-      sym (rw (back x.either_fast-arg-1.given, back y.either_fast-arg-in-loop-i-1.given, row pointed) at f.either_fast.ensures)
+  fast = sym (rw (back f.either_fast-arg-1.given, back f.either_fast-arg-in-loop-i-1.given, row pointed) at f.either_fast.ensures)
 
   momentum : let l = turn.before in let s = l.before in
       rd (get_or pointed.points_of-p.result 2 (pos 0))
       ≡ momentum_at s.args.call.dry s.args.bed.now (seen s.args.t.now) l.loop-i.i
   unfolding point_row
-  momentum = back64 f.before.before.before.g-1.given (ap (λ (r : List ℤ). get_or r 2 (pos 0)) (row pointed))
+  momentum = back64 f.g-1.given (ap (λ (r : List ℤ). get_or r 2 (pos 0)) (row pointed))
 
 returns-then-either_fast : tie.Need-returns-then-either_fast invariant-loop decreases-loop
 returns-then-either_fast c =
-    let f = c.before in let e = turn f in let l = e.before in let s = l.before in
-    fill_stops (pos 0) _ _ _ _ l.loop-i.g l.loop-i.i _ s.requires.0.1 e.loop-i-test.taken l.loop-i.inv
-    (momentum f) (fast f ∙ c.if-either_fast.true)
+    let e = turn c.before in let l = e.before in let s = l.before in
+    fill_stops (pos 0) _ _ _ _ l.loop-i.g l.loop-i.i _ s.requires.0.1 e.loop-i-test.true l.loop-i.invariant
+    (momentum c.before) (fast c.before ∙ c.if-either_fast.true)
 
 loop-i-preserved : tie.Need-loop-i-preserved invariant-loop decreases-loop
 loop-i-preserved c =
-    let f = c.before in let e = turn f in let l = e.before in let s = l.before in
-    fill_more (pos 0) _ _ _ _ l.loop-i.g l.loop-i.i _ s.requires.0.1 e.loop-i-test.taken l.loop-i.inv
-    (momentum f) (fast f ∙ c.if-either_fast.false)
+    let e = turn c.before in let l = e.before in let s = l.before in
+    fill_more (pos 0) _ _ _ _ l.loop-i.g l.loop-i.i _ s.requires.0.1 e.loop-i-test.true l.loop-i.invariant
+    (momentum c.before) (fast c.before ∙ c.if-either_fast.false)
 
 returns : tie.Need-returns invariant-loop decreases-loop
-returns c = let l = c.before.loop-i in fill_ends (pos 0) _ _ _ _ l.g-1 l.i (omega arith) l.invariant
+returns c = let l = c.loop-i in fill_ends (pos 0) _ _ _ _ l.g-1 l.i (omega arith) l.invariant
 
 pub points_spec : {M : Type 1} → statement M
 points_spec =

@@ -23,13 +23,12 @@ bounds-h-1 c = search rules
 
 share_of-requires : tie.Need-share_of-requires
 share_of-requires c κs =
-    let d = c.before.before in
-    rw (back c.share_of-arg-1.given, d.depths-h.ensures) (b_up 8388608 (cell_sizes d.before.requires.0).slope tt)
+    rw (back c.share_of-arg-1.given, c.depths-h.ensures) (b_up 8388608 (cell_sizes c.requires.0).slope tt)
 
 -- the share of the depth's slope, and of the discharge's
 depth_share : (c : tie.After-share_of) → let s = c.before.before.before.before in
     c.share_of.result ≡ share (h1 (bed_in s.args.b) (as_cell s.args.x))
-depth_share c = let a = c.before in rw (back a.share_of-arg-1.given, a.before.before.depths-h.ensures) at c.share_of.ensures
+depth_share c = let a = c.before in rw (back a.share_of-arg-1.given, a.depths-h.ensures) at c.share_of.ensures
 
 bounds-x-2 : tie.Need-bounds-x-2
 bounds-x-2 c = search rules
@@ -39,37 +38,34 @@ bounds-x-3 c = search rules
 
 share_of-requires-2 : tie.Need-share_of-requires-2
 share_of-requires-2 c κs =
-    let s = c.before.before.before.before.before.before in
-    rw (back c.share_of-arg-2-1.given) (cell_sizes s.requires.0).q1
+    rw (back c.share_of-arg-2-1.given) (cell_sizes c.requires.0).q1
 
 flow_share : (c : tie.After-share_of-2) → let s = c.before.before.before.before.before.before.before in
     c.share_of-2.result ≡ share (as_cell s.args.x).q1
-flow_share c = rw (back c.before.share_of-arg-2-1.given) at c.share_of-2.ensures
+flow_share c = rw (back c.share_of-arg-2-1.given) at c.share_of-2.ensures
 
 pair_of-requires : tie.Need-pair_of-requires
 pair_of-requires c κs =
-    let a2 = c.before.before in let f = a2.before in let a1 = f.before.before in let d = a1.before in let s = d.before in
     rw (
-      back a1.pair_of-arg-1.given,
-      back64 f.share_of.type_inv (depth_share f),
-      back a2.pair_of-arg-2-1.given,
+      back c.pair_of-arg-1.given,
+      back64 c.share_of.type_inv (depth_share c.before.before.before),
+      back c.pair_of-arg-2-1.given,
       back64 c.share_of-2.type_inv (flow_share c),
-      d.depths-h.ensures,
-      back {z = s.args.dry} s.ranges.dry.sfits,
+      c.depths-h.ensures,
+      back {z = c.args.dry} c.ranges.dry.sfits,
     )
-    ((cell_sizes s.requires.0).points, s.requires.1)
+    ((cell_sizes c.requires.0).points, c.requires.1)
 
 returns : tie.Need-returns
 unfolding point_row gauss
 returns c =
-    let g = c.before in let a2 = g.before.before in let f = a2.before in let a1 = f.before.before in let d = a1.before in
     rw (
-      back {z = d.before.args.dry} d.before.ranges.dry.sfits,
-      back a2.pair_of-arg-2-1.given,
-      back64 g.share_of-2.type_inv (flow_share g),
-      back a1.pair_of-arg-1.given,
-      back64 f.share_of.type_inv (depth_share f),
-      d.depths-h.ensures,
+      back {z = c.args.dry} c.ranges.dry.sfits,
+      back c.pair_of-arg-2-1.given,
+      back64 c.share_of-2.type_inv (flow_share c.before),
+      back c.pair_of-arg-1.given,
+      back64 c.share_of.type_inv (depth_share c.before.before.before.before),
+      c.depths-h.ensures,
     )
     at c.pair_of.ensures
 

@@ -13,16 +13,15 @@ use Rattle.stage.proofs.rubbed.calm.Statement.{statement}
 use Rattle.stage.proofs.rubbed.calm.Tie as tie
 
 abbrev cell : tie.Start → Cell
-cell s = as_cell s.args.t1
+cell s = as_cell s.args.x
 
 -- what the first test says
 mean : (c : tie.After-t6-1) → eqb (of_z w64 (cell c.before).q0) 0 ≡ eq_z (cell c.before).q0 (pos 0)
 mean c = test_is {a = (cell c.before).q0} (record { sfits = c.t6-1.given }) (sfits_lit tt)
 
 returns-then-x-eq0 : tie.Need-returns-then-x-eq0
-returns-then-x-eq0 c = let t = c.before in let b = t.before in
-    rw (sym (mean b) ∙ eq-eqb _ _ t.if-x-eq0.true)
-    (test_is {a = (cell b.before).q1} (record { sfits = c.result-1.given }) (sfits_lit tt))
+returns-then-x-eq0 c = rw (sym (mean c.before.before) ∙ eq-eqb _ _ c.if-x-eq0.true)
+    (test_is {a = (cell c.before.before.before).q1} (record { sfits = c.result-1.given }) (sfits_lit tt))
 
 returns-else-x-eq0 : tie.Need-returns-else-x-eq0
 returns-else-x-eq0 c = let no = ne_eqb _ _ c.if-x-eq0.false in rw (sym (mean c.before) ∙ no) no

@@ -40,7 +40,7 @@ module _ (s : tie.Start) where
   bed = bed_in s.args.b
 
   abbrev cell : Cell
-  cell = as_cell s.args.t4
+  cell = as_cell s.args.x
 
   -- what is asked of the cell and of the dry depth
   inside : Inside bed cell
@@ -84,9 +84,9 @@ calm_is x e =
 -- ---- a cell that is left as it is
 returns-then-h-call : tie.Need-returns-then-h-call
 returns-then-h-call c =
-    let k = c.before in let s = begun k in let x = cell s in let p = s.args in
+    let s = begun c.before in let x = cell s in let p = s.args in
     let left : rubbed_cell p.call.dt (dry s) p.f (bed s) x ≡ x = ⊎_elim
-    (λ w. rubbed_dry p.call.dt (dry s) p.f (bed s) x (test_is k ∙ w.taken))
+    (λ w. rubbed_dry p.call.dt (dry s) p.f (bed s) x (test_is c.before ∙ w.taken))
     (λ w. rubbed_calm p.call.dt (dry s) p.f (bed s) x (calm_is x (sym w.1.ensures ∙ w.2.taken)))
     c.then-h-call.branch in
     let good = s.good.1.1.1 in let size = good.0.1 in
@@ -108,15 +108,15 @@ low c = let s = start c in le_lt_trans (dry_in s).least (le_no (h0 (bed s) (cell
 strength-requires : tie.Need-strength-requires
 unfolding fast_cell
 strength-requires c κs =
-    let a = c.before in let e = deep a.before in let d = measured e.before in let s = d.before in let m = sizes s in
-    rw (to_z-of_z s.ranges.f, back a.strength-arg-1.given, back c.strength-arg-2-1.given, d.depths-h.ensures)
+    let e = deep c.before.before in let d = measured e.before in let s = d.before in let m = sizes s in
+    rw (to_z-of_z s.ranges.f, back c.strength-arg-1.given, back c.strength-arg-2-1.given, d.depths-h.ensures)
     (s.requires.0, (s.requires.1.0, ((m.q0, dry_in s), ((low e, m.mean_most), s.requires.1.1.1))))
 
 x_is : (c : tie.After-strength) → c.strength.result ≡ strong (start (deep c.before.before.before))
 unfolding strong
 x_is c =
-    let b = c.before in let a = b.before in let d = measured (deep a.before).before in let s = d.before in
-    rw (to_z-of_z s.ranges.f, back b.strength-arg-2-1.given, back a.strength-arg-1.given, d.depths-h.ensures) at c.strength.ensures
+    let d = measured (deep c.before.before.before).before in let s = d.before in
+    rw (to_z-of_z s.ranges.f, back c.strength-arg-2-1.given, back c.strength-arg-1.given, d.depths-h.ensures) at c.strength.ensures
 
 x_size : (c : tie.After-strength) → let s = start (deep c.before.before.before) in (pos 0 ≤ℤ strong s) × UpTo strongest (strong s)
 unfolding strong fast_cell
@@ -134,9 +134,9 @@ slowed_cell-requires c κs =
 returns : tie.Need-returns
 unfolding rubbed_cell strong
 returns c =
-    let t = c.before in let e = deep t.before.before.before in let s = start e in let x = cell s in let p = s.args in
+    let e = deep c.before.before.before.before in let s = start e in let x = cell s in let p = s.args in
     let left : (q : ℤ) → _ ≡ _ = λ q. sym (rub_wet p.call.dt (dry s) p.f (bed s) x q (wet e)) in
-    (rw (back64 t.strength.type_inv (x_is t)) at c.slowed_cell.ensures)
+    (rw (back64 c.strength.type_inv (x_is c.before)) at c.slowed_cell.ensures)
     ∙ (λ i. x.e0 ∷ x.e1 ∷ left x.q0 i ∷ left x.q1 i ∷ [])
 
 pub rubbed_cell_spec : {M : Type 1} → statement M

@@ -13,7 +13,7 @@ use Rattle.stage.proofs.rubbed.slowed_by.Tie as tie
 slowed-requires : tie.Need-slowed-requires
 slowed-requires c κs = search rules
 
-answer : (c : tie.After-slowed) → let a = c.before.args in value_of c.slowed.result ≡ given (slowed a.x a.q)
+answer : (c : tie.After-slowed) → let a = c.args in value_of c.slowed.result ≡ given (slowed a.x a.q)
 answer c =
     let s = c.before in
     (simp (to_z-of_z, s.ranges.x, s.ranges.q) at c.slowed.ensures) ∙ slowed_given_lem s.args.x s.args.q s.requires.0 s.requires.1
@@ -26,11 +26,10 @@ enum_told-1 c = search rules
 
 returns-in-Is : tie.Need-returns-in-Is
 returns-in-Is c =
-    let a = c.before.before.before in
-    back64 c.known_told-1.given.0.1 (told a.slowed.result _ _ c.before.left-1.given.1 (answer a))
+    back64 c.known_told-1.given.0.1 (told c.slowed.result _ _ c.left-1.given.1 (answer c.before))
 
 returns-in-Refused : tie.Need-returns-in-Refused
-returns-in-Refused c = let a = c.before.before in untold a.slowed.result _ c.enum_told-1.given.1 (answer a)
+returns-in-Refused c = untold c.slowed.result _ c.enum_told-1.given.1 (answer c.before)
 
 pub slowed_by_spec : {M : Type 1} → statement M
 slowed_by_spec = tie.close (tie.spec slowed-requires enum_known-left enum_told-1 returns-in-Is returns-in-Refused)

@@ -38,13 +38,12 @@ module _ (s : tie.Start) where
 
 speed_of-u-requires : tie.Need-speed_of-u-requires
 speed_of-u-requires c κs =
-    let s = c.before in let h = depth s in
-    simp (to_z-of_z, s.ranges.q, s.ranges.h, back {z = s.args.call.dry} (omega (arith, c.struct_told-1.given)))
-    ((flow s).0, ((lt_le (wet s.args.h h.0 h.1), h.1), (flow s).1))
+    let h = depth c.before in
+    simp (to_z-of_z, c.ranges.q, c.ranges.h, back {z = c.args.call.dry} (omega (arith, c.struct_told-1.given)))
+    ((flow c.before).0, ((lt_le (wet c.args.h h.0 h.1), h.1), (flow c.before).1))
 
 u_is : (c : tie.After-speed_of-u) → c.speed_of-u.result ≡ fast c.before.before
-u_is c = let k = c.before in let s = k.before in
-    simp (to_z-of_z, s.ranges.q, s.ranges.h, back {z = s.args.call.dry} (omega (arith, k.struct_told-1.given))) at c.speed_of-u.ensures
+u_is c = simp (to_z-of_z, c.ranges.q, c.ranges.h, back {z = c.args.call.dry} (omega (arith, c.struct_told-1.given))) at c.speed_of-u.ensures
 
 strength-requires : tie.Need-strength-requires
 strength-requires c κs = search rules
@@ -68,11 +67,10 @@ enum_told-1 c = search rules
 
 returns-in-Is : tie.Need-returns-in-Is
 returns-in-Is c =
-    let a = c.before.before.before in
-    back64 c.known_told-1.given.0.1 (told a.strength.result _ _ c.before.x-1.given.1 (answer a))
+    back64 c.known_told-1.given.0.1 (told c.strength.result _ _ c.x-1.given.1 (answer c.before))
 
 returns-in-Refused : tie.Need-returns-in-Refused
-returns-in-Refused c = let a = c.before.before in untold a.strength.result _ c.enum_told-1.given.1 (answer a)
+returns-in-Refused c = untold c.strength.result _ c.enum_told-1.given.1 (answer c.before)
 
 pub strength_spec : {M : Type 1} → statement M
 strength_spec = tie.close (tie.spec speed_of-u-requires strength-requires enum_known-x enum_told-1 returns-in-Is returns-in-Refused)

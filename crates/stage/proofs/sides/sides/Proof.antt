@@ -22,26 +22,20 @@ loop-i-init c = fill_none [] _ _ _ c.args.d.now
 
 sides_of-s-requires : tie.Need-sides_of-s-requires invariant-loop decreases-loop
 sides_of-s-requires c κs =
-    let b = c.before.before in let e = b.before in let l = e.before in let s = l.before in
-    rw (b.under.ensures, back {z = s.args.call.dry} c.struct_told-1.given.1.1.0.1)
-    (s.requires.1.0 l.loop-i.i e.loop-i-test.true, s.requires.1.1)
+    rw (c.under.ensures, back {z = c.args.call.dry} c.struct_told-1.given.1.1.0.1)
+    (c.requires.1.0 c.loop-i.i c.loop-i-test.true, c.requires.1.1)
 
 -- what a turn finds: the row of its cell, and whether that is too fast
 row : (c : tie.After-sides_of-s invariant-loop decreases-loop) →
-    let l = c.before.before.before.before.before in
-    let s = l.before in
-    c.sides_of-s.result ≡ sides_at s.args.call.dry s.args.bed.now (seen s.args.t.now) l.loop-i.i
+    c.sides_of-s.result ≡ sides_at c.args.call.dry c.args.bed.now (seen c.args.t.now) c.loop-i.i
 unfolding sides_at
-row c = let k = c.before in let b = k.before.before in let s = b.before.before.before in
-    rw (b.under.ensures, back {z = s.args.call.dry} k.struct_told-1.given.1.1.0.1) at c.sides_of-s.ensures
+row c = rw (c.under.ensures, back {z = c.args.call.dry} c.struct_told-1.given.1.1.0.1) at c.sides_of-s.ensures
 
 fast : (c : tie.After-either_fast invariant-loop decreases-loop) →
-    let l = c.before.before.before.before.before.before.before.before in let s = l.before in
-    fast_sides s.args.call.dry s.args.bed.now (seen s.args.t.now) l.loop-i.i ≡ c.either_fast.result
+    fast_sides c.args.call.dry c.args.bed.now (seen c.args.t.now) c.loop-i.i ≡ c.either_fast.result
 unfolding fast_sides sides_at
 fast c =
-    let y = c.before in let x = y.before in
-    sym (rw (back x.either_fast-arg-1.given, back y.either_fast-arg-in-loop-i-1.given, row x.before) at c.either_fast.ensures)
+    sym (rw (back c.either_fast-arg-1.given, back c.either_fast-arg-in-loop-i-1.given, row c.before.before.before) at c.either_fast.ensures)
 
 -- the turn of a cell
 module _ (f : tie.After-either_fast invariant-loop decreases-loop) where
@@ -53,18 +47,18 @@ module _ (f : tie.After-either_fast invariant-loop decreases-loop) where
 
 returns-then-either_fast : tie.Need-returns-then-either_fast invariant-loop decreases-loop
 returns-then-either_fast c =
-    let f = c.before in let e = turn f in let l = e.before in let s = l.before in
-    fill_stops [] _ _ _ _ l.loop-i.d l.loop-i.i _ s.requires.0.1 e.loop-i-test.taken l.loop-i.inv (row (sided f))
-    (fast f ∙ c.if-either_fast.true)
+    let e = turn c.before in let l = e.before in let s = l.before in
+    fill_stops [] _ _ _ _ l.loop-i.d l.loop-i.i _ s.requires.0.1 e.loop-i-test.true l.loop-i.invariant (row (sided c.before))
+    (fast c.before ∙ c.if-either_fast.true)
 
 loop-i-preserved : tie.Need-loop-i-preserved invariant-loop decreases-loop
 loop-i-preserved c =
-    let f = c.before in let e = turn f in let l = e.before in let s = l.before in
-    fill_more [] _ _ _ _ l.loop-i.d l.loop-i.i _ s.requires.0.1 e.loop-i-test.taken l.loop-i.inv (row (sided f))
-    (fast f ∙ c.if-either_fast.false)
+    let e = turn c.before in let l = e.before in let s = l.before in
+    fill_more [] _ _ _ _ l.loop-i.d l.loop-i.i _ s.requires.0.1 e.loop-i-test.true l.loop-i.invariant (row (sided c.before))
+    (fast c.before ∙ c.if-either_fast.false)
 
 returns : tie.Need-returns invariant-loop decreases-loop
-returns c = let l = c.before.loop-i in fill_ends [] _ _ _ _ l.d l.i (omega arith) l.invariant
+returns c = let l = c.loop-i in fill_ends [] _ _ _ _ l.d l.i (omega arith) l.invariant
 
 pub sides_spec : {M : Type 1} → statement M
 sides_spec =

@@ -13,7 +13,7 @@ use Rattle.stage.proofs.sides.speed_of.Tie as tie
 speed-requires : tie.Need-speed-requires
 speed-requires c κs = search rules
 
-answer : (c : tie.After-speed) → let a = c.before.args in value_of c.speed.result ≡ given (speed a.dry a.q a.h)
+answer : (c : tie.After-speed) → let a = c.args in value_of c.speed.result ≡ given (speed a.dry a.q a.h)
 answer c =
     let s = c.before in
     let depth = s.requires.1.0 in
@@ -28,11 +28,10 @@ enum_told-1 c = search rules
 
 returns-in-Is : tie.Need-returns-in-Is
 returns-in-Is c =
-    let a = c.before.before.before in
-    back64 c.known_told-1.given.0.1 (told a.speed.result _ _ c.before.u-1.given.1 (answer a))
+    back64 c.known_told-1.given.0.1 (told c.speed.result _ _ c.u-1.given.1 (answer c.before))
 
 returns-in-Refused : tie.Need-returns-in-Refused
-returns-in-Refused c = let a = c.before.before in untold a.speed.result _ c.enum_told-1.given.1 (answer a)
+returns-in-Refused c = untold c.speed.result _ c.enum_told-1.given.1 (answer c.before)
 
 pub speed_of_spec : {M : Type 1} → statement M
 speed_of_spec = tie.close (tie.spec speed-requires enum_known-u enum_told-1 returns-in-Is returns-in-Refused)

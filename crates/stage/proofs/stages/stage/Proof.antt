@@ -37,8 +37,8 @@ module _ (w : tie.After-face_speeds-fast) where
   said = w.face_speeds-fast.ensures
 
 returns-then-fast-n : tie.Need-returns-then-fast-n
-returns-then-fast-n c ρ = let w = c.before.before in record {
-  found = says_fast (said w) ρ c.if-fast-n.true;
+returns-then-fast-n c ρ = record {
+  found = says_fast (said c.before.before) ρ c.if-fast-n.true;
   done = λ z. let y : ⊥ = omega arith in absurd y;
 }
 
@@ -47,12 +47,12 @@ module _ (e : tie.Else-fast-n) where
   worked = e.before.before
 
   slow_faces : let s = start worked in SlowFaces s.args.reach s.args.call s.args.bed.now (state s) (d worked)
-  slow_faces = (said worked).slow e.if-fast-n.left
+  slow_faces = (said worked).slow e.if-fast-n.false
 
 -- ---- those at the Gauss points
 returns-then-cell-n : tie.Need-returns-then-cell-n
-returns-then-cell-n c ρ = let p = c.before.before in let e = p.before.before in record {
-  found = says_points (said (worked e)) ρ e.if-fast-n.false p.points-cell.result p.points-cell.ensures.stops c.if-cell-n.true;
+returns-then-cell-n c ρ = record {
+  found = says_points (said (worked c.before.before.before.before)) ρ c.if-fast-n.false c.points-cell.result c.points-cell.ensures.stops c.if-cell-n.true;
   done = λ z. let y : ⊥ = omega arith in absurd y;
 }
 
@@ -76,27 +76,27 @@ module _ (e : tie.Else-cell-n) where
   slowed : let a = begun.args in Slowed a.reach a.call a.bed.now (state begun) shown
   slowed = let a = begun.args in record {
     faces = slow_faces first;
-    slow_faces = λ ρ. faces_pass (said (worked first)) ρ first.if-fast-n.left;
+    slow_faces = λ ρ. faces_pass (said (worked first)) ρ first.if-fast-n.false;
     slow_points = lowest_past (fast_points_at a.call.dry a.bed.now (state begun)) a.reach.n
-        (subst (λ (k : ℕ). a.reach.n ≤ k) pointed.points-cell.ensures.stops e.if-cell-n.left);
+        (subst (λ (k : ℕ). a.reach.n ≤ k) pointed.points-cell.ensures.stops e.if-cell-n.false);
   }
 
   points : let a = begun.args in Written (pos 0) g a.reach.n (momentum_at a.call.dry a.bed.now (state begun))
   points = let a = begun.args in
       all_filled (pos 0) a.reach.n (fast_points_at a.call.dry a.bed.now (state begun))
-      (momentum_at a.call.dry a.bed.now (state begun)) pointed.points-cell.ensures e.if-cell-n.left
+      (momentum_at a.call.dry a.bed.now (state begun)) pointed.points-cell.ensures e.if-cell-n.false
 
 faces-long-requires : tie.Need-faces-long-requires
 faces-long-requires c κs =
-    let h = c.before.before in let p = slowed h in let s = begun h in (
-      (s.requires.0.0, room (worked (first h)), omega arith),
+    let p = slowed c.before in let s = begun c.before in (
+      (s.requires.0.0, room (worked (first c.before)), omega arith),
       (s.requires.1.1.0, (sides_sound p.faces-long s.requires.1.1.1, p.faces-long.slow_ends)),
     )
 
 -- ---- the faces
 returns-then-long-n : tie.Need-returns-then-long-n
-returns-then-long-n c ρ = let f = c.before.before in let h = f.before.before.before in record {
-  found = says_long (slowed h) ρ f.faces-long.result f.faces-long.ensures.stops c.if-long-n.true;
+returns-then-long-n c ρ = record {
+  found = says_long (slowed c.before.before.before.before) ρ c.faces-long.result c.faces-long.ensures.stops c.if-long-n.true;
   done = λ z. let y : ⊥ = omega arith in absurd y;
 }
 
@@ -105,7 +105,7 @@ module _ (t : tie.Else-long-n) where
   faced = t.before.before
 
   abbrev passed : tie.Else-cell-n
-  passed = faced.before.before.before
+  passed = faced.before.before
 
   -- the table of the faces
   abbrev f : List (List ℤ)
@@ -114,17 +114,17 @@ module _ (t : tie.Else-long-n) where
   rows : let a = (begun passed).args in Written [] f (suc a.reach.n) (face_row_at a.reach a.call (shown passed))
   rows = let a = (begun passed).args in
       all_filled [] (suc a.reach.n) (long_at a.reach a.call (shown passed)) (face_row_at a.reach a.call (shown passed))
-      faced.faces-long.ensures (omega (arith, t.if-long-n.left))
+      faced.faces-long.ensures (omega (arith, t.if-long-n.false))
 
 update-requires : tie.Need-update-requires
 update-requires c κs =
-    let t = c.before.before.before in let h = passed t in let p = slowed h in
+    let h = passed c.before in let p = slowed h in
     let s = begun h in let a = s.args in let given = s.requires.1.1 in (
       (omega arith, omega arith, omega arith, room (worked (first h))),
       (
         given.1,
         (
-          rows_sized p given.1 given.0 (f t) (rows t),
+          rows_sized p given.1 given.0 (f c.before) (rows c.before),
           (momenta a.call.dry a.reach.n a.bed.now (state s) given.1 p.slow_points (g h) (points h), given.0),
         ),
       ),
@@ -132,10 +132,10 @@ update-requires c κs =
 
 returns : tie.Need-returns
 returns c ρ =
-    let u = c.before in let t = u.before.before.before.before in let h = passed t in let p = slowed h in
+    let h = passed c.before.before.before in let p = slowed h in
     let given = (begun h).requires.1.1 in record {
-      found = says_none p ρ (faced t).faces-long.result (faced t).faces-long.ensures.stops t.if-long-n.false;
-      done = λ z. stage_done p ρ given.1 given.0 (f t) (g h) (rows t) (points h) _ u.update.ensures;
+      found = says_none p ρ (faced c.before.before.before).faces-long.result (faced c.before.before.before).faces-long.ensures.stops c.if-long-n.false;
+      done = λ z. stage_done p ρ given.1 given.0 (f c.before.before.before) (g h) (rows c.before.before.before) (points h) _ c.update.ensures;
     }
 
 pub stage_spec : {M : Type 1} → statement M

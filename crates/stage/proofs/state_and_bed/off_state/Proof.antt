@@ -26,26 +26,22 @@ loop-i-init c = scan_none _ _
 
 off_cell-requires : tie.Need-off_cell-requires invariant-loop decreases-loop
 off_cell-requires c κs =
-    let u = c.before in let e = u.before in let l = e.before in
-    rw (u.under.ensures, c.cell_of.ensures.0) (l.before.requires.2 l.loop-i.i e.loop-i-test.true, c.cell_of.ensures.1)
+    rw (c.under.ensures, c.cell_of.ensures.0) (c.requires.2 c.loop-i.i c.loop-i-test.true, c.cell_of.ensures.1)
 
 -- what the test of this turn says
 here : (c : tie.After-off_cell invariant-loop decreases-loop) →
-    let l = c.before.before.before.before in
-    let a = l.before.args in
-    bad a.state.now a.bed.now a.n l.loop-i.i ≡ c.off_cell.result
-here c = let x = c.before in sym (rw (x.before.under.ensures, x.cell_of.ensures.0) at c.off_cell.ensures)
+    let a = c.args in
+    bad a.state.now a.bed.now a.n c.loop-i.i ≡ c.off_cell.result
+here c = sym (rw (c.under.ensures, c.cell_of.ensures.0) at c.off_cell.ensures)
 
 returns-then-off_cell : tie.Need-returns-then-off_cell invariant-loop decreases-loop
-returns-then-off_cell c = let o = c.before in let e = o.before.before.before in
-    scan_lowest e.before.loop-i.invariant e.loop-i-test.true (here o) c.if-off_cell.true
+returns-then-off_cell c = scan_lowest c.loop-i.invariant c.loop-i-test.true (here c.before) c.if-off_cell.true
 
 loop-i-preserved : tie.Need-loop-i-preserved invariant-loop decreases-loop
-loop-i-preserved c = let o = c.before in let e = o.before.before.before in
-    scan_more e.before.loop-i.invariant e.loop-i-test.true (here o) c.if-off_cell.false
+loop-i-preserved c = scan_more c.loop-i.invariant c.loop-i-test.true (here c.before) c.if-off_cell.false
 
 returns : tie.Need-returns invariant-loop decreases-loop
-returns c = scan_past c.before.loop-i.invariant c.loop-i-test.false
+returns c = scan_past c.loop-i.invariant c.loop-i-test.false
 
 pub off_state_spec : {M : Type 1} → statement M
 off_state_spec =

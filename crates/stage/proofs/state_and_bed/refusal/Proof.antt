@@ -37,19 +37,18 @@ no k = k.no
 
 -- ---- the lengths
 lengths_test : (c : tie.After-bad_state) → let s = c.before.before in c.bad_state.result ≡ misfit_state (length (state s)) (n s)
-lengths_test c = rw c.before.cells_over-n.ensures at c.bad_state.ensures
+lengths_test c = rw c.cells_over-n.ensures at c.bad_state.ensures
 
 returns-then-bad_state : tie.Need-returns-then-bad_state
 unfolding state_refusal state_checks verdict
-returns-then-bad_state c = let s = c.before.before.before in
-    rw (of_call_lem 1 (misfit_state (length (state s)) (n s)) ∙ sym (lengths_test c.before) ∙ c.if-bad_state.true)
+returns-then-bad_state c = rw (of_call_lem 1 (misfit_state (length (state c.before.before.before)) (n c.before.before.before)) ∙ sym (lengths_test c.before) ∙ c.if-bad_state.true)
 
 module _ (c : tie.Else-bad_state) where
   abbrev one : tie.Start
   one = c.before.before.before
 
   cells : c.before.before.cells_over-n.result ≡ n one
-  cells = c.before.before.cells_over-n.ensures
+  cells = c.cells_over-n.ensures
 
   fit : misfit_state (length (state one)) (n one) ≡ false
   fit = sym (lengths_test c.before) ∙ c.if-bad_state.false
@@ -70,8 +69,7 @@ bed_test c =
 
 returns-then-bad_bed-n : tie.Need-returns-then-bad_bed-n
 unfolding state_refusal state_checks
-returns-then-bad_bed-n c = let e = c.before.before in
-    ap no (stops_at (list (one e)) 1 _ (lengths_passed e, tt) (bed_test c.before) (omega (arith, c.if-bad_bed-n.true, cells e)))
+returns-then-bad_bed-n c = ap no (stops_at (list (one c.before.before)) 1 _ (lengths_passed c.before.before, tt) (bed_test c.before) (omega (arith, c.if-bad_bed-n.true, cells c.before.before)))
 
 module _ (c : tie.Else-bad_bed-n) where
   abbrev two : tie.Else-bad_state
@@ -95,15 +93,15 @@ off_test c = rw (cells (two c.before)) at c.off_state.ensures
 
 returns-then-off_state-n : tie.Need-returns-then-off_state-n
 unfolding state_refusal state_checks
-returns-then-off_state-n c = let e = c.before.before in let d = two e in
-    ap no (stops_at (list (one d)) 2 _ (lengths_passed d, (bed_passed e, tt)) (off_test c.before)
+returns-then-off_state-n c = let d = two c.before.before in
+    ap no (stops_at (list (one d)) 2 _ (lengths_passed d, (bed_passed c.before.before, tt)) (off_test c.before)
     (omega (arith, c.if-off_state-n.true, cells d)))
 
 returns : tie.Need-returns
 unfolding state_refusal state_checks
-returns c = let e = c.before.before in let d = two e in let x = check_at (list (one d)) 2 in
+returns c = let d = two c.before.before in let x = check_at (list (one d)) 2 in
     let off_passed = passes x _ (off_test c.before) (omega (arith, c.if-off_state-n.false, cells d)) in
-    ap no (none_stops (list (one d)) (lengths_passed d, (bed_passed e, (off_passed, tt))))
+    ap no (none_stops (list (one d)) (lengths_passed d, (bed_passed c.before.before, (off_passed, tt))))
 
 pub refusal_spec : {M : Type 1} → statement M
 refusal_spec =

@@ -23,17 +23,16 @@ within x m h f = of_each (λ k. UpTo fullest (get_or x k (pos 0))) (b_up _ f.e0 
 -- number m of x, which is to be stored
 module _ (s : tie.Start) where
   abbrev number : ℤ
-  number = get_or s.args.t5 s.args.m (pos 0)
+  number = get_or s.args.x s.args.m (pos 0)
 
   fits : mag number < 2 ^ 31
-  fits = omega (arith, mag_abs number, (within s.args.t5 s.args.m s.requires.1 s.requires.4).abs)
+  fits = omega (arith, mag_abs number, (within s.args.x s.args.m s.requires.1 s.requires.4).abs)
 
 overflow_cast-next : tie.Need-overflow_cast-next
 overflow_cast-next c = narrows (number c.before) (fits c.before)
 
 returns : tie.Need-returns
-returns c = let s = c.before.before in
-    ap₂ (λ (j : ℕ) (v : ℤ). set s.args.next.now j v) c.index.ensures.0 (narrowed {z = number s} (fits s))
+returns c = ap₂ (λ (j : ℕ) (v : ℤ). set c.args.next.now j v) c.index.ensures.0 (narrowed {z = number c.before.before} (fits c.before.before))
 
 pub put_spec : {M : Type 1} → statement M
 put_spec =

@@ -40,18 +40,17 @@ overflow_sub-f c = need (env c.before.before.before) change tt
 
 slope_change-requires : tie.Need-slope_change-requires
 slope_change-requires c κs =
-    let s = c.before.before.before in
-    rw (value (env s) change tt) (change_size s, s.requires.1.1)
+    rw (value (env c.before.before.before) change tt) (change_size c.before.before.before, c.requires.1.1)
 
 -- what the first call gave
 abbrev start : tie.After-slope_change → tie.Start
 start c = c.before.before.before.before
 
 changed : (c : tie.After-slope_change)
-    → c.slope_change.result-1 ≡ slope_of (ideal (env (start c)) change) (start c).args.reach.dx (start c).args.call.dt
+    → c.slope_change.result ≡ slope_of (ideal (env (start c)) change) (start c).args.reach.dx (start c).args.call.dt
 changed c = let s = start c in rw (value (env s) change tt) at c.slope_change.ensures
 
-changed_size : (c : tie.After-slope_change) → UpTo most_turn c.slope_change.result-1
+changed_size : (c : tie.After-slope_change) → UpTo most_turn c.slope_change.result
 changed_size c = subst (UpTo most_turn) (sym (changed c)) (slope_size _ _ _ (change_size (start c)) (start c).requires.1.1.dt_in)
 
 overflow_sub-result : tie.Need-overflow_sub-result
@@ -64,10 +63,10 @@ thrust_of-requires c κs =
 
 -- what the second gave
 moved : (c : tie.After-thrust_of) → let s = start c.before in
-    c.thrust_of.result-1 ≡ thrust s.args.d s.args.reach.dx s.args.call.dt
+    c.thrust_of.result ≡ thrust s.args.d s.args.reach.dx s.args.call.dt
 moved c = let s = start c.before in rw (to_z-of_z s.ranges.d) at c.thrust_of.ensures
 
-moved_size : (c : tie.After-thrust_of) → UpTo most_thrust c.thrust_of.result-1
+moved_size : (c : tie.After-thrust_of) → UpTo most_thrust c.thrust_of.result
 moved_size c =
     let s = start c.before in
     subst (UpTo most_thrust) (sym (moved c)) (thrust_size _ _ _ s.requires.0.2 s.requires.1.1.dx_pos s.requires.1.1.dt_in)
@@ -80,7 +79,7 @@ overflow_sub-result-2 c = need (after c) (v 0 ⊝ v 1 ⊝ v 2) tt
 
 returns : tie.Need-returns
 returns c =
-    value (after c) (v 0 ⊝ v 1 ⊝ v 2) tt ∙ (λ j. get_or (start c.before).args.t1 3 (pos 0) -ℤ changed c.before j -ℤ moved c j)
+    value (after c) (v 0 ⊝ v 1 ⊝ v 2) tt ∙ (λ j. get_or (start c.before).args.x 3 (pos 0) -ℤ changed c.before j -ℤ moved c j)
 
 pub flow_slope_spec : {M : Type 1} → statement M
 flow_slope_spec =

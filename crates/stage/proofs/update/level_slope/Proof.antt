@@ -45,18 +45,17 @@ overflow_sub-f c = need (env c.before.before.before.before) change tt
 
 slope_change-requires : tie.Need-slope_change-requires
 slope_change-requires c κs =
-    let s = c.before.before.before.before in
-    rw (value (env s) change tt) (change_size s, s.requires.1.1)
+    rw (value (env c.before.before.before.before) change tt) (change_size c.before.before.before.before, c.requires.1.1)
 
 -- what the call gave
 abbrev start : tie.After-slope_change → tie.Start
 start c = c.before.before.before.before.before
 
 changed : (c : tie.After-slope_change)
-    → c.slope_change.result-1 ≡ slope_of (ideal (env (start c)) change) (start c).args.reach.dx (start c).args.call.dt
+    → c.slope_change.result ≡ slope_of (ideal (env (start c)) change) (start c).args.reach.dx (start c).args.call.dt
 changed c = let s = start c in rw (value (env s) change tt) at c.slope_change.ensures
 
-changed_size : (c : tie.After-slope_change) → UpTo most_turn c.slope_change.result-1
+changed_size : (c : tie.After-slope_change) → UpTo most_turn c.slope_change.result
 changed_size c = subst (UpTo most_turn) (sym (changed c)) (slope_size _ _ _ (change_size (start c)) (start c).requires.1.1.dt_in)
 
 abbrev after : tie.After-slope_change → List Entry
@@ -66,7 +65,7 @@ overflow_sub-result : tie.Need-overflow_sub-result
 overflow_sub-result c = need (after c) (v 0 ⊝ v 1) tt
 
 returns : tie.Need-returns
-returns c = value (after c) (v 0 ⊝ v 1) tt ∙ ap (λ (z : ℤ). get_or (start c).args.t1 1 (pos 0) -ℤ z) (changed c)
+returns c = value (after c) (v 0 ⊝ v 1) tt ∙ ap (λ (z : ℤ). get_or (start c).args.x 1 (pos 0) -ℤ z) (changed c)
 
 pub level_slope_spec : {M : Type 1} → statement M
 level_slope_spec =

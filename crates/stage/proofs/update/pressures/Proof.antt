@@ -20,10 +20,10 @@ depths-h-requires : tie.Need-depths-h-requires
 depths-h-requires c κs = (c.requires.0.ground, (cell_sizes c.requires.0).wide)
 
 overflow_cast-zl : tie.Need-overflow_cast-zl
-overflow_cast-zl c = widens c.before.before.before.before.before.args.b.zl c.struct_told-1.given.0.1
+overflow_cast-zl c = widens c.args.b.zl c.struct_told-1.given.0.1
 
 overflow_cast-zr : tie.Need-overflow_cast-zr
-overflow_cast-zr c = widens c.before.before.before.before.before.before.before.args.b.zr c.struct_told-2-1.given.1.0.1
+overflow_cast-zr c = widens c.args.b.zr c.struct_told-2-1.given.1.0.1
 
 -- ---- the six numbers as they are read
 module _ (c : tie.After-kr-1) where
@@ -40,10 +40,10 @@ module _ (c : tie.After-kr-1) where
   i = d.before
 
   mean : rd (get_or d.depths-h.result 0 (pos 0)) ≡ h0 (bed_in i.args.b) (as_cell i.args.x)
-  mean = back bed_left.before.before.before.m-1.given ∙ (λ j. get_or (d.depths-h.ensures j) 0 (pos 0))
+  mean = back bed_left.m-1.given ∙ (λ j. get_or (d.depths-h.ensures j) 0 (pos 0))
 
   slope : rd (get_or d.depths-h.result 1 (pos 0)) ≡ h1 (bed_in i.args.b) (as_cell i.args.x)
-  slope = back bed_left.before.before.s-1.given ∙ (λ j. get_or (d.depths-h.ensures j) 1 (pos 0))
+  slope = back bed_left.s-1.given ∙ (λ j. get_or (d.depths-h.ensures j) 1 (pos 0))
 
   zl : rd (to_z w32 (of_z w32 i.args.b.zl)) ≡ i.args.b.zl
   zl = widened bed_left.struct_told-1.given.0.1
@@ -51,10 +51,10 @@ module _ (c : tie.After-kr-1) where
   zr : rd (to_z w32 (of_z w32 i.args.b.zr)) ≡ i.args.b.zr
   zr = widened bed_right.struct_told-2-1.given.1.0.1
 
-  kl : rd (pressure_of i.args.t3) ≡ pressure_of i.args.t3
-  kl = back c.before.kl-1.given
+  kl : rd (pressure_of i.args.x) ≡ pressure_of i.args.x
+  kl = back c.kl-1.given
 
-  kr : rd (pressure_of i.args.t4) ≡ pressure_of i.args.t4
+  kr : rd (pressure_of i.args.x) ≡ pressure_of i.args.x
   kr = back c.kr-1.given
 
 push_of-requires : tie.Need-push_of-requires
@@ -62,9 +62,8 @@ push_of-requires c κs = let p = (i c).requires in rw (mean c, slope c, zl c, zr
 
 returns : tie.Need-returns
 returns c =
-    let p = c.before in let r = p.before in
-    let e = back64 p.push_of.type_inv (p.push_of.ensures ∙ (λ j. push_of (mean r j) (slope r j) (zl r j) (zr r j) (kl r j) (kr r j))) in
-    let t = back64 c.tilt_of.type_inv (c.tilt_of.ensures ∙ (λ j. tilt_of (mean r j) (slope r j) (zl r j) (zr r j) (kl r j) (kr r j))) in
+    let e = back64 c.push_of.type_inv (c.push_of.ensures ∙ (λ j. push_of (mean c.before.before j) (slope c.before.before j) (zl c.before.before j) (zr c.before.before j) (kl c.before.before j) (kr c.before.before j))) in
+    let t = back64 c.tilt_of.type_inv (c.tilt_of.ensures ∙ (λ j. tilt_of (mean c.before.before j) (slope c.before.before j) (zl c.before.before j) (zr c.before.before j) (kl c.before.before j) (kr c.before.before j))) in
     λ j. e j ∷ t j ∷ []
 
 pub pressures_spec : {M : Type 1} → statement M

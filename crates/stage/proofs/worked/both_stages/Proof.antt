@@ -7,8 +7,7 @@ use Rattle.stage.proofs.worked.both_stages.Tie as tie
 
 stage_one-k-requires : tie.Need-stage_one-k-requires
 stage_one-k-requires c κs =
-    let s = c.before.before.before.before in
-    (s.requires.0, ((omega arith, omega arith, omega arith, omega arith, omega arith), s.requires.1.1.1))
+    (c.requires.0, ((omega arith, omega arith, omega arith, omega arith, omega arith), c.requires.1.1.1))
 
 module _ (w : tie.After-stage_one-k) where
   abbrev start : tie.Start
@@ -19,25 +18,22 @@ module _ (e : tie.Else-k-ne0) where
   went = e.before.before.before.before.before.before
 
 returns-then-k-ne0 : tie.Need-returns-then-k-ne0
-returns-then-k-ne0 c ρ v shows = let w = c.before.before.before.before.before.before in
-    both_stop v (w.stage_one-k.ensures.half ρ v shows) c.if-k-ne0.true
+returns-then-k-ne0 c ρ v shows = both_stop v (c.stage_one-k.ensures.half ρ v shows) c.if-k-ne0.true
 
 stage_two-requires : tie.Need-stage_two-requires
 stage_two-requires c κs =
-    let e = c.before.before.before.before.before in let one = (went e).stage_one-k.ensures in let s = start (went e) in (
+    let one = (went c.before.before.before.before).stage_one-k.ensures in let s = start (went c.before.before.before.before) in (
       s.requires.0,
       (
         (omega arith, omega arith, omega arith, omega arith),
-        ((omega arith, omega arith), ((s.requires.1.1.1, one.ranged e.if-k-ne0.false), one.sized e.if-k-ne0.false)),
+        ((omega arith, omega arith), ((s.requires.1.1.1, one.ranged c.if-k-ne0.false), one.sized c.if-k-ne0.false)),
       ),
     )
 
 returns : tie.Need-returns
 returns c ρ v shows =
-    let t = c.before.before.before.before in
-    let e = t.before.before.before.before.before.before in
-    let half = (went e).stage_one-k.ensures.half ρ v shows in let z = e.if-k-ne0.false in
-    both_end v half z (t.stage_two.ensures ρ v shows (half.done z).faces (one_shown v half z))
+    let half = (went c.before.before.before.before.before.before.before.before.before).stage_one-k.ensures.half ρ v shows in let z = c.if-k-ne0.false in
+    both_end v half z (c.stage_two.ensures ρ v shows (half.done z).faces (one_shown v half z))
 
 pub both_stages_spec : {M : Type 1} → statement M
 both_stages_spec =

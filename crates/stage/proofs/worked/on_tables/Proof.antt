@@ -17,13 +17,13 @@ use Rattle.stage.proofs.worked.on_tables.Tie as tie
 -- ---- the lent state, loaded and checked
 module _ (w : tie.After-ready-k) where
   abbrev loaded : tie.After-load
-  loaded = w.before.before.before
+  loaded = w.before.before
 
   abbrev s : tie.Start
   s = loaded.before.before.before
 
   lent : let p = s.args in
-      Loaded p.reach p.call p.bed.now p.friction.now p.state.now loaded.load.last.1.1.0
+      Loaded p.reach p.call p.bed.now p.friction.now p.state.now loaded.load.new.t
       (found_in w.ready-k.result)
   lent = record { cells = loaded.load.ensures.cells.below; found = w.ready-k.ensures }
 
@@ -32,13 +32,12 @@ returns-then-k-ne0 c = ready_stops (lent c.before.before) c.if-k-ne0.true _
 
 ready-k-requires : tie.Need-ready-k-requires
 ready-k-requires c κs =
-    let l = c.before.before in let b = l.before.before.before in
-    ((omega arith, b.requires.0.0.beds, b.requires.0.3), (l.load.ensures.wide, b.requires.0.0.numbers.dry))
+    ((omega arith, c.requires.0.0.beds, c.requires.0.3), (c.load.ensures.wide, c.requires.0.0.numbers.dry))
 
 rub-requires : tie.Need-rub-requires
-rub-requires c κs = let e = c.before in let w = e.before.before in let b = s w in (
+rub-requires c κs = let b = s c.before.before.before in (
   (omega arith, omega arith),
-  (b.requires.0.0.numbers, (loaded_ranged (lent w) e.if-k-ne0.false, loaded_slow (lent w) e.if-k-ne0.false)),
+  (b.requires.0.0.numbers, (loaded_ranged (lent c.before.before.before) c.if-k-ne0.false, loaded_slow (lent c.before.before.before) c.if-k-ne0.false)),
 )
 
 -- ---- after friction
@@ -51,14 +50,14 @@ module _ (t : tie.After-rub) where
 
 both_stages-m-requires : tie.Need-both_stages-m-requires
 both_stages-m-requires c κs =
-    let t = c.before.before.before.before.before.before.before in let w = checked t in
+    let w = checked c.before.before.before.before.before.before in
     let b = s w in let given = b.requires.0.0.numbers in (
       b.requires.0.0,
       (
         (omega arith, omega arith, omega arith, omega arith),
         (
           (omega arith, omega arith),
-          rubbed_ranged (lent w) (passed t).if-k-ne0.false t.rub.ensures given.dt_pos given.dry.least,
+          rubbed_ranged (lent w) (passed c.before.before.before.before.before.before).if-k-ne0.false c.rub.ensures given.dt_pos given.dry.least,
         ),
       ),
     )
@@ -66,7 +65,7 @@ both_stages-m-requires c κs =
 -- ---- both stages
 module _ (m : tie.After-both_stages-m) where
   abbrev rubbed : tie.After-rub
-  rubbed = m.before.before.before.before.before.before.before.before
+  rubbed = m.before.before.before.before.before.before.before
 
   abbrev start : tie.Start
   start = s (checked rubbed)
@@ -87,12 +86,12 @@ module _ (m : tie.After-both_stages-m) where
   -- of the tables that both stages are lent, those of the faces and of the end state
   both : let tables = m.both_stages-m.last.1.1.1 in let faces = tables.1.1 in let end = faces.1.1.1 in
       StepSays reach call state (found_in m.both_stages-m.result) faces.0 faces.1.0 end.0
-  both = m.both_stages-m.ensures rough state (rubbed_shown (lent (checked rubbed)) (passed rubbed).if-k-ne0.left rubbed.rub.ensures)
+  both = m.both_stages-m.ensures rough state (rubbed_shown (lent (checked rubbed)) (passed rubbed).if-k-ne0.false rubbed.rub.ensures)
 
 returns-then-m-ne0 : tie.Need-returns-then-m-ne0
 returns-then-m-ne0 c =
-    let m = c.before.before.before.before.before.before.before in let t = rubbed m in
-    both_stops (lent (checked t)) (passed t).if-k-ne0.left (start m).requires.0.0.some (both m) c.if-m-ne0.true _
+    let t = rubbed c.before.before.before.before.before.before.before in
+    both_stops (lent (checked t)) (passed t).if-k-ne0.false (start c.before.before.before.before.before.before.before).requires.0.0.some (both c.before.before.before.before.before.before.before) c.if-m-ne0.true _
 
 -- ---- what is stored
 module _ (e : tie.Else-m-ne0) where
@@ -100,42 +99,42 @@ module _ (e : tie.Else-m-ne0) where
   made = e.before.before.before.before.before.before.before
 
 store-requires : tie.Need-store-requires
-store-requires c κs = let e = c.before.before in let m = made e in let t = rubbed m in let o = (start m).requires.0 in (
-  omega (arith, m.both_stages-m.kept, (start m).requires.1.0),
+store-requires c κs = let m = made c.before in let t = rubbed m in let o = (start m).requires.0 in (
+  omega (arith, m.both_stages-m.auto, (start m).requires.1.0),
   o.0.most,
   o.2,
-  both_fits (lent (checked t)) (passed t).if-k-ne0.left o.0.some (both m) e.if-m-ne0.false,
+  both_fits (lent (checked t)) (passed t).if-k-ne0.false o.0.some (both m) c.if-m-ne0.false,
 )
 
 end_volume-requires : tie.Need-end_volume-requires
 end_volume-requires c κs =
-    let e = c.before.before.before.before.before.before in let m = made e in let d = (both m).done e.if-m-ne0.false in (
-      (omega (arith, m.both_stages-m.kept, (start m).requires.1.1), omega (arith, m.both_stages-m.kept, (start m).requires.1.1)),
+    let m = made c.before.before.before in let d = (both m).done c.if-m-ne0.false in (
+      (omega (arith, m.both_stages-m.auto, (start m).requires.1.1), omega (arith, m.both_stages-m.auto, (start m).requires.1.1)),
       (d.one.sized 0 (omega arith), d.two.sized 0 (omega arith)),
     )
 
 end_volume-requires-2 : tie.Need-end_volume-requires-2
 end_volume-requires-2 c κs =
-    let e = c.before.before.before.before.before.before.before.before.before in let m = made e in
-    let n = (start m).args.reach.n in let d = (both m).done e.if-m-ne0.false in (
-      (omega (arith, m.both_stages-m.kept, (start m).requires.1.1), omega (arith, m.both_stages-m.kept, (start m).requires.1.1)),
+    let m = made c.before.before.before.before in
+    let n = (start m).args.reach.n in let d = (both m).done c.if-m-ne0.false in (
+      (omega (arith, m.both_stages-m.auto, (start m).requires.1.1), omega (arith, m.both_stages-m.auto, (start m).requires.1.1)),
       (d.one.sized n (omega arith), d.two.sized n (omega arith)),
     )
 
 -- ---- the end
 module _ (c : tie.After-end_volume-2) where
   abbrev stored : tie.After-store
-  stored = c.before.before.before.before.before.before.before
+  stored = c.before.before.before
 
   abbrev last : tie.Else-m-ne0
-  last = stored.before.before.before
+  last = stored.before.before
 
 returns : tie.Need-returns
 returns c =
-    let v = c.before.before.before in let e = last c in let m = made e in let t = rubbed m in
-    both_done (lent (checked t)) (passed t).if-k-ne0.left (start m).requires.0.0.some (both m) e.if-m-ne0.left (start m).args.next.now
+    let e = last c in let m = made e in let t = rubbed m in
+    both_done (lent (checked t)) (passed t).if-k-ne0.false (start m).requires.0.0.some (both m) e.if-m-ne0.false (start m).args.next.now
     (stored c).store.ensures
-    (back64 v.end_volume.type_inv v.end_volume.ensures) (back64 c.end_volume-2.type_inv c.end_volume-2.ensures)
+    (back64 c.end_volume.type_inv c.end_volume.ensures) (back64 c.end_volume-2.type_inv c.end_volume-2.ensures)
 
 pub on_tables_spec : {M : Type 1} → statement M
 on_tables_spec =
@@ -153,10 +152,10 @@ on_tables_spec =
     end_volume-requires
     end_volume-requires-2
     (λ c. search (rules, (stored c).store.auto))
-    (λ c. search (rules, (loaded (checked (rubbed (made (last c))))).load.kept, (rubbed (made (last c))).rub.kept))
-    (λ c. search (rules, (made (last c)).both_stages-m.kept))
-    (λ c. search (rules, (made (last c)).both_stages-m.kept))
-    (λ c. search (rules, (made (last c)).both_stages-m.kept))
-    (λ c. search (rules, (made (last c)).both_stages-m.kept))
-    (λ c. search (rules, (made (last c)).both_stages-m.kept))
+    (λ c. search (rules, (loaded (checked (rubbed (made (last c))))).load.auto, (rubbed (made (last c))).rub.auto))
+    (λ c. search (rules, (made (last c)).both_stages-m.auto))
+    (λ c. search (rules, (made (last c)).both_stages-m.auto))
+    (λ c. search (rules, (made (last c)).both_stages-m.auto))
+    (λ c. search (rules, (made (last c)).both_stages-m.auto))
+    (λ c. search (rules, (made (last c)).both_stages-m.auto))
     returns)

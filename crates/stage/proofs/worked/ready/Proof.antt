@@ -52,17 +52,17 @@ module _ (c : tie.Else-f-n) where
   rough_passed = passes (check_at (list (one two)) 1) _ (rough_test c.before) c.if-f-n.false
 
 returns-then-z-n : tie.Need-returns-then-z-n
-returns-then-z-n c = let s = c.before.before.before in stops_at (list s) 0 _ tt (bed_test c.before) (omega (arith, c.if-z-n.true))
+returns-then-z-n c = stops_at (list c.before.before.before) 0 _ tt (bed_test c.before) (omega (arith, c.if-z-n.true))
 
 returns-then-f-n : tie.Need-returns-then-f-n
-returns-then-f-n c = let e = c.before.before in stops_at (list (one e)) 1 _ (bed_passed e, tt) (rough_test c.before) c.if-f-n.true
+returns-then-f-n c = stops_at (list (one c.before.before)) 1 _ (bed_passed c.before.before, tt) (rough_test c.before) c.if-f-n.true
 
 off-i-requires : tie.Need-off-i-requires
 off-i-requires c κs = let s = one (two c) in (s.requires.0.0, λ i l. record { ground = ground (two c) i l; wide = s.requires.1.0 i l })
 
 returns-then-i-n : tie.Need-returns-then-i-n
-returns-then-i-n c = let e = c.before.before in let d = two e in
-    stops_at (list (one d)) 2 _ (bed_passed d, (rough_passed e, tt)) c.before.off-i.ensures c.if-i-n.true
+returns-then-i-n c = let d = two c.before.before in
+    stops_at (list (one d)) 2 _ (bed_passed d, (rough_passed c.before.before, tt)) c.off-i.ensures c.if-i-n.true
 
 -- ---- in range
 module _ (c : tie.Else-i-n) where
@@ -70,25 +70,25 @@ module _ (c : tie.Else-i-n) where
   three = c.before.before
 
   range_passed : let s = one (two three) in applies (check_at (list s) 2) ≡ false
-  range_passed = let s = one (two three) in passes (check_at (list s) 2) _ c.before.off-i.ensures c.if-i-n.false
+  range_passed = let s = one (two three) in passes (check_at (list s) 2) _ c.off-i.ensures c.if-i-n.false
 
 fast-j-requires : tie.Need-fast-j-requires
 fast-j-requires c κs = let d = two (three c) in let s = one d in
     (s.requires.0.0, (ranged s.args.reach.n s.args.bed.now (seen s.args.t.now) (ground d) (range_passed c), s.requires.1.1))
 
 returns-then-j-n : tie.Need-returns-then-j-n
-returns-then-j-n c = let g = c.before.before in let e = three g in let d = two e in
-    stops_at (list (one d)) 3 _ (bed_passed d, (rough_passed e, (range_passed g, tt))) c.before.fast-j.ensures c.if-j-n.true
+returns-then-j-n c = let e = three c.before.before in let d = two e in
+    stops_at (list (one d)) 3 _ (bed_passed d, (rough_passed e, (range_passed c.before.before, tt))) c.fast-j.ensures c.if-j-n.true
 
 returns : tie.Need-returns
-returns c = let g = c.before.before in let e = three g in let d = two e in let s = one d in
+returns c = let e = three c.before.before in let d = two e in let s = one d in
     none_stops (list s) (
       bed_passed d,
       (
         rough_passed e,
         (
-          range_passed g,
-          (passes (check_at (list s) 3) _ c.before.fast-j.ensures c.if-j-n.false, tt),
+          range_passed c.before.before,
+          (passes (check_at (list s) 3) _ c.fast-j.ensures c.if-j-n.false, tt),
         ),
       ),
     )

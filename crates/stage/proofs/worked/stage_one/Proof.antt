@@ -10,8 +10,8 @@ use Rattle.stage.proofs.worked.stage_one.Tie as tie
 
 stage-k-requires : tie.Need-stage-k-requires
 stage-k-requires c κs =
-    let s = c.before.before.before in let order = s.requires.0 in
-    ((order.some, order.most, omega arith, omega arith), ((omega arith, omega arith), (order.numbers, s.requires.1.1)))
+    let order = c.requires.0 in
+    ((order.some, order.most, omega arith, omega arith), ((omega arith, omega arith), (order.numbers, c.requires.1.1)))
 
 module _ (w : tie.After-stage-k) where
   abbrev start : tie.Start
@@ -23,33 +23,31 @@ module _ (e : tie.Else-k-ne0) where
 
 returns-then-k-ne0 : tie.Need-returns-then-k-ne0
 returns-then-k-ne0 c =
-    let w = c.before.before.before.before.before in let s = start w in let a = s.args in record {
-      half = λ ρ v shows. half_stops s.requires.0.some a.a.now shows (w.stage-k.ensures ρ) c.if-k-ne0.true;
+    let s = start c.before.before.before.before.before in let a = s.args in record {
+      half = λ ρ v shows. half_stops s.requires.0.some a.a.now shows (c.stage-k.ensures ρ) c.if-k-ne0.true;
       sized = λ z. absurd (c.if-k-ne0.true z);
       ranged = λ z. absurd (c.if-k-ne0.true z);
     }
 
 end-requires : tie.Need-end-requires
 end-requires c κs =
-    let e = c.before.before in let s = start (went e) in (
+    let s = start (went c.before) in (
       (s.requires.0.most, s.requires.0.beds, omega arith, omega arith),
-      (s.requires.0.numbers, ((λ i l. (s.requires.1.1 i l).ground), done_small (((went e).stage-k.ensures (λ i. pos 0)).done e.if-k-ne0.false))),
+      (s.requires.0.numbers, ((λ i l. (s.requires.1.1 i l).ground), done_small (((went c.before).stage-k.ensures (λ i. pos 0)).done c.if-k-ne0.false))),
     )
 
 returns : tie.Need-returns
 returns c =
-    let n = c.before in
-    let e = n.before.before.before in
-    let w = went e in
+    let w = went c.before.before.before in
     let s = start w in
     let a = s.args in
     let o = s.requires.0.some in
     record {
       half = λ ρ v shows. let says = w.stage-k.ensures ρ in
-          half_ends o a.a.now shows says e.if-k-ne0.false
-          (one_state o v a.a.now shows (says.done e.if-k-ne0.false)) (n.end.ensures ρ);
-      sized = λ z. ((w.stage-k.ensures (λ i. pos 0)).done e.if-k-ne0.false).faces.sized;
-      ranged = λ z. end_ranged a.reach a.call a.bed.now (λ i. pos 0) (n.end.ensures (λ i. pos 0)) z
+          half_ends o a.a.now shows says c.if-k-ne0.false
+          (one_state o v a.a.now shows (says.done c.if-k-ne0.false)) (c.end.ensures ρ);
+      sized = λ z. ((w.stage-k.ensures (λ i. pos 0)).done c.if-k-ne0.false).faces.sized;
+      ranged = λ z. end_ranged a.reach a.call a.bed.now (λ i. pos 0) (c.end.ensures (λ i. pos 0)) z
           (λ i l. (s.requires.1.1 i l).ground);
     }
 

@@ -9,12 +9,12 @@ use Rattle.stage.proofs.worked.stage_two.Tie as tie
 
 stage-k-requires : tie.Need-stage-k-requires
 stage-k-requires c κs =
-    let s = c.before.before.before.before in let order = s.requires.0 in let ranged = s.requires.1.1.1 in
+    let order = c.requires.0 in let ranged = c.requires.1.1.1 in
     ((order.some, order.most, omega arith, omega arith), ((omega arith, omega arith), (order.numbers, ranged.0.1)))
 
 module _ (w : tie.After-stage-k) where
   abbrev start : tie.Start
-  start = w.before.before.before.before.before
+  start = w.before.before.before.before
 
 module _ (e : tie.Else-k-ne0) where
   abbrev went : tie.After-stage-k
@@ -25,12 +25,12 @@ module _ (e : tie.Else-k-ne0) where
 
 returns-then-k-ne0 : tie.Need-returns-then-k-ne0
 returns-then-k-ne0 c ρ v shows faces one =
-    let w = c.before.before.before.before.before in let s = start w in let a = s.args in
-    half_stops s.requires.0.some a.b-1.now one (w.stage-k.ensures ρ) c.if-k-ne0.true
+    let s = start c.before.before.before.before.before in let a = s.args in
+    half_stops s.requires.0.some a.b-1.now one (c.stage-k.ensures ρ) c.if-k-ne0.true
 
 join-requires : tie.Need-join-requires
 join-requires c κs =
-    let e = c.before.before in let s = begun e in let done = ((went e).stage-k.ensures (λ i. pos 0)).done e.if-k-ne0.false in
+    let s = begun c.before in let done = ((went c.before).stage-k.ensures (λ i. pos 0)).done c.if-k-ne0.false in
     let given = s.requires.1.1.1 in (
       (omega arith, omega arith, omega arith, omega arith),
       (
@@ -41,31 +41,28 @@ join-requires c κs =
 
 end-requires : tie.Need-end-requires
 end-requires c κs =
-    let j = c.before.before.before in let e = j.before.before.before in let s = begun e in
-    let done = ((went e).stage-k.ensures (λ i. pos 0)).done e.if-k-ne0.false in let given = s.requires.1.1.1 in (
+    let s = begun c.before.before.before.before in
+    let done = ((went c.before.before.before.before).stage-k.ensures (λ i. pos 0)).done c.if-k-ne0.false in let given = s.requires.1.1.1 in (
       (s.requires.0.most, s.requires.0.beds, omega arith, omega arith),
       (
         s.requires.0.numbers,
         (
           (λ i l. (given.0.0 i l).ground),
-          join_small s.args.bed.now j.join.ensures given.0.0 (done_small done) given.1 done.faces.sized,
+          join_small s.args.bed.now c.join.ensures given.0.0 (done_small done) given.1 done.faces.sized,
         ),
       ),
     )
 
 returns : tie.Need-returns
 returns c ρ v shows faces one =
-    let n = c.before in
-    let j = n.before.before.before.before in
-    let e = j.before.before.before in
-    let w = went e in
+    let w = went c.before.before.before.before.before.before in
     let s = start w in
     let a = s.args in
     let o = s.requires.0.some in
     let says = w.stage-k.ensures ρ in
-    half_ends o a.b-1.now one says e.if-k-ne0.false
-    (two_state o v a.a.now shows a.b-1.now one faces (says.done e.if-k-ne0.false) j.join.ensures)
-    (n.end.ensures ρ)
+    half_ends o a.b-1.now one says c.if-k-ne0.false
+    (two_state o v a.a.now shows a.b-1.now one faces (says.done c.if-k-ne0.false) c.join.ensures)
+    (c.end.ensures ρ)
 
 pub stage_two_spec : {M : Type 1} → statement M
 stage_two_spec =

@@ -39,15 +39,15 @@ module _ (c : tie.Else-bad_lengths) where
   s = c.before.before.before
 
   lengths : misfit (states s) (room s) (beds s) (n s) ≡ false
-  lengths = sym c.before.bad_lengths.ensures ∙ c.if-bad_lengths.false
+  lengths = sym c.bad_lengths.ensures ∙ c.if-bad_lengths.false
 
   fits : Fitted (states s) (room s) (beds s) (n s)
   fits = fitted (states s) (room s) (beds s) (n s) lengths
 
 returns-then-bad_lengths : tie.Need-returns-then-bad_lengths
-returns-then-bad_lengths c = let b = c.before.before.before in let p = b.args in record {
-  found = length_found p.state.now (room b) p.bed.now p.friction.now p.given
-      (sym c.before.bad_lengths.ensures ∙ c.if-bad_lengths.true);
+returns-then-bad_lengths c = let p = c.args in record {
+  found = length_found p.state.now (room c.before.before.before) p.bed.now p.friction.now p.given
+      (sym c.bad_lengths.ensures ∙ c.if-bad_lengths.true);
   some = omega arith;
   kept = refl;
 }
@@ -70,16 +70,16 @@ module _ (c : tie.After-bad_numbers) where
   fit = w1.before
 
   dx_is : rd w1.widened.result ≡ pos (s fit).args.given.dx
-  dx_is = back64 w1.widened.ok w1.widened.ensures
+  dx_is = back64 w1.widened.type_inv w1.widened.ensures
 
   dt_is : rd w2.widened-2.result ≡ pos (s fit).args.given.dt
-  dt_is = back64 w2.widened-2.ok w2.widened-2.ensures
+  dt_is = back64 w2.widened-2.type_inv w2.widened-2.ensures
 
   jump_is : rd w3.widened-3.result ≡ pos (s fit).args.given.jump
-  jump_is = back64 w3.widened-3.ok w3.widened-3.ensures
+  jump_is = back64 w3.widened-3.type_inv w3.widened-3.ensures
 
   dry_is : rd w4.widened-4.result ≡ pos (s fit).args.given.dry
-  dry_is = back64 w4.widened-4.ok w4.widened-4.ensures
+  dry_is = back64 w4.widened-4.type_inv w4.widened-4.ensures
 
   abbrev rough : ℕ → ℤ
   rough i = pos (get_or (s fit).args.friction.now i 0)
@@ -89,9 +89,9 @@ module _ (c : tie.After-bad_numbers) where
   judged = simp (dx_is, dt_is, jump_is, dry_is) at (c.bad_numbers.ensures (s fit).args.bed.now rough)
 
 returns-then-bad_numbers : tie.Need-returns-then-bad_numbers
-returns-then-bad_numbers c = let m = c.before in let e = fit m in let p = (s e).args in record {
+returns-then-bad_numbers c = let e = fit c.before in let p = (s e).args in record {
   found = call_found p.state.now (room (s e)) p.bed.now p.friction.now p.given
-      (lengths e) (sym (judged m) ∙ c.if-bad_numbers.true);
+      (lengths e) (sym (judged c.before) ∙ c.if-bad_numbers.true);
   some = omega arith;
   kept = refl;
 }
@@ -109,15 +109,15 @@ module _ (e : tie.Else-bad_numbers) where
         dt = rd (w2 m).widened-2.result;
         jump = rd (w3 m).widened-3.result;
         dry = rd (w4 m).widened-4.result;
-        left = start.args.given.left-1;
-        right = start.args.given.right-1;
+        left = start.args.given.left;
+        right = start.args.given.right;
       })
       start.args.bed.now
   in_order = let f = fits (fit m) in let bed = start.args.bed.now in record {
     some = f.some;
     most = f.most;
     beds = f.beds;
-    numbers = numbers _ _ bed (rough m) (sym (m.bad_numbers.ensures bed (rough m)) ∙ e.if-bad_numbers.left-1);
+    numbers = numbers _ _ bed (rough m) (sym (m.bad_numbers.ensures bed (rough m)) ∙ e.if-bad_numbers.false);
   }
 
   abbrev lent : Lent
@@ -128,21 +128,21 @@ module _ (e : tie.Else-bad_numbers) where
       ++ both_checks (reach_of lent) (call_of lent) (state_of lent))
   later = let p = start.args in
       later_checks p.state.now (room start) p.bed.now p.friction.now p.given
-      (lengths (fit m)) (sym (judged m) ∙ e.if-bad_numbers.left-1)
+      (lengths (fit m)) (sym (judged m) ∙ e.if-bad_numbers.false)
 
 short_step-requires : tie.Need-short_step-requires
-short_step-requires c κs = let e = c.before.before in let f = fits (fit (m e)) in (in_order e, f.now, f.next-1, refl)
+short_step-requires c κs = let f = fits (fit (m c.before.before)) in (in_order c.before.before, f.now, f.next-1, refl)
 
 returns-then-n-le-SHORT_CELLS : tie.Need-returns-then-n-le-SHORT_CELLS
-returns-then-n-le-SHORT_CELLS c = let e = c.before.before.before.before in let w = m e in
-    rw (later e) (simp (dx_is w, dt_is w, jump_is w, dry_is w) at c.before.short_step.ensures)
+returns-then-n-le-SHORT_CELLS c = let w = m c.before.before.before.before in
+    rw (later c.before.before.before.before) (simp (dx_is w, dt_is w, jump_is w, dry_is w) at c.short_step.ensures)
 
 long_step-requires : tie.Need-long_step-requires
-long_step-requires c κs = let e = c.before.before in let f = fits (fit (m e)) in (in_order e, f.now, f.next-1, refl)
+long_step-requires c κs = let f = fits (fit (m c.before.before)) in (in_order c.before.before, f.now, f.next-1, refl)
 
 returns : tie.Need-returns
-returns c = let e = c.before.before.before.before in let w = m e in
-    rw (later e) (simp (dx_is w, dt_is w, jump_is w, dry_is w) at c.before.long_step.ensures)
+returns c = let w = m c.before.before.before.before in
+    rw (later c.before.before.before.before) (simp (dx_is w, dt_is w, jump_is w, dry_is w) at c.long_step.ensures)
 
 pub work_spec : {M : Type 1} → statement M
 work_spec =
