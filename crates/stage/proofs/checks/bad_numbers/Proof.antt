@@ -63,7 +63,7 @@ returns-then-outside-2 c bed ρ = rw (length_in c.before.before.before, step_tes
 returns-then-outside-3 : tie.Need-returns-then-outside-3
 unfolding bad_call any
 returns-then-outside-3 c bed ρ =
-    rw (length_in (first c.before.before.before), step_in c.before.before.before, jump_test c ∙ c.if-outside-3.true)
+    rw (length_in (first c.before.before.before), step_in c.before.before.before, jump_test c.before ∙ c.if-outside-3.true)
 
 returns-then-bad_dry : tie.Need-returns-then-bad_dry
 unfolding bad_call any

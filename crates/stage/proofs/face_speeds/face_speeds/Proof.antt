@@ -31,7 +31,7 @@ module _ (w : tie.After-sides-i) where
 
   -- their table
   abbrev d : List (List ℤ)
-  d = let tables = w.sides-i.last.1.1.1 in tables.1.0
+  d = w.sides-i.new.d
 
   filled : let a = start.args in
       FillSays [] a.reach.n (fast_sides a.call.dry bed state) (sides_at a.call.dry bed state) w.sides-i.result d

@@ -33,11 +33,11 @@ rows : (s : tie.Start invariant-loop decreases-loop) (i : ℕ) → i < suc s.arg
 rows s i h = (s.requires.1.1.0 i h, s.requires.1.1.1 i h)
 
 end_volume-wl-requires : tie.Need-end_volume-wl-requires invariant-loop decreases-loop
-end_volume-wl-requires c κs = ((omega arith, omega arith), rows c c.loop-i.i (omega arith))
+end_volume-wl-requires c κs = ((omega arith, omega arith), rows c.before.before c.loop-i.i (omega arith))
 
 end_volume-wr-requires : tie.Need-end_volume-wr-requires invariant-loop decreases-loop
 end_volume-wr-requires c κs =
-    ((omega arith, omega arith), rows c (c.loop-i.i + 1) (omega arith))
+    ((omega arith, omega arith), rows c.before.before.before (c.loop-i.i + 1) (omega arith))
 
 -- ---- what a turn reads: the volumes of its two faces, and its cell
 module _ (c : tie.After-joined_cell-arg-in-loop-i-1 invariant-loop decreases-loop) where

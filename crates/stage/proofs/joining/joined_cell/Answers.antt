@@ -21,7 +21,7 @@ unfolding joined_cell
 returns c =
     let m2 = c.before in let m1 = m2.before in let m0 = m1.before in let s = m0.before.before in
     let p = back64 m0.end_level-e0.type_inv (simp (
-      back {z = (as_cell s.args.t1).e0} m0.end_level-arg-1.given,
+      back {z = (as_cell s.args.x).e0} m0.end_level-arg-1.given,
       to_z-of_z s.ranges.wl,
       to_z-of_z s.ranges.wr,
     ) at m0.end_level-e0.ensures) in

@@ -66,7 +66,7 @@ loop-i-preserved c =
     (momentum c.before) (fast c.before ∙ c.if-either_fast.false)
 
 returns : tie.Need-returns invariant-loop decreases-loop
-returns c = let l = c.loop-i in fill_ends (pos 0) _ _ _ _ l.g-1 l.i (omega arith) l.invariant
+returns c = let l = c.loop-i in fill_ends (pos 0) _ _ _ _ l.g l.i (omega arith) l.invariant
 
 pub points_spec : {M : Type 1} → statement M
 points_spec =

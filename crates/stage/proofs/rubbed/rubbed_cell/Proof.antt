@@ -86,11 +86,11 @@ returns-then-h-call : tie.Need-returns-then-h-call
 returns-then-h-call c =
     let s = begun c.before in let x = cell s in let p = s.args in
     let left : rubbed_cell p.call.dt (dry s) p.f (bed s) x ≡ x = ⊎_elim
-    (λ w. rubbed_dry p.call.dt (dry s) p.f (bed s) x (test_is c.before ∙ w.taken))
-    (λ w. rubbed_calm p.call.dt (dry s) p.f (bed s) x (calm_is x (sym w.1.ensures ∙ w.2.taken)))
-    c.then-h-call.branch in
-    let good = s.good.1.1.1 in let size = good.0.1 in
-    of_four p.t4 size.0.1 ∙ sym (ap as_list left)
+    (λ w. rubbed_dry p.call.dt (dry s) p.f (bed s) x (test_is c.before ∙ w.if-h-call.true))
+    (λ w. rubbed_calm p.call.dt (dry s) p.f (bed s) x (calm_is x (sym w.calm.ensures ∙ w.if-calm.true)))
+    c.then-h-call.branch-raw in
+    let good = s.well_formed.1.1.1 in let size = good.0.1 in
+    of_four p.x size.0.1 ∙ sym (ap as_list left)
 
 -- ---- water that moves
 abbrev start : tie.Else-h-call → tie.Start
@@ -100,7 +100,7 @@ abbrev deep : tie.Else-calm → tie.Else-h-call
 deep c = c.before.before
 
 wet : (c : tie.Else-h-call) → let s = start c in shallow (dry s) (bed s) (cell s) ≡ false
-wet c = test_is c.before ∙ c.then-h-call.false
+wet c = test_is c.before ∙ c.if-h-call.false
 
 low : (c : tie.Else-h-call) → let s = start c in least_dry <ℤ h0 (bed s) (cell s)
 low c = let s = start c in le_lt_trans (dry_in s).least (le_no (h0 (bed s) (cell s)) (dry s) (wet c))

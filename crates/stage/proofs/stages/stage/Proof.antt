@@ -28,7 +28,7 @@ module _ (w : tie.After-face_speeds-fast) where
 
   -- the table of the sides, which is to hold the unfinished state
   abbrev d : List (List ℤ)
-  d = let tables = w.face_speeds-fast.last.1.1.1 in tables.1.0
+  d = w.face_speeds-fast.new.d
 
   room : Room start.args.reach d
   room = omega arith
@@ -71,7 +71,7 @@ module _ (e : tie.Else-cell-n) where
   shown = d (worked first)
 
   abbrev g : List ℤ
-  g = let tables = pointed.points-cell.last.1.1.1 in tables.1.0
+  g = pointed.points-cell.new.g
 
   slowed : let a = begun.args in Slowed a.reach a.call a.bed.now (state begun) shown
   slowed = let a = begun.args in record {
@@ -90,7 +90,7 @@ faces-long-requires : tie.Need-faces-long-requires
 faces-long-requires c κs =
     let p = slowed c.before in let s = begun c.before in (
       (s.requires.0.0, room (worked (first c.before)), omega arith),
-      (s.requires.1.1.0, (sides_sound p.faces-long s.requires.1.1.1, p.faces-long.slow_ends)),
+      (s.requires.1.1.0, (sides_sound p.faces s.requires.1.1.1, p.faces.slow_ends)),
     )
 
 -- ---- the faces
@@ -109,7 +109,7 @@ module _ (t : tie.Else-long-n) where
 
   -- the table of the faces
   abbrev f : List (List ℤ)
-  f = let tables = faced.faces-long.last.1.1.1 in tables.0
+  f = faced.faces-long.new.f
 
   rows : let a = (begun passed).args in Written [] f (suc a.reach.n) (face_row_at a.reach a.call (shown passed))
   rows = let a = (begun passed).args in

@@ -24,11 +24,11 @@ pub loop-i-preserved : goal.loop-i-preserved
 loop-i-preserved c =
     let b = c.before in let l = b.loop-i in let s = b.before.before.before.before.before in
     let n = s.args.n in let y = seen s.args.y.now in
-    let e : b.put_cell.new.0 ≡ put_cell n l.next-1 l.i (y l.i) = b.put_cell.ensures in (
+    let e : b.put_cell.new.next ≡ put_cell n l.next l.i (y l.i) = b.put_cell.ensures in (
       omega arith,
-      ap length e ∙ length_put_cell n l.next-1 l.i (y l.i) ∙ l.invariant.1,
+      ap length e ∙ length_put_cell n l.next l.i (y l.i) ∙ l.invariant.1,
       subst (λ (t : List ℤ). Stores n (columns_of y) t (l.i + 1)) (sym e)
-          (cells_more n y l.next-1 l.i (omega arith) l.invariant.1 l.invariant.2),
+          (cells_more n y l.next l.i (omega arith) l.invariant.1 l.invariant.2),
     )
 
 pub shape_of-next : goal.shape_of-next
@@ -38,4 +38,4 @@ pub returns : goal.returns
 returns c =
     let l = c.loop-i in
     let s = c.before.before in
-    cells_all s.args.n (seen s.args.y.now) l.next-1 l.invariant.1 (λ m k h b. l.invariant.2 m k h (omega arith))
+    cells_all s.args.n (seen s.args.y.now) l.next l.invariant.1 (λ m k h b. l.invariant.2 m k h (omega arith))

@@ -51,10 +51,10 @@ module _ (c : tie.After-kr-1) where
   zr : rd (to_z w32 (of_z w32 i.args.b.zr)) ≡ i.args.b.zr
   zr = widened bed_right.struct_told-2-1.given.1.0.1
 
-  kl : rd (pressure_of i.args.x) ≡ pressure_of i.args.x
+  kl : rd (pressure_of i.args.l) ≡ pressure_of i.args.l
   kl = back c.kl-1.given
 
-  kr : rd (pressure_of i.args.x) ≡ pressure_of i.args.x
+  kr : rd (pressure_of i.args.f) ≡ pressure_of i.args.f
   kr = back c.kr-1.given
 
 push_of-requires : tie.Need-push_of-requires

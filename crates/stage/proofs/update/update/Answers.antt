@@ -22,8 +22,8 @@ updated-requires c =
     let s = l.before in
     let a = s.args in
     let i = l.loop-i.i in
-    let given = s.requires.1.1 in let rows = given.0 in let g = given.1.0 i e.loop-i-test.true in
-    rw (to_z-of_z (fit g tt), b.under.ensures) record { inside = s.requires.ranged i e.loop-i-test.true; row = (rows i (omega arith), rows (i + 1) (omega arith)); up_to = g; numbers = given.1.1 }
+    let given = s.requires in let rows = given.face_rows in let g = given.momenta i e.loop-i-test.true in
+    rw (to_z-of_z (fit g tt), b.under.ensures) record { inside = s.requires.ranged i e.loop-i-test.true; row = (rows i (omega arith), rows (i + 1) (omega arith)); up_to = g; numbers = given.numbers }
 
 -- what was written of this cell
 written : (c : goal.After-updated) →
@@ -37,8 +37,8 @@ written c =
     let a = s.args in
     let i = l.loop-i.i in
     let next : i + 1 ≡ suc i = omega arith in
-    let given = s.requires.1.1 in
-    (rw (to_z-of_z (fit (given.1.0 i e.loop-i-test.true) tt)) at c.updated.ensures)
+    let given = s.requires in
+    (rw (to_z-of_z (fit (given.momenta i e.loop-i-test.true) tt)) at c.updated.ensures)
     ∙ (λ j. as_list (update_by a.reach.dx a.call.dt (b.under.ensures j) (seen a.t.now i) (get_or a.f.now i [])
     (get_or a.f.now (next j) []) (get_or a.g.now i (pos 0))))
 

@@ -8,24 +8,24 @@ use Rattle.stage.specs.Rows.{slope_of, thrust, update_by}
 use Rattle.stage.proofs.update.updated.Goals as goal
 
 pub level_mean-e0-requires : goal.level_mean-e0-requires
-level_mean-e0-requires c = let p = c.requires in record { up_to = (cell_sizes p.0).e0; row = p.1.0 }
+level_mean-e0-requires c = let p = c.requires in record { up_to = (cell_sizes p.inside).e0; row = p.row }
 
 pub level_slope-e1-requires : goal.level_slope-e1-requires
 level_slope-e1-requires c =
-    let s = c.before.before in let p = s.requires in let q = cell_sizes p.0 in
-    record { up_to = (q.e1, q.q0); row = p.1.0; numbers = p.1.1.1 }
+    let s = c.before.before in let p = s.requires in let q = cell_sizes p.inside in
+    record { up_to = (q.e1, q.q0); row = p.row; numbers = p.numbers }
 
 pub flow_mean-q0-requires : goal.flow_mean-q0-requires
 flow_mean-q0-requires c =
     let h = c.before.before.before in let s = h.before in let p = s.requires in
     rw (back c.flow_mean-arg-1.given, h.pressures-p.ensures)
-    record { up_to = ((cell_sizes p.0).q0, push_size (pressed p.0 p.1.0.0.K p.1.0.1.K)); row = p.1.0; numbers = p.1.1.1 }
+    record { up_to = ((cell_sizes p.inside).q0, push_size (pressed p.inside p.row.0.K p.row.1.K)); row = p.row; numbers = p.numbers }
 
 pub flow_slope-q1-requires : goal.flow_slope-q1-requires
 flow_slope-q1-requires c =
     let h = c.before.before.before.before.before in let s = h.before in let p = s.requires in
     rw (to_z-of_z s.ranges.g, back c.flow_slope-arg-1.given, h.pressures-p.ensures)
-    record { up_to = ((cell_sizes p.0).q1, p.1.1.0, tilt_size (pressed p.0 p.1.0.0.K p.1.0.1.K)); row = p.1.0; numbers = p.1.1.1 }
+    record { up_to = ((cell_sizes p.inside).q1, p.up_to, tilt_size (pressed p.inside p.row.0.K p.row.1.K)); row = p.row; numbers = p.numbers }
 
 pub returns : goal.returns
 unfolding update_by slope_of thrust

@@ -84,8 +84,7 @@ module _ (m : tie.After-both_stages-m) where
   state = cell_in start.args.reach.n start.args.state.now
 
   -- of the tables that both stages are lent, those of the faces and of the end state
-  both : let tables = m.both_stages-m.last.1.1.1 in let faces = tables.1.1 in let end = faces.1.1.1 in
-      StepSays reach call state (found_in m.both_stages-m.result) faces.0 faces.1.0 end.0
+  both : let tables = m.both_stages-m.new in StepSays reach call state (found_in m.both_stages-m.result) tables.f tables.h tables.b
   both = m.both_stages-m.ensures rough state (rubbed_shown (lent (checked rubbed)) (passed rubbed).if-k-ne0.false rubbed.rub.ensures)
 
 returns-then-m-ne0 : tie.Need-returns-then-m-ne0

@@ -26,7 +26,7 @@ module _ (e : tie.Else-k-ne0) where
 returns-then-k-ne0 : tie.Need-returns-then-k-ne0
 returns-then-k-ne0 c ρ v shows faces one =
     let s = start c.before.before.before.before.before in let a = s.args in
-    half_stops s.requires.0.some a.b-1.now one (c.stage-k.ensures ρ) c.if-k-ne0.true
+    half_stops s.requires.0.some a.b.now one (c.stage-k.ensures ρ) c.if-k-ne0.true
 
 join-requires : tie.Need-join-requires
 join-requires c κs =
@@ -60,8 +60,8 @@ returns c ρ v shows faces one =
     let a = s.args in
     let o = s.requires.0.some in
     let says = w.stage-k.ensures ρ in
-    half_ends o a.b-1.now one says c.if-k-ne0.false
-    (two_state o v a.a.now shows a.b-1.now one faces (says.done c.if-k-ne0.false) c.join.ensures)
+    half_ends o a.b.now one says c.if-k-ne0.false
+    (two_state o v a.a.now shows a.b.now one faces (says.done c.if-k-ne0.false) c.join.ensures)
     (c.end.ensures ρ)
 
 pub stage_two_spec : {M : Type 1} → statement M

@@ -131,14 +131,14 @@ module _ (e : tie.Else-bad_numbers) where
       (lengths (fit m)) (sym (judged m) ∙ e.if-bad_numbers.false)
 
 short_step-requires : tie.Need-short_step-requires
-short_step-requires c κs = let f = fits (fit (m c.before.before)) in (in_order c.before.before, f.now, f.next-1, refl)
+short_step-requires c κs = let f = fits (fit (m c.before.before)) in (in_order c.before.before, f.now, f.next, refl)
 
 returns-then-n-le-SHORT_CELLS : tie.Need-returns-then-n-le-SHORT_CELLS
 returns-then-n-le-SHORT_CELLS c = let w = m c.before.before.before.before in
     rw (later c.before.before.before.before) (simp (dx_is w, dt_is w, jump_is w, dry_is w) at c.short_step.ensures)
 
 long_step-requires : tie.Need-long_step-requires
-long_step-requires c κs = let f = fits (fit (m c.before.before)) in (in_order c.before.before, f.now, f.next-1, refl)
+long_step-requires c κs = let f = fits (fit (m c.before.before)) in (in_order c.before.before, f.now, f.next, refl)
 
 returns : tie.Need-returns
 returns c = let w = m c.before.before.before.before in
