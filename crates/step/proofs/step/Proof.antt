@@ -18,16 +18,14 @@ module _ (w : tie.After-work) where
 
 returns-in-Refused : tie.Need-returns-in-Refused
 returns-in-Refused c =
-    let told = c.before.k-1.given in let w = c.before.before.before.before in
-    worked_none (call w) w.work.result (s w).args.next.now _ w.work.ensures told.0.0 told.0.1.0 told.1
+    let told = c.k-1.given in worked_none (call c.before.before) c.work.result (s c.before.before).args.next.now _ c.work.ensures told.0.0 told.0.1.0 told.1
 
 returns-in-Done : tie.Need-returns-in-Done
 returns-in-Done c =
-    let told = c.before.w-1.given in let w = c.before.before.before.before in
-    let p = told.0.0 in let q = told.0.1.0 in
-    let v = worked_volumes (call w) w.work.result (s w).args.next.now _ w.work.ensures p q told.1 in
+    let told = c.w-1.given in let p = told.0.0 in let q = told.0.1.0 in
+    let v = worked_volumes (call c.before.before) c.work.result (s c.before.before).args.next.now _ c.work.ensures p q told.1 in
     rw (to_z-of_z (fit v.0 tt), to_z-of_z (fit v.1 tt))
-    (worked_done (call w) w.work.result (s w).args.next.now _ w.work.ensures p q told.1)
+    (worked_done (call c.before.before) c.work.result (s c.before.before).args.next.now _ c.work.ensures p q told.1)
 
 pub step_spec : {M : Type 1} → statement M
 step_spec =
