@@ -6,4 +6,3 @@ pub mod Parts
 pub mod E6
 pub mod E4
 pub mod E3
-pub mod Laws

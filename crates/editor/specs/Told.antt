@@ -8,9 +8,9 @@ use Rattle.rules.specs.Face.{Flux}
 use Rattle.rules.specs.Refusals.{verdict, spot}
 use Rattle.rules.specs.Lent.{Lent, cells_of, number, place, filled, crossed, Outcome, refused, accepted, outcome, step_of}
 use Rattle.rules.specs.Sums.{misfit_sums, Making, Question, unanswered, answered, keeping_of, sums_after}
-use Rattle.rules.specs.Laws.Within.{place_most}
+use Rattle.rules.proofs.Laws.Within.{place_most}
 use Rattle.sill_rules.specs.Lent as sills
-use Rattle.sill_rules.specs.Laws.Within as sill-places
+use Rattle.sill_rules.proofs.Laws.Within as sill-places
 use Rattle.reach.specs.declared.Given.{Given}
 use Rattle.speeds.specs.Given.{Perhaps}
 use Rattle.speeds.specs.Given as given

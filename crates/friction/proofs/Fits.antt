@@ -13,7 +13,7 @@ use Rattle.whole.specs.Tests.{le_yes, lt_yes, yes_le, yes_lt}
 use Rattle.rules.specs.Limits.{longest_step, roughest, least_dry, deepest, fullest, fastest}
 use Rattle.rules.specs.Friction.{drag, slowed}
 use Rattle.rules.specs.Refusals.{outside, past}
-use Rattle.rules.specs.Laws.Inside.{above_least, below_most, not_outside}
+use Rattle.rules.proofs.Laws.Inside.{above_least, below_most, not_outside}
 use Rattle.reach.specs.Ranges.{UpTo}
 use Rattle.speeds.specs.Given.{given}
 use Rattle.speeds.proofs.Fits.{in_discharge}

@@ -9,7 +9,7 @@ use Rattle.whole.specs.Quotient.{b_quot_ge}
 use Rattle.whole.specs.Choice.{size_z, b_size}
 use Rattle.rules.specs.Limits.{least_dry, deepest, fullest, fastest, roughest, longest_step}
 use Rattle.rules.specs.Friction.{cube, drag}
-use Rattle.rules.specs.Laws.Speeds.{cube_least}
+use Rattle.rules.proofs.Laws.Speeds.{cube_least}
 use Rattle.reach.specs.Ranges.{UpTo}
 use Rattle.friction.specs.Given.{strongest}
 

@@ -10,9 +10,9 @@ use Rattle.whole.specs.Flags.{by}
 use Rattle.rules.specs.Refusals.{Check, verdict, spot, Clear}
 use Rattle.rules.specs.Lent.{Outcome, outcome}
 use Rattle.rules.specs.Found.{Found, at}
-use Rattle.rules.specs.Laws.Verdicts.{cleared, none_stops}
-use Rattle.rules.specs.Laws.Outcome.{accepts, refuses}
-use Rattle.rules.specs.Laws.Within.{Within, spot_within, one_only, spot_whole}
+use Rattle.rules.proofs.Laws.Verdicts.{cleared, none_stops}
+use Rattle.rules.proofs.Laws.Outcome.{accepts, refuses}
+use Rattle.rules.proofs.Laws.Within.{Within, spot_within, one_only, spot_whole}
 use Rattle.reach.specs.Gives.{code, placed, volumes, absent, both, Gives, answer, leaves}
 use Rattle.reach.specs.declared.answer.Answer.{Answer}
 use Rattle.reach.specs.declared.answer.Answer.TheVariants.{Refused, Accepted}

@@ -4,26 +4,27 @@
 use Rattle.std.specs.Prelude.{◌≡◌, true, false, List, ℕ, ◌*◌, ◌<◌, length, ℤ, ◌<ℤ◌}
 use Rattle.std.proofs.Common.{sym, ◌∙◌, ap}
 use Rattle.std.proofs.Math.Path.{subst}
-use Rattle.tables.specs.Cells.{table_of, cell_in, cell_in_table}
+use Rattle.tables.specs.Cells.{table_of, cell_in}
+use Rattle.tables.proofs.Cells.{cell_in_table}
 use Rattle.rules.specs.Reach.{Reach, Call, State, under, z0, z1, h0, h1, hl, hr}
 use Rattle.rules.specs.Finishing.{spared, cut, dried, finish}
-use Rattle.rules.specs.Laws.Limiter.{spared_finish}
+use Rattle.rules.proofs.Laws.Limiter.{spared_finish}
 use Rattle.before.specs.E2 as before-E2
-use Rattle.before.specs.Laws.E2.{unspared_finish, deep_finish}
+use Rattle.before.proofs.Laws.E2.{unspared_finish, deep_finish}
 use Rattle.before.specs.E3 as before-E3
-use Rattle.before.specs.Laws.E3.{given_four}
+use Rattle.before.proofs.Laws.E3.{given_four}
 use Rattle.before.specs.E4 as before-E4
 use Rattle.before.specs.E4.{with_no_inflow}
-use Rattle.before.specs.Laws.E4.{no_inflow}
+use Rattle.before.proofs.Laws.E4.{no_inflow}
 use Rattle.before.specs.E6 as before-E6
-use Rattle.before.specs.Laws.E6 as laws-E6
-use Rattle.before.specs.Laws.E6.{none_short_one, none_short_two, uncorrected}
+use Rattle.before.proofs.Laws.E6 as laws-E6
+use Rattle.before.proofs.Laws.E6.{none_short_one, none_short_two, uncorrected}
 use Rattle.before.specs.E13 as before-E13
 use Rattle.before.specs.E13.{unplaced}
-use Rattle.before.specs.Laws.E13.{without_place}
+use Rattle.before.proofs.Laws.E13.{without_place}
 use Rattle.before.specs.E7 as before-E7
 use Rattle.before.specs.E7.{ColumnsOfOne, lent_in_columns, lent_in_cells, given_in_columns}
-use Rattle.before.specs.Laws.E7.{of_one, in_columns, from_cells}
+use Rattle.before.proofs.Laws.E7.{of_one, in_columns, from_cells}
 use Rattle.rules.specs.Step.{rubbed}
 use Rattle.rules.specs.Refusals.{Clear}
 use Rattle.rules.specs.Lent.{Lent, cells_of, reach_of, call_of, step_of}

@@ -3,10 +3,11 @@
 use Rattle.std.specs.Prelude.{◌≡◌, Bool, true, false, cond, List, [], ◌∷◌, ◌⊎◌, ℕ, ◌<◌, T, ltb}
 use Rattle.std.proofs.Common.{sym, ap, subst, inl, inr, arith, ne_eqb, ltb→lt}
 use Rattle.whole.specs.Flags.{by, held}
-use Rattle.tables.specs.Some.{IsLowest, lowest_is, is_lowest, yes_some}
+use Rattle.tables.specs.Some.{IsLowest}
+use Rattle.tables.proofs.Some.{lowest_is, is_lowest, yes_some}
 use Rattle.rules.specs.Refusals.{Check, applies, lowest_of, verdict, spot}
 use Rattle.rules.specs.Found.{Found, at, found}
-use Rattle.rules.specs.Laws.Accept.{other}
+use Rattle.rules.proofs.Laws.Accept.{other}
 use Rattle.promises.specs.Seen.{FirstMet, here, later, FirstMetAt, here_at, later_at}
 
 -- the verdict is that number,

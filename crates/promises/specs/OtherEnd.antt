@@ -11,15 +11,16 @@ use Rattle.whole.specs.Difference.{at, lit, nlit, ⊖, le!, le?, lt?, neg_add}
 use Rattle.whole.specs.Tests.{lt_yes, lt_no}
 use Rattle.whole.specs.Choice.{antisym}
 use Rattle.tables.specs.Columns.{in_column}
-use Rattle.tables.specs.Cells.{Cell, cell_in, length_table, table_each}
+use Rattle.tables.specs.Cells.{Cell, cell_in}
+use Rattle.tables.proofs.Cells.{length_table, table_each}
 use Rattle.rules.specs.Refusals.{early, off}
 use Rattle.rules.specs.Lent.{Lent, Outcome, cells_of, reach_of, call_of, state_of, number, step_of}
-use Rattle.rules.specs.Laws.Verdicts.{clear_at}
-use Rattle.rules.specs.Laws.Order as order
-use Rattle.rules.specs.Laws.Lengths.{fits, unrefused, accepts}
-use Rattle.rules.specs.Laws.Runs.{accepted_early}
+use Rattle.rules.proofs.Laws.Verdicts.{clear_at}
+use Rattle.rules.proofs.Laws.Order as order
+use Rattle.rules.proofs.Laws.Lengths.{fits, unrefused, accepts}
+use Rattle.rules.proofs.Laws.Runs.{accepted_early}
 use Rattle.survey.specs.Turned.{turned_cell, turned_table, turned_call}
-use Rattle.survey.specs.Laws.Lent.{number_turned, filled_turned, left_volume, right_volume}
+use Rattle.survey.proofs.Laws.Lent.{number_turned, filled_turned, left_volume, right_volume}
 use Rattle.stage.specs.Ranges.{Ranged}
 use Rattle.stage.specs.Laws.LentChecks.{grounds, ranged}
 use Rattle.stage.specs.Laws.CellSizes.{cell_sizes}

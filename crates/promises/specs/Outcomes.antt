@@ -11,7 +11,8 @@ use Rattle.std.proofs.Math.IntN.{pos}
 use Rattle.whole.specs.Flags.{by}
 use Rattle.whole.specs.Parts.{le_of}
 use Rattle.whole.specs.Choice.{size_z}
-use Rattle.tables.specs.Cells.{Cell, cell_in, table_of, length_table, cell_in_table, table_is, table_cells}
+use Rattle.tables.specs.Cells.{Cell, cell_in, table_of}
+use Rattle.tables.proofs.Cells.{length_table, cell_in_table, table_is, table_cells}
 use Rattle.rules.specs.Face.{face}
 use Rattle.rules.specs.Reach.{Reach, Call, State, under, bed_at, z0, z1, h0, h1, hl, hr}
 use Rattle.rules.specs.Step.{stage_one, carry, joined, next}
@@ -23,23 +24,24 @@ use Rattle.rules.specs.Lent.{Lent, reach_of, call_of, state_of, cells_of, misfit
 use Rattle.rules.specs.Lent.{Outcome, refused, accepted, outcome, step_of}
 use Rattle.rules.specs.AtRest.{Dry, Flat, AtRest}
 use Rattle.rules.specs.Laws.Agree.{Same}
-use Rattle.rules.specs.Laws.DryDepth.{finished_calm}
-use Rattle.rules.specs.Laws.Accept.{passed}
+use Rattle.rules.proofs.Laws.DryDepth.{finished_calm}
+use Rattle.rules.proofs.Laws.Accept.{passed}
 use Rattle.rules.specs.Found.{Found, found, found_of}
-use Rattle.rules.specs.Laws.Verdicts.{went_past}
-use Rattle.rules.specs.Laws.StillChecks.{input, worked, two_parts, seven_alone}
-use Rattle.rules.specs.Laws.Lengths.{fitted, first_number, later_number, fits, unrefused}
-use Rattle.rules.specs.Laws.Written.{written_in_range}
-use Rattle.rules.specs.Laws.Within.{Within, checks_within, one_only}
-use Rattle.rules.specs.Laws.Positive.{Nonneg, Wet, wet_same}
-use Rattle.rules.specs.Laws.Telescope.{sum}
-use Rattle.rules.specs.Laws.Balance as balance
-use Rattle.rules.specs.Laws.Face.{lawful}
-use Rattle.rules.specs.Laws.EndChecks.{kind_in, inflow_in, inflow_only}
-use Rattle.rules.specs.Laws.EndVolumes.{left_shut, left_brought, left_most}
-use Rattle.rules.specs.Laws.Runs.{accepted as accepted-call, accepted_ends, Depths, depths, accepted_depths, accepted_rest}
-use Rattle.rules.specs.Laws.Runs.{TooLarge, Large}
-use Rattle.rules.specs.Laws.Rest as rest
+use Rattle.rules.proofs.Laws.Verdicts.{went_past}
+use Rattle.rules.proofs.Laws.StillChecks.{input, worked, two_parts, seven_alone}
+use Rattle.rules.proofs.Laws.Lengths.{fitted, first_number, later_number, fits, unrefused}
+use Rattle.rules.proofs.Laws.Written.{written_in_range}
+use Rattle.rules.proofs.Laws.Within.{Within, checks_within, one_only}
+use Rattle.rules.proofs.Laws.Positive.{Nonneg, Wet, wet_same}
+use Rattle.rules.proofs.Laws.Telescope.{sum}
+use Rattle.rules.proofs.Laws.Balance as balance
+use Rattle.rules.proofs.Laws.Face.{lawful}
+use Rattle.rules.proofs.Laws.EndChecks.{kind_in, inflow_in, inflow_only}
+use Rattle.rules.proofs.Laws.EndVolumes.{left_shut, left_brought, left_most}
+use Rattle.rules.proofs.Laws.Runs.{accepted as accepted-call, accepted_ends, Depths, depths, accepted_depths, accepted_rest}
+use Rattle.rules.proofs.Laws.Runs.{TooLarge, Large}
+use Rattle.rules.proofs.Laws.Rest as rest
+use Rattle.rules.specs.Laws.Rest as rest-words
 use Rattle.rules.specs.Laws.Chain.{Chain, stop, step}
 use Rattle.step.specs.Gives.{code, placed, volumes, both, Gives}
 use Rattle.reach.specs.declared.answer.Answer.{Answer}
@@ -249,7 +251,7 @@ module _ (bed : List ℤ) (n dx : ℕ) (c : Call) (s m : List ℤ) (w v : ℤ) (
   one_written = none_below bed m dx n
       (depths reach (cell_in n m) (wet_same reach (next reach c (cell_in n s)) (cell_in n m) o.same reached.2.faces))
 
-  pub one_rests : rest.NoInflow c → Lake bed s n → (m ≡ s) × (w ≡ pos 0) × (v ≡ pos 0)
+  pub one_rests : rest-words.NoInflow c → Lake bed s n → (m ≡ s) × (w ≡ pos 0) × (v ≡ pos 0)
   one_rests shut lake =
       let z = accepted_rest reach lawful o.some c (cell_in n s) o.unstopped shut (at_rest bed s dx n lake) in (
         table_is n m (cell_in n s) o.size (λ i l. o.same i l ∙ z.0 i l) ∙ table_cells n s o.now,
@@ -263,7 +265,7 @@ module _ (bed : List ℤ) (n dx : ℕ) where
   AStep s m w v = (c : Call) × One bed n dx c s m w v
 
   abbrev pub ShutStep : List ℤ → List ℤ → ℤ → ℤ → Type 0
-  ShutStep s m w v = (c : Call) × (rest.NoInflow c) × One bed n dx c s m w v
+  ShutStep s m w v = (c : Call) × (rest-words.NoInflow c) × One bed n dx c s m w v
 
   pub chain : {s t : List ℤ} {a b : ℤ} → Calls bed n dx s t a b → Chain AStep s t a b
   chain (none t) = stop t

@@ -17,19 +17,20 @@ use Rattle.whole.specs.Flags.{clash}
 use Rattle.whole.specs.Parts.{abs_neg}
 use Rattle.whole.specs.Choice.{size_z}
 use Rattle.rules.specs.Face.{Side}
-use Rattle.tables.specs.Cells.{Cell, cell_in, table_of, cell_in_table}
+use Rattle.tables.specs.Cells.{Cell, cell_in, table_of}
+use Rattle.tables.proofs.Cells.{cell_in_table}
 use Rattle.rules.specs.Reach.{State}
-use Rattle.rules.specs.Laws.Lengths.{fitted}
+use Rattle.rules.proofs.Laws.Lengths.{fitted}
 use Rattle.rules.specs.Step.{stage_one, next}
 use Rattle.rules.specs.Refusals.{off, each, applies, Clear, stage_checks, early, checks}
 use Rattle.rules.specs.Lent.{Lent, cells_of, reach_of, call_of, state_of, misfits, place, filled, crossed, step_of}
 use Rattle.rules.specs.Found.{found_of}
-use Rattle.rules.specs.Laws.Chain.{chain_balanced, chain_keeps, chain_still}
-use Rattle.rules.specs.Laws.Face.{lawful}
-use Rattle.rules.specs.Laws.Runs.{reached_one, reached_end, Large, eight}
+use Rattle.rules.proofs.Laws.Chain.{chain_balanced, chain_keeps, chain_still}
+use Rattle.rules.proofs.Laws.Face.{lawful}
+use Rattle.rules.proofs.Laws.Runs.{reached_one, reached_end, Large, eight}
 use Rattle.survey.specs.Turned.{turned_cell, turned_table, turned_call}
-use Rattle.survey.specs.Laws.Twice.{call_twice}
-use Rattle.survey.specs.Laws.Lent.{number_turned}
+use Rattle.survey.proofs.Laws.Twice.{call_twice}
+use Rattle.survey.proofs.Laws.Lent.{number_turned}
 use Rattle.speeds.specs.Given.{speed_given, wave_given, cube_given}
 use Rattle.friction.specs.Given.{strength_given, slowed_given}
 use Rattle.face.specs.Given.{face_given}

@@ -10,13 +10,13 @@ use Rattle.whole.specs.Flags.{clash}
 use Rattle.whole.specs.Choice.{size_z}
 use Rattle.tables.specs.Some.{IsLowest}
 use Rattle.rules.specs.Refusals.{each, applies, Clear}
-use Rattle.rules.specs.Laws.Chain.{chain_balanced, chain_keeps, chain_still}
-use Rattle.rules.specs.Laws.Face.{lawful}
+use Rattle.rules.proofs.Laws.Chain.{chain_balanced, chain_keeps, chain_still}
+use Rattle.rules.proofs.Laws.Face.{lawful}
 use Rattle.sill_rules.specs.Step.{next}
 use Rattle.sill_rules.specs.Refusals.{off, early, checks}
 use Rattle.sill_rules.specs.Lent.{Lent, cells_of, reach_of, call_of, state_of, all_checks, filled, crossed, step_of}
-use Rattle.sill_rules.specs.Laws.Within.{all_within}
-use Rattle.sill_rules.specs.Laws.Accepted.{reached_end, eight}
+use Rattle.sill_rules.proofs.Laws.Within.{all_within}
+use Rattle.sill_rules.proofs.Laws.Accepted.{reached_end, eight}
 use Rattle.reach.specs.Gives.{code, placed, volumes, absent, both, Gives, one_answer, one_table}
 use Rattle.reach.specs.declared.answer.Answer.{Answer}
 use Rattle.promises.specs.Seen.{FirstMet, FirstMetAt, most_passed}

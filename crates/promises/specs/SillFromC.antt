@@ -8,7 +8,7 @@ use Rattle.std.proofs.Common.{sym, ◌∙◌, subst}
 use Rattle.whole.specs.Choice.{size_z}
 use Rattle.tables.specs.Some.{IsLowest}
 use Rattle.rules.specs.Refusals.{applies, Clear}
-use Rattle.rules.specs.Laws.Chain.{chain_as}
+use Rattle.rules.proofs.Laws.Chain.{chain_as}
 use Rattle.sill_rules.specs.Lent.{Lent, cells_of, all_checks, filled, crossed, step_of}
 use Rattle.reach.specs.Gives.{placed, volumes, both, answer}
 use Rattle.reach.specs.declared.answer.Answer.{Answer}

@@ -12,34 +12,35 @@ use Rattle.std.proofs.Math.ListN.{length}
 use Rattle.whole.specs.Flags.{by, failed}
 use Rattle.whole.specs.Parts.{range_b}
 use Rattle.whole.specs.Choice.{size_z, b_size}
-use Rattle.tables.specs.Some.{some, IsLowest, some_same}
+use Rattle.tables.specs.Some.{some, IsLowest}
+use Rattle.tables.proofs.Some.{some_same}
 use Rattle.tables.specs.Pools.{Pool, pool_in, pool_table, length_pools, pool_in_table, pools_are, table_pools}
 use Rattle.rules.specs.Face.{face}
 use Rattle.rules.specs.Ends.{open_kind}
 use Rattle.rules.specs.Refusals.{bad_rough, Check, each, of_call, applies, verdict, Clear}
 use Rattle.rules.specs.Found.{Found, at, found}
-use Rattle.rules.specs.Laws.Accept.{none_at, passed}
-use Rattle.rules.specs.Laws.Verdicts.{clear_at, of_call_lem, none_stops, went_on, went_past}
-use Rattle.rules.specs.Laws.Within.{one_only}
-use Rattle.rules.specs.Laws.Face.{lawful}
-use Rattle.rules.specs.Laws.Telescope.{sum}
+use Rattle.rules.proofs.Laws.Accept.{none_at, passed}
+use Rattle.rules.proofs.Laws.Verdicts.{clear_at, of_call_lem, none_stops, went_on, went_past}
+use Rattle.rules.proofs.Laws.Within.{one_only}
+use Rattle.rules.proofs.Laws.Face.{lawful}
+use Rattle.rules.proofs.Laws.Telescope.{sum}
 use Rattle.sill_rules.specs.Reach as rules
 use Rattle.sill_rules.specs.Reach.{Reach, Call, State, higher, crest_left, crest_right, over}
 use Rattle.sill_rules.specs.Step.{rubbed, next, carry}
 use Rattle.sill_rules.specs.Refusals.{call_tests, bad_call, bad_bed, off_pool, off, fast_friction, fast_face, too_long, early, checks, refusal}
 use Rattle.sill_rules.specs.Lent.{Lent, cells_of, reach_of, call_of, state_of, misfits, all_checks, filled, crossed, step_of}
 use Rattle.sill_rules.specs.AtRest.{AtRest}
-use Rattle.sill_rules.specs.Laws.Order as order
-use Rattle.sill_rules.specs.Laws.Agree.{Same}
-use Rattle.sill_rules.specs.Laws.Lengths.{Fitted, fitted, first_found as misfit-found, later_found, fits, unrefused}
-use Rattle.sill_rules.specs.Laws.Positive.{Wet, wet_same}
-use Rattle.sill_rules.specs.Laws.Balance as balance
-use Rattle.sill_rules.specs.Laws.Dried.{dried_none}
-use Rattle.sill_rules.specs.Laws.Speeds.{slow_faces}
-use Rattle.sill_rules.specs.Laws.StillChecks.{input, seven_alone}
-use Rattle.sill_rules.specs.Laws.EndVolumes.{left_shut, right_shut, left_most, right_most}
-use Rattle.sill_rules.specs.Laws.Accepted.{fine, accepted as accepted-call, accepted_early, accepted_depths, accepted_rest}
-use Rattle.sill_rules.specs.Laws.Accepted.{TooLarge, Large}
+use Rattle.sill_rules.proofs.Laws.Order as order
+use Rattle.sill_rules.proofs.Laws.Agree.{Same}
+use Rattle.sill_rules.proofs.Laws.Lengths.{Fitted, fitted, first_found as misfit-found, later_found, fits, unrefused}
+use Rattle.sill_rules.proofs.Laws.Positive.{Wet, wet_same}
+use Rattle.sill_rules.proofs.Laws.Balance as balance
+use Rattle.sill_rules.proofs.Laws.Dried.{dried_none}
+use Rattle.sill_rules.proofs.Laws.Speeds.{slow_faces}
+use Rattle.sill_rules.proofs.Laws.StillChecks.{input, seven_alone}
+use Rattle.sill_rules.proofs.Laws.EndVolumes.{left_shut, right_shut, left_most, right_most}
+use Rattle.sill_rules.proofs.Laws.Accepted.{fine, accepted as accepted-call, accepted_early, accepted_depths, accepted_rest}
+use Rattle.sill_rules.proofs.Laws.Accepted.{TooLarge, Large}
 use Rattle.reach.specs.Gives.{Gives}
 use Rattle.reach.specs.declared.answer.Answer.{Answer}
 use Rattle.promises.specs.Seen.{FirstMetAt, total, most_passed}

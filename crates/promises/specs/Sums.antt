@@ -20,12 +20,12 @@ use Rattle.rules.specs.StateAndBed.{cells_over, depth_in, state_refusal}
 use Rattle.rules.specs.Sums.{blocks_of, sum_from, sums_of, misfit_sums, making_checks, making_refusal, Making, unmade, made, making_of}
 use Rattle.rules.specs.Sums.{Reading, reading, question_checks, Question, unanswered, answered, between_of}
 use Rattle.rules.specs.Sums.{keeping_of, sums_after}
-use Rattle.rules.specs.Laws.Lengths.{accepts}
-use Rattle.rules.specs.Laws.StateAndBed.{state_clear}
-use Rattle.rules.specs.Laws.Written.{written_passes}
-use Rattle.rules.specs.Laws.Sums.{length_sums, between_water as rules-water}
-use Rattle.rules.specs.Laws.Questions.{sums_misfit, sums_fit, as_many, making_first, making_later, disordered, all_answered}
-use Rattle.rules.specs.Laws.Questions.{making_verdict, by_number, question_verdict, by_refusal, unkept, kept_step}
+use Rattle.rules.proofs.Laws.Lengths.{accepts}
+use Rattle.rules.proofs.Laws.StateAndBed.{state_clear}
+use Rattle.rules.proofs.Laws.Written.{written_passes}
+use Rattle.rules.proofs.Laws.Sums.{length_sums, between_water as rules-water}
+use Rattle.rules.proofs.Laws.Questions.{sums_misfit, sums_fit, as_many, making_first, making_later, disordered, all_answered}
+use Rattle.rules.proofs.Laws.Questions.{making_verdict, by_number, question_verdict, by_refusal, unkept, kept_step}
 use Rattle.step.specs.Gives.{code, placed, Gives, answer, leaves}
 use Rattle.reach.specs.declared.answer.Answer.{Answer}
 use Rattle.sums.specs.Gives.{made_code, asked, question_code, made_answer, made_leaves, MakingGives, KeepingGives}

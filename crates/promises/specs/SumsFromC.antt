@@ -11,7 +11,7 @@ use Rattle.rules.specs.Lent.{Lent, cells_of, Outcome, step_of}
 use Rattle.rules.specs.StateAndBed.{cells_over}
 use Rattle.rules.specs.Sums.{blocks_of, sums_of, Making, making_of, making_checks, Reading, reading, Question, unanswered, answered, between_of}
 use Rattle.rules.specs.Sums.{question_checks, keeping_of}
-use Rattle.rules.specs.Laws.Questions.{sums_fit, kept_step}
+use Rattle.rules.proofs.Laws.Questions.{sums_fit, kept_step}
 use Rattle.step.specs.Gives.{code, volumes, both, answer}
 use Rattle.reach.specs.declared.answer.Answer.{Answer}
 use Rattle.sums.specs.Gives.{made_code, made_answer, MakingGives, asked, question_code, KeepingGives}

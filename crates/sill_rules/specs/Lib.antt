@@ -5,4 +5,3 @@ pub mod Refusals
 pub mod Lent
 pub mod AtRest
 pub mod Numbers
-pub mod Laws

@@ -13,7 +13,7 @@ use Rattle.rules.specs.Friction.{cube}
 use Rattle.rules.specs.Refusals.{outside, past, bad_dry}
 use Rattle.reach.specs.Ranges.{DryDepth}
 use Rattle.reach.specs.Laws.DryList.{in_list, not_bad}
-use Rattle.rules.specs.Laws.Inside.{above_least, below_most, not_outside}
+use Rattle.rules.proofs.Laws.Inside.{above_least, below_most, not_outside}
 use Rattle.speeds.specs.Given.{given, refused, depth_fits, discharge_fits, dry_fits, speed_given, wave_given, cube_given}
 use Rattle.speeds.specs.Answers.{value_of, same, never}
 use Rattle.speeds.specs.declared.answer.Whole.{Whole}

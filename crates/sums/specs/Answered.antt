@@ -8,11 +8,12 @@ use Rattle.whole.specs.Flags.{by}
 use Rattle.rules.specs.Lent.{Lent, cells_of, number, filled, Outcome, refused, accepted, step_of}
 use Rattle.rules.specs.StateAndBed.{cells_over}
 use Rattle.rules.specs.Sums.{sums_of, misfit_sums, Making, unmade, made, Reading, answered, between_of, keeping_of, sums_after}
-use Rattle.rules.specs.Laws.Lengths.{accepts, refuses}
-use Rattle.rules.specs.Laws.StateAndBed.{StateFits, state_fits, state_passed}
-use Rattle.rules.specs.Laws.Written.{cells_over_lem, written_passes}
-use Rattle.rules.specs.Laws.Questions.{as_many, answered_asked}
-use Rattle.rules.specs.Laws.Sums.{few_cells, few_blocks}
+use Rattle.rules.proofs.Laws.Lengths.{accepts, refuses}
+use Rattle.rules.specs.Laws.StateAndBed.{StateFits}
+use Rattle.rules.proofs.Laws.StateAndBed.{state_fits, state_passed}
+use Rattle.rules.proofs.Laws.Written.{cells_over_lem, written_passes}
+use Rattle.rules.proofs.Laws.Questions.{as_many, answered_asked}
+use Rattle.rules.proofs.Laws.Sums.{few_cells, few_blocks}
 use Rattle.step.specs.Gives.{Gives, answer, leaves}
 use Rattle.reach.specs.declared.answer.Answer.{Answer}
 use Rattle.reach.specs.declared.answer.Answer.TheVariants.{Refused, Accepted}

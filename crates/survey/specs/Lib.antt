@@ -1,3 +1,2 @@
 -- A reach surveyed from its other end; then that a call on it is answered alike from both.
 pub mod Turned
-pub mod Laws

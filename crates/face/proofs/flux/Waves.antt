@@ -13,7 +13,8 @@ use Rattle.whole.specs.Quotient.{b_quot_by}
 use Rattle.whole.specs.Choice.{b_size}
 use Rattle.whole.specs.Machine.{Entry, entry}
 use Rattle.rules.specs.Face.{Side, wave, u_star, a_star, left_wave, right_wave, top}
-use Rattle.rules.specs.Laws.Sizes.{Sound, wave_size, left_wave_size, right_wave_size}
+use Rattle.rules.specs.Laws.Sizes.{Sound}
+use Rattle.rules.proofs.Laws.Sizes.{wave_size, left_wave_size, right_wave_size}
 use Rattle.face.specs.Sides.{Speeds, Edges, u_star_of, a_star_of, left_of, right_of, top_of}
 
 pub left_is : (l r : Side) → left_of l.h l.u (wave l.h) r.u (wave r.h) ≡ left_wave l r

@@ -8,7 +8,8 @@ use Rattle.whole.specs.Parts.{Within, b_add, b_sub, b_neg, b_nonneg, b_range, ra
 use Rattle.whole.specs.Quotient.{b_quot_by}
 use Rattle.whole.specs.Choice.{min_z, max_z}
 use Rattle.whole.specs.Tests.{le_yes, le_no, lt_yes}
-use Rattle.tables.specs.Cells.{Cell, seen, of_each}
+use Rattle.tables.specs.Cells.{Cell, seen}
+use Rattle.tables.proofs.Cells.{of_each}
 use Rattle.rules.specs.Limits.{highest_bed}
 use Rattle.rules.specs.Reach.{Reach, Call, State, Bed, z0, z1, h0, h1}
 use Rattle.rules.specs.Finishing.{minmod, with_right, with_left, limited, is_limited, limit, clipped}

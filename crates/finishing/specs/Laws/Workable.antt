@@ -5,13 +5,13 @@ use borrow.Author.Tests.{eq-eqb, le-ltb, eqb-true, ltb-false}
 use Rattle.whole.specs.Flags.{or_l, or_r, not_f}
 use Rattle.whole.specs.Parts.{Within, b_nonneg, range_b}
 use Rattle.whole.specs.Choice.{not_beyond, within_past}
-use Rattle.tables.specs.Some.{some_none, none_some}
+use Rattle.tables.proofs.Some.{some_none, none_some}
 use Rattle.tables.specs.Cells.{Cell, seen}
 use Rattle.rules.specs.Limits.{most_cells, highest_bed, largest_jump}
 use Rattle.rules.specs.Reach.{Bed, bed_at}
 use Rattle.rules.specs.Refusals.{any, past}
-use Rattle.rules.specs.Laws.Accept.{none_at}
-use Rattle.rules.specs.Laws.Inside.{above_least, below_most, not_outside}
+use Rattle.rules.proofs.Laws.Accept.{none_at}
+use Rattle.rules.proofs.Laws.Inside.{above_least, below_most, not_outside}
 use Rattle.reach.specs.declared.Reach.{Reach}
 use Rattle.reach.specs.declared.Call.{Call}
 use Rattle.reach.specs.Ranges.{UpTo, widest, DryDepth, Unfinished, AllUnfinished}

@@ -3,7 +3,7 @@
 use Rattle.std.specs.Prelude.{◌≡◌, false, ℤ}
 use Rattle.rules.specs.Limits.{least_dry, most_dry}
 use Rattle.rules.specs.Refusals.{bad_dry}
-use Rattle.rules.specs.Laws.Inside.{above_least, below_most, not_outside}
+use Rattle.rules.proofs.Laws.Inside.{above_least, below_most, not_outside}
 use Rattle.reach.specs.Ranges.{DryDepth}
 
 pub in_list : (d : ℤ) → bad_dry d ≡ false → DryDepth d

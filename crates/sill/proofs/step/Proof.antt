@@ -8,7 +8,7 @@ use lib.IntN.{ℤ, pos}
 use Rattle.whole.specs.Machine.{back64, rd}
 use Rattle.sill_rules.specs.Lent.{Lent, misfit, reach_of, call_of, step_of}
 use Rattle.sill_rules.specs.Refusals.{bad_call}
-use Rattle.sill_rules.specs.Laws.Lengths.{Fitted, fitted}
+use Rattle.sill_rules.proofs.Laws.Lengths.{Fitted, fitted}
 use Rattle.sill.specs.declared.rows.Call.{Call}
 use Rattle.sill.specs.Told.{reach_in, call_in, lent_by}
 use Rattle.sill.specs.Ranges.{Numbers, Lengths}

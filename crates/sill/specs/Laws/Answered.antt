@@ -8,14 +8,14 @@ use Rattle.tables.specs.Some.{some, lowest}
 use Rattle.rules.specs.Refusals.{Check, of_call, verdict, spot}
 use Rattle.rules.specs.Found.{Found, at, found}
 use Rattle.rules.specs.Lent.{Outcome, refused}
-use Rattle.rules.specs.Laws.Verdicts.{of_call_lem}
-use Rattle.rules.specs.Laws.Outcome.{refuses, without_first}
+use Rattle.rules.proofs.Laws.Verdicts.{of_call_lem}
+use Rattle.rules.proofs.Laws.Outcome.{refuses, without_first}
 use Rattle.reach.specs.Gives.{answer, leaves, Gives}
 use Rattle.reach.specs.declared.answer.Answer.{Answer}
 use Rattle.reach.specs.declared.answer.Answer.TheVariants.{Refused}
 use Rattle.sill_rules.specs.Refusals.{bad_call, off, early, checks}
 use Rattle.sill_rules.specs.Lent.{Lent, reach_of, call_of, state_of, misfit, misfits, all_checks, filled, crossed, step_of}
-use Rattle.sill_rules.specs.Laws.Lengths.{first_found, later_found}
+use Rattle.sill_rules.proofs.Laws.Lengths.{first_found, later_found}
 use Rattle.sill.specs.declared.Given.{Given}
 use Rattle.sill.specs.declared.rows.Call.{Call}
 use Rattle.sill.specs.Told.{lent_by}

@@ -6,7 +6,7 @@ use Rattle.std.proofs.Common.{arith}
 use Rattle.whole.specs.Flags.{by}
 use Rattle.whole.specs.Choice.{b_max}
 use Rattle.rules.specs.Limits.{highest_bed}
-use Rattle.rules.specs.Laws.Shown.{inside}
+use Rattle.rules.proofs.Laws.Shown.{inside}
 use Rattle.reach.specs.Ranges.{UpTo}
 use Rattle.sill_rules.specs.Reach.{higher, crest_left, crest_right}
 use Rattle.sill.specs.declared.rows.Call.{Call}

@@ -14,7 +14,8 @@ use Rattle.rules.specs.Face.{Side, Flux, face}
 use Rattle.rules.specs.Lawful.{mirror}
 use Rattle.rules.specs.Shown.{cross_right, cross_at, volume}
 use Rattle.rules.specs.Ends.{outer}
-use Rattle.rules.specs.Laws.Sizes.{Sound, Sized, face_sized}
+use Rattle.rules.specs.Laws.Sizes.{Sound, Sized}
+use Rattle.rules.proofs.Laws.Sizes.{face_sized}
 use Rattle.reach.specs.Ranges.{UpTo}
 use Rattle.sill.specs.declared.rows.Call.{Call}
 use Rattle.sill.specs.Rows.{left_of, right_of, face_row, cross_in, face_row_at}

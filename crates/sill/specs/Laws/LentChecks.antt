@@ -4,13 +4,14 @@ use Rattle.std.specs.Prelude.{◌≡◌, false, List, ℕ, ◌≤◌, ◌<◌, g
 use Rattle.std.proofs.Common.{arith}
 use Rattle.std.proofs.Math.IntN.{pos}
 use Rattle.whole.specs.Parts.{Within, b_nonneg, of_le, lt_of, le_trans, nat_nonneg}
-use Rattle.tables.specs.Some.{some, some_none}
+use Rattle.tables.specs.Some.{some}
+use Rattle.tables.proofs.Some.{some_none}
 use Rattle.tables.specs.Pools.{pool_in}
 use Rattle.rules.specs.Limits.{longest_cell, longest_step}
 use Rattle.rules.specs.Refusals.{outside, bad_rough, applies, Clear}
-use Rattle.rules.specs.Laws.Accept.{none_at}
-use Rattle.rules.specs.Laws.Inside.{above_least, below_most}
-use Rattle.rules.specs.Laws.Verdicts.{check_at, clear_at}
+use Rattle.rules.proofs.Laws.Accept.{none_at}
+use Rattle.rules.proofs.Laws.Inside.{above_least, below_most}
+use Rattle.rules.proofs.Laws.Verdicts.{check_at, clear_at}
 use Rattle.reach.specs.Laws.DryList.{in_list}
 use Rattle.sill_rules.specs.Refusals.{call_tests, bad_call, bad_bed, off_pool}
 use Rattle.sill.specs.declared.rows.Call.{Call}

@@ -8,8 +8,8 @@ use Rattle.rules.specs.Shown.{volume}
 use Rattle.rules.specs.Refusals.{Check}
 use Rattle.rules.specs.Found.{Found, found}
 use Rattle.rules.specs.Lent.{Outcome, refused}
-use Rattle.rules.specs.Laws.Verdicts.{stopped, went_on}
-use Rattle.rules.specs.Laws.Outcome.{accepts, refuses}
+use Rattle.rules.proofs.Laws.Verdicts.{stopped, went_on}
+use Rattle.rules.proofs.Laws.Outcome.{accepts, refuses}
 use Rattle.reach.specs.Gives.{answer, leaves, Gives}
 use Rattle.reach.specs.declared.answer.Answer.TheVariants.{Refused, Accepted}
 use Rattle.sill_rules.specs.Reach as rules

@@ -7,19 +7,21 @@ use Rattle.std.proofs.Math.Path.{ap}
 use Rattle.std.proofs.Math.IntN.{pos}
 use Rattle.whole.specs.Parts.{le_trans}
 use Rattle.whole.specs.Choice.{within_past}
-use Rattle.tables.specs.Some.{some, lowest, some_none, lowest_same}
+use Rattle.tables.specs.Some.{some, lowest}
+use Rattle.tables.proofs.Some.{some_none, lowest_same}
 use Rattle.tables.specs.Rows.{Written}
-use Rattle.tables.specs.Filling.{FillSays, all_filled}
+use Rattle.tables.specs.Filling.{FillSays}
+use Rattle.tables.proofs.Filling.{all_filled}
 use Rattle.tables.specs.Pools.{as_row, pool_in}
 use Rattle.rules.specs.Refusals.{is_long, Check}
 use Rattle.rules.specs.Found.{at, found, none}
-use Rattle.rules.specs.Laws.Verdicts.{check_at, stops_at, passes, none_stops}
+use Rattle.rules.proofs.Laws.Verdicts.{check_at, stops_at, passes, none_stops}
 use Rattle.sill_rules.specs.Reach as rules
 use Rattle.sill_rules.specs.Reach.{State, over, crest_left, crest_right}
 use Rattle.sill_rules.specs.Step.{rubbed, face_at, stage, next}
 use Rattle.sill_rules.specs.Refusals.{off_pool, off, fast_friction, fast_face, too_long}
-use Rattle.sill_rules.specs.Laws.Positive.{Fine, Wet, over≥0, left_shown, right_shown}
-use Rattle.sill_rules.specs.Laws.Speeds.{slow_cells, slow_faces}
+use Rattle.sill_rules.proofs.Laws.Positive.{Fine, Wet, over≥0, left_shown, right_shown}
+use Rattle.sill_rules.proofs.Laws.Speeds.{slow_cells, slow_faces}
 use Rattle.sill.specs.declared.rows.Call.{Call}
 use Rattle.sill.specs.Told.{reach_in, call_in}
 use Rattle.sill.specs.Rows.{face_row, cross_in, long_at, face_row_at, end_at}

@@ -11,10 +11,10 @@ use Rattle.whole.specs.Choice.{not_beyond, within_past}
 use Rattle.tables.specs.Pools.{Pool}
 use Rattle.rules.specs.Limits.{least_dry, deepest, fullest, longest_step}
 use Rattle.rules.specs.Refusals.{any}
-use Rattle.rules.specs.Laws.Accept.{none_at}
-use Rattle.rules.specs.Laws.Inside.{above_least, below_most}
-use Rattle.rules.specs.Laws.Friction.{after_size}
-use Rattle.rules.specs.Laws.Sizes.{depth_size}
+use Rattle.rules.proofs.Laws.Accept.{none_at}
+use Rattle.rules.proofs.Laws.Inside.{above_least, below_most}
+use Rattle.rules.proofs.Laws.Friction.{after_size}
+use Rattle.rules.proofs.Laws.Sizes.{depth_size}
 use Rattle.reach.specs.Ranges.{UpTo, widest}
 use Rattle.sill_rules.specs.Reach.{depth, shallow}
 use Rattle.sill_rules.specs.Step.{rubbed_pool, dried_pool}

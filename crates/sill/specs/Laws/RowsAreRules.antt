@@ -10,7 +10,7 @@ use Rattle.tables.specs.Rows.{Written}
 use Rattle.tables.specs.Pools.{Pool}
 use Rattle.rules.specs.Face.{Flux}
 use Rattle.rules.specs.Shown.{cross_at}
-use Rattle.rules.specs.Laws.Shown.{at_same}
+use Rattle.rules.proofs.Laws.Shown.{at_same}
 use Rattle.sill_rules.specs.Reach.{State, hl, hr, at_left, at_right}
 use Rattle.sill_rules.specs.Step.{face_right, face_at, push, update, stage, dried_pool, dried}
 use Rattle.sill.specs.declared.rows.Call.{Call}

@@ -13,8 +13,8 @@ use Rattle.rules.specs.Reach.{Bed, ql, qr, z0, z1, h0, h1, hl, hr}
 use Rattle.rules.specs.Stage.{share}
 use Rattle.rules.specs.Step.{half}
 use Rattle.rules.specs.Refusals.{any, outside, past, cell_tests, off_cell}
-use Rattle.rules.specs.Laws.Accept.{none_at}
-use Rattle.rules.specs.Laws.Inside.{above_least, below_most}
+use Rattle.rules.proofs.Laws.Accept.{none_at}
+use Rattle.rules.proofs.Laws.Inside.{above_least, below_most}
 use Rattle.reach.specs.Ranges.{UpTo, widest, Wide}
 use Rattle.finishing.specs.Laws.Sizes.{z0_size, z1_size}
 use Rattle.stage.specs.Ranges.{highest_level, steepest_level, most_volume, Inside, Around}

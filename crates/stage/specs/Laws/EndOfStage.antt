@@ -4,13 +4,14 @@ use Rattle.std.specs.Prelude.{◌≡◌, Bool, true, ℕ, ◌≤◌, ◌<◌, �
 use Rattle.std.proofs.Common.{sym, ◌∙◌}
 use Rattle.std.proofs.Math.Path.{ap, subst}
 use mathlib.Core.List.{List}
-use Rattle.tables.specs.Some.{lowest, some_none, lowest_same}
+use Rattle.tables.specs.Some.{lowest}
+use Rattle.tables.proofs.Some.{some_none, lowest_same}
 use Rattle.tables.specs.Cells.{as_cell, seen, Holds}
 use Rattle.rules.specs.Reach.{Reach, Call, State, bed_at}
 use Rattle.rules.specs.Finishing.{finish}
 use Rattle.rules.specs.Refusals.{off_cell, off}
 use Rattle.rules.specs.Found.{Found, at, none}
-use Rattle.rules.specs.Laws.Verdicts.{clear_found, check_at, clear_at, stops_at, passes, none_stops}
+use Rattle.rules.proofs.Laws.Verdicts.{clear_found, check_at, clear_at, stops_at, passes, none_stops}
 use Rattle.reach.specs.declared.Reach.{Reach as ToldReach}
 use Rattle.reach.specs.declared.Call.{Call as ToldCall}
 use Rattle.reach.specs.Told.{reach_in, call_on}

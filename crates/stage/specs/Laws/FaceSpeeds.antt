@@ -5,14 +5,16 @@ use Rattle.std.specs.Prelude.{◌≡◌, Bool, true, false, cond, List, [], ℕ,
 use Rattle.std.proofs.Common.{sym, ◌∙◌, ap, arith}
 use Rattle.std.proofs.Math.Path.{subst}
 use Rattle.whole.specs.Flags.{by}
-use Rattle.tables.specs.Some.{IsLowest, lowest_is, is_lowest, lowest_none, lowest_below, lowest_past, below_lowest}
+use Rattle.tables.specs.Some.{IsLowest}
+use Rattle.tables.proofs.Some.{lowest_is, is_lowest, lowest_none, lowest_below, lowest_past, below_lowest}
 use Rattle.tables.specs.Rows.{Written}
-use Rattle.tables.specs.Filling.{FillSays, all_filled}
+use Rattle.tables.specs.Filling.{FillSays}
+use Rattle.tables.proofs.Filling.{all_filled}
 use Rattle.rules.specs.Face.{Side}
 use Rattle.rules.specs.Reach as rules
 use Rattle.rules.specs.Reach.{State, hl, hr, side_l, side_r, bed_at}
 use Rattle.rules.specs.Refusals.{fast_side, fast_inflow, fast_face}
-use Rattle.rules.specs.Laws.FastFaces.{inflow_left, inflow_right, SlowBelow, left_inflow, left_side, right_side, right_inflow, no_face}
+use Rattle.rules.proofs.Laws.FastFaces.{inflow_left, inflow_right, SlowBelow, left_inflow, left_side, right_side, right_inflow, no_face}
 use Rattle.reach.specs.declared.Reach.{Reach}
 use Rattle.reach.specs.declared.Call.{Call}
 use Rattle.reach.specs.Told.{reach_in, call_on}

@@ -13,8 +13,9 @@ use Rattle.rules.specs.Limits.{longest_step}
 use Rattle.rules.specs.Face.{Side, Flux, face}
 use Rattle.rules.specs.Shown.{cross_right, cross_at, volume}
 use Rattle.rules.specs.Ends.{left_end, right_end}
-use Rattle.rules.specs.Laws.Sizes.{Sized, face_sized}
-use Rattle.rules.specs.Laws.EndSizes.{left_end_sized, right_end_sized}
+use Rattle.rules.specs.Laws.Sizes.{Sized}
+use Rattle.rules.proofs.Laws.Sizes.{face_sized}
+use Rattle.rules.proofs.Laws.EndSizes.{left_end_sized, right_end_sized}
 use Rattle.reach.specs.declared.Reach.{Reach}
 use Rattle.reach.specs.declared.Call.{Call}
 use Rattle.reach.specs.Told.{end_in}

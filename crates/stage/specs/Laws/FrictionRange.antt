@@ -8,7 +8,7 @@ use Rattle.tables.specs.Cells.{Cell}
 use Rattle.rules.specs.Limits.{least_dry}
 use Rattle.rules.specs.Reach.{Bed, ql, qr, h0, h1, hl, hr}
 use Rattle.rules.specs.Step.{rub, rubbed_cell}
-use Rattle.rules.specs.Laws.Friction.{after_size}
+use Rattle.rules.proofs.Laws.Friction.{after_size}
 use Rattle.stage.specs.Ranges.{Inside}
 use Rattle.stage.specs.Laws.Around.{flow_sum}
 use Rattle.stage.specs.Laws.CellSizes.{cell_sizes, in_range, range_in}

@@ -4,13 +4,14 @@ use Rattle.std.specs.Prelude.{◌≡◌, refl, false, not, List, ℕ, suc, ◌%�
 use Rattle.std.proofs.Common.{ap, arith}
 use Rattle.whole.specs.Flags.{or_l}
 use Rattle.whole.specs.Parts.{Within, b_nonneg, le_trans, nat_nonneg}
-use Rattle.tables.specs.Some.{some, some_none}
+use Rattle.tables.specs.Some.{some}
+use Rattle.tables.proofs.Some.{some_none}
 use Rattle.rules.specs.Limits.{highest_bed}
 use Rattle.rules.specs.Reach.{State, bed_at}
 use Rattle.rules.specs.Refusals.{outside, bad_bed, bad_rough, off_cell, fast_cell, applies, Clear}
-use Rattle.rules.specs.Laws.Inside.{above_least, below_most}
-use Rattle.rules.specs.Laws.Verdicts.{check_at, clear_at}
-use Rattle.rules.specs.Laws.Alike.{Alike, end, also}
+use Rattle.rules.proofs.Laws.Inside.{above_least, below_most}
+use Rattle.rules.proofs.Laws.Verdicts.{check_at, clear_at}
+use Rattle.rules.proofs.Laws.Alike.{Alike, end, also}
 use Rattle.reach.specs.Ranges.{UpTo, Grounds}
 use Rattle.stage.specs.Ranges.{Ranged, Slows}
 use Rattle.stage.specs.Says.{ready_checks}

@@ -8,15 +8,15 @@ use Rattle.whole.specs.Parts.{of_le, lt_of, le_trans, nat_nonneg}
 use Rattle.tables.specs.Some.{some, lowest}
 use Rattle.rules.specs.Limits.{longest_cell, longest_step, largest_jump}
 use Rattle.rules.specs.Refusals.{call_tests, bad_call, off, fast_friction, Check, of_call, verdict, spot, stage_checks, early, checks}
-use Rattle.rules.specs.Laws.Accept.{none_at}
-use Rattle.rules.specs.Laws.Inside.{above_least}
+use Rattle.rules.proofs.Laws.Accept.{none_at}
+use Rattle.rules.proofs.Laws.Inside.{above_least}
 use Rattle.rules.specs.Found.{at, found, found_of}
-use Rattle.rules.specs.Laws.Lengths.{first_found, later_found}
+use Rattle.rules.proofs.Laws.Lengths.{first_found, later_found}
 use Rattle.rules.specs.Lent.{Lent, reach_of, call_of, state_of, misfit}
 use Rattle.reach.specs.declared.Reach.{Reach}
 use Rattle.reach.specs.declared.Call.{Call}
 use Rattle.reach.specs.declared.Given.{Given}
-use Rattle.rules.specs.Laws.EndChecks.{inflow_in}
+use Rattle.rules.proofs.Laws.EndChecks.{inflow_in}
 use Rattle.reach.specs.Told.{end_in, reach_in, call_on}
 use Rattle.reach.specs.Ranges.{Numbers}
 use Rattle.reach.specs.Laws.DryList.{in_list}

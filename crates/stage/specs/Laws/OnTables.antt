@@ -4,16 +4,18 @@ use Rattle.std.specs.Prelude.{false, ◌≡◌, List, [], ◌++◌, ℕ, suc, �
 use Rattle.std.proofs.Common.{sym, ◌∙◌, arith}
 use Rattle.std.proofs.Math.Path.{ap, subst}
 use Rattle.whole.specs.Parts.{b_up}
-use Rattle.tables.specs.Some.{some, some_none}
+use Rattle.tables.specs.Some.{some}
+use Rattle.tables.proofs.Some.{some_none}
 use Rattle.tables.specs.Rows.{Filled}
-use Rattle.tables.specs.Cells.{as_cell, as_list, cell_in, table_of, table_same, seen, Holds}
+use Rattle.tables.specs.Cells.{as_cell, as_list, cell_in, table_of, seen, Holds}
+use Rattle.tables.proofs.Cells.{table_same}
 use Rattle.rules.specs.Limits.{least_dry}
 use Rattle.rules.specs.Reach.{Reach, Call, State, bed_at}
 use Rattle.rules.specs.Step.{rubbed_cell, rubbed, next}
 use Rattle.rules.specs.Refusals.{Check, off, stage_checks, Clear}
 use Rattle.rules.specs.Found.{Found, found}
-use Rattle.rules.specs.Laws.Verdicts.{stopped, clear_found, clear_at, went_on}
-use Rattle.rules.specs.Laws.Alike.{same_found}
+use Rattle.rules.proofs.Laws.Verdicts.{stopped, clear_found, clear_at, went_on}
+use Rattle.rules.proofs.Laws.Alike.{same_found}
 use Rattle.reach.specs.declared.Reach.{Reach as ToldReach}
 use Rattle.reach.specs.declared.Call.{Call as ToldCall}
 use Rattle.reach.specs.Told.{reach_in, call_on}

@@ -3,7 +3,8 @@
 use Rattle.std.specs.Prelude.{◌≡◌, false, List, [], ℕ, suc, ◌≤◌, ◌<◌, get_or, ℤ, pos}
 use Rattle.std.proofs.Common.{sym, ◌∙◌, subst, arith}
 use Rattle.std.proofs.Math.Path.{ap}
-use Rattle.tables.specs.Some.{some, lowest, some_none, lowest_same}
+use Rattle.tables.specs.Some.{some, lowest}
+use Rattle.tables.proofs.Some.{some_none, lowest_same}
 use Rattle.tables.specs.Rows.{Written}
 use Rattle.tables.specs.Cells.{as_list, Holds}
 use Rattle.rules.specs.Reach as rules
@@ -12,7 +13,7 @@ use Rattle.rules.specs.Shown.{cross_at}
 use Rattle.rules.specs.Stage.{face_right, face_at, stage}
 use Rattle.rules.specs.Refusals.{fast_face, fast_gauss, too_long, Check, stage_checks}
 use Rattle.rules.specs.Found.{at, found, none}
-use Rattle.rules.specs.Laws.Verdicts.{check_at, stops_at, passes, none_stops}
+use Rattle.rules.proofs.Laws.Verdicts.{check_at, stops_at, passes, none_stops}
 use Rattle.reach.specs.declared.Reach.{Reach}
 use Rattle.reach.specs.declared.Call.{Call}
 use Rattle.reach.specs.Told.{reach_in, call_on}

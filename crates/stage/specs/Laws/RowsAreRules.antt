@@ -9,7 +9,7 @@ use Rattle.rules.specs.Face.{Flux}
 use Rattle.rules.specs.Reach.{State, Bed, z1, hl, hr, side_l, side_r, bed_at}
 use Rattle.rules.specs.Stage.{at_left, at_right, face_at, gauss, push, tilt, update}
 use Rattle.rules.specs.Refusals.{fast_side}
-use Rattle.rules.specs.Laws.Shown.{at_same}
+use Rattle.rules.proofs.Laws.Shown.{at_same}
 use Rattle.reach.specs.declared.Reach.{Reach}
 use Rattle.reach.specs.declared.Call.{Call}
 use Rattle.reach.specs.Told.{reach_in, call_on}

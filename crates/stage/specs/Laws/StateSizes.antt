@@ -7,7 +7,8 @@ use Rattle.whole.specs.Flags.{cond_ind, or_l, or_r}
 use Rattle.whole.specs.Parts.{b_add, b_sub, b_mul, b_lit, b_up}
 use Rattle.whole.specs.Quotient.{b_quot_by}
 use Rattle.whole.specs.Choice.{within_past}
-use Rattle.tables.specs.Some.{some, some_none}
+use Rattle.tables.specs.Some.{some}
+use Rattle.tables.proofs.Some.{some_none}
 use Rattle.tables.specs.Rows.{Written}
 use Rattle.tables.specs.Cells.{Cell, as_cell, seen, Holds}
 use Rattle.rules.specs.Limits.{deepest, fastest}

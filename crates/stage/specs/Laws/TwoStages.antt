@@ -9,11 +9,12 @@ use Rattle.rules.specs.Stage.{stage}
 use Rattle.rules.specs.Finishing.{finish}
 use Rattle.rules.specs.Step.{rubbed, stage_one, half, carry, joined_cell, joined, next}
 use Rattle.rules.specs.Refusals.{stage_checks}
-use Rattle.rules.specs.Laws.Agree.{Same, face_at_same, stage_same, finish_same, off_same, stage_checks_same}
+use Rattle.rules.specs.Laws.Agree.{Same}
+use Rattle.rules.proofs.Laws.Agree.{face_at_same, stage_same, finish_same, off_same, stage_checks_same}
 use Rattle.rules.specs.Found.{Found, found}
-use Rattle.rules.specs.Laws.Verdicts.{stopped, went_on}
-use Rattle.rules.specs.Laws.Alike as alike
-use Rattle.rules.specs.Laws.Alike.{also, same_found}
+use Rattle.rules.proofs.Laws.Verdicts.{stopped, went_on}
+use Rattle.rules.proofs.Laws.Alike as alike
+use Rattle.rules.proofs.Laws.Alike.{also, same_found}
 use Rattle.stage.specs.Rows.{face_row, volume_of, volume_at}
 use Rattle.stage.specs.Says.{range_check, half_checks, Shows, FacesOf, StageDone, StageSays, JoinSays, EndSays, HalfSays}
 use Rattle.stage.specs.Says.{BothDone, StepSays}

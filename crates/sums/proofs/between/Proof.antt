@@ -10,8 +10,8 @@ use borrow.Author.Tests.{lt-ltb, le-ltb}
 use Rattle.whole.specs.Flags.{or_true}
 use Rattle.rules.specs.StateAndBed.{cells_over, misfit_state}
 use Rattle.rules.specs.Sums.{misfit_sums, unanswered, between_of}
-use Rattle.rules.specs.Laws.StateAndBed.{state_fits}
-use Rattle.rules.specs.Laws.Questions.{disordered, unanswered_sums, unanswered_state, unanswered_faces, all_answered}
+use Rattle.rules.proofs.Laws.StateAndBed.{state_fits}
+use Rattle.rules.proofs.Laws.Questions.{disordered, unanswered_sums, unanswered_state, unanswered_faces, all_answered}
 use Rattle.sums.specs.Gives.{asked}
 use Rattle.sums.specs.Answered.{tables_fit}
 use Rattle.sums.proofs.between.Statement.{statement}

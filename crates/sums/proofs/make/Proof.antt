@@ -5,8 +5,8 @@ use lib.ListN.{length}
 use borrow.Author.Rules.{rules}
 use Rattle.rules.specs.StateAndBed.{cells_over, state_refusal}
 use Rattle.rules.specs.Sums.{misfit_sums, unmade}
-use Rattle.rules.specs.Laws.StateAndBed.{state_passed}
-use Rattle.rules.specs.Laws.Questions.{unmade_one, unmade_later, all_made}
+use Rattle.rules.proofs.Laws.StateAndBed.{state_passed}
+use Rattle.rules.proofs.Laws.Questions.{unmade_one, unmade_later, all_made}
 use Rattle.sums.specs.Answered.{tables_fit, made_none, made_all}
 use Rattle.sums.proofs.make.Statement.{statement}
 use Rattle.sums.proofs.make.Tie as tie

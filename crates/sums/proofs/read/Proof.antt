@@ -8,7 +8,7 @@ use Rattle.whole.specs.Machine.{X, v, ◌⊕◌, Entry, entry, need, value}
 use Rattle.rules.specs.StateAndBed.{cells_over}
 use Rattle.rules.specs.Sums.{reading, Reading}
 use Rattle.rules.specs.Laws.Blocks.{Cut}
-use Rattle.rules.specs.Laws.Sums.{cut_reading}
+use Rattle.rules.proofs.Laws.Sums.{cut_reading}
 use Rattle.sums.specs.Answered.{asked_read}
 use Rattle.sums.specs.Laws.Adding.{added_most}
 use Rattle.sums.specs.declared.splitting.Split.{Split}

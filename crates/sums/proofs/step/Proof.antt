@@ -6,7 +6,7 @@ use borrow.Author.Rules.{rules}
 use Rattle.whole.specs.Machine.{back}
 use Rattle.rules.specs.Lent.{Lent, cells_of, step_of}
 use Rattle.rules.specs.Sums.{misfit_sums, keeping_of}
-use Rattle.rules.specs.Laws.Questions.{unkept, kept_step}
+use Rattle.rules.proofs.Laws.Questions.{unkept, kept_step}
 use Rattle.stage.specs.Worked.{lent_by}
 use Rattle.sums.specs.Answered.{keeping_ready, keeping_none, keeping_refused, keeping_accepted}
 use Rattle.sums.proofs.step.Statement.{statement}

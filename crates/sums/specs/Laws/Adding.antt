@@ -6,7 +6,7 @@ use Rattle.std.specs.Int.{w64}
 use Rattle.whole.specs.Parts.{Within, b_add, fit}
 use Rattle.rules.specs.Limits.{most_cells}
 use Rattle.rules.specs.Sums.{sum_to}
-use Rattle.rules.specs.Laws.Summing.{sum_none, sum_more}
+use Rattle.rules.proofs.Laws.Summing.{sum_none, sum_more}
 use Rattle.sums.specs.Ranges.{most_addend, Addend, Added}
 
 -- up to i; `bits` are those of the sum

@@ -9,7 +9,7 @@ use Rattle.rules.specs.Limits.{block_cells, deepest}
 use Rattle.rules.specs.Reach.{Bed, bed_at, z0, h0}
 use Rattle.rules.specs.StateAndBed.{cells_over, depth_in}
 use Rattle.rules.specs.Sums.{blocks_of, block_from, block_to, sum_from, block_sum}
-use Rattle.rules.specs.Laws.Blocks.{block_end}
+use Rattle.rules.proofs.Laws.Blocks.{block_end}
 use Rattle.reach.specs.Ranges.{UpTo}
 use Rattle.sums.specs.Ranges.{DepthsIn, Addend}
 

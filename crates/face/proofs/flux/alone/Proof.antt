@@ -8,7 +8,7 @@ use borrow.Author.Rules.{rules}
 use Rattle.whole.specs.Parts.{fit}
 use Rattle.whole.specs.Machine.{X, v, k, ◌⊗◌, ◌⊘◌, Entry, entry, need, value, back64}
 use Rattle.rules.specs.Face.{mass, alone}
-use Rattle.rules.specs.Laws.Sizes.{depth_size, mass_size}
+use Rattle.rules.proofs.Laws.Sizes.{depth_size, mass_size}
 use Rattle.face.specs.Given.{side}
 use Rattle.face.specs.Answers.{carries}
 use Rattle.face.proofs.flux.alone.Statement.{statement}

@@ -5,7 +5,7 @@ use borrow.Author.Rules.{rules}
 use Rattle.whole.specs.Parts.{Within, b_up}
 use Rattle.whole.specs.Machine.{back64}
 use Rattle.rules.specs.Face.{mass, between}
-use Rattle.rules.specs.Laws.Sizes.{depth_size, mass_size}
+use Rattle.rules.proofs.Laws.Sizes.{depth_size, mass_size}
 use Rattle.face.specs.Given.{side}
 use Rattle.face.specs.Answers.{carries}
 use Rattle.face.specs.Sides.{pressure_of}

@@ -10,8 +10,8 @@ use Rattle.whole.specs.Equal.{eq_z, eq_yes}
 use Rattle.whole.specs.Machine.{v, ◌⊗◌, Entry, entry, need, value}
 use Rattle.rules.specs.Face.{none, nothing, face}
 use Rattle.rules.specs.Lawful.{resting}
-use Rattle.rules.specs.Laws.Sizes.{depth_size}
-use Rattle.rules.specs.Laws.Face as law
+use Rattle.rules.proofs.Laws.Sizes.{depth_size}
+use Rattle.rules.proofs.Laws.Face as law
 use Rattle.speeds.specs.Given.{given}
 use Rattle.face.specs.Given.{side}
 use Rattle.face.specs.Answers.{flux, carries}

@@ -3,7 +3,7 @@ use lib.Dec.{lit<}
 use lib.IntN.{pos}
 use Rattle.whole.specs.Machine.{v, k, ◌⊗◌, ◌⊘◌, Entry, entry, need, value}
 use Rattle.rules.specs.Face.{mass}
-use Rattle.rules.specs.Laws.Sizes.{depth_size}
+use Rattle.rules.proofs.Laws.Sizes.{depth_size}
 use Rattle.face.proofs.flux.discharge.Goals as goal
 
 abbrev env : goal.Start → List Entry

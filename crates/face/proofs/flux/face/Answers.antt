@@ -4,7 +4,8 @@ use mathlib.Core.Bool.{not, true}
 use mir.Facts.{to_z-of_z}
 use Rattle.whole.specs.Machine.{said_no, said_yes, back_in}
 use Rattle.rules.specs.Face.{wave}
-use Rattle.rules.specs.Laws.Sizes.{Sound, wave_size}
+use Rattle.rules.specs.Laws.Sizes.{Sound}
+use Rattle.rules.proofs.Laws.Sizes.{wave_size}
 use Rattle.speeds.specs.Given.{depth_fits, wave_given}
 use Rattle.speeds.specs.Answers.{value_of}
 use Rattle.speeds.proofs.Fits.{wave_told, wave_untold}

@@ -2,7 +2,7 @@ use mathlib.Core.List.{List, [], ◌∷◌}
 use lib.IntN.{pos}
 use Rattle.whole.specs.Machine.{X, v, k, ◌⊕◌, ◌⊝◌, ◌⊗◌, ◌⊘◌, Entry, entry, need, value, divisor}
 use Rattle.rules.specs.Face.{mixture, mixed}
-use Rattle.rules.specs.Laws.Mixed.{wide}
+use Rattle.rules.proofs.Laws.Mixed.{wide}
 use Rattle.face.proofs.flux.mixed.Goals as goal
 
 abbrev env : goal.Start → List Entry

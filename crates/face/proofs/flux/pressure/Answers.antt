@@ -1,6 +1,6 @@
 use mathlib.Core.List.{List, [], ◌∷◌}
 use Rattle.whole.specs.Machine.{X, v, ◌⊝◌, ◌⊗◌, ◌⊘◌, Entry, entry, need, value, divisor}
-use Rattle.rules.specs.Laws.Mixed.{apart}
+use Rattle.rules.proofs.Laws.Mixed.{apart}
 use Rattle.face.specs.Sides.{pressure_of}
 use Rattle.face.proofs.flux.pressure.Goals as goal
 

@@ -4,7 +4,8 @@ use mir.Facts.{to_z-of_z}
 use borrow.Author.Rules.{rules}
 use lib.IntN.{pos}
 use Rattle.whole.specs.Machine.{back}
-use Rattle.tables.specs.Cells.{as_cell, of_four}
+use Rattle.tables.specs.Cells.{as_cell}
+use Rattle.tables.proofs.Cells.{of_four}
 use Rattle.rules.specs.Reach.{shallow}
 use Rattle.rules.specs.Finishing.{dried}
 use Rattle.reach.specs.Told.{bed_in}

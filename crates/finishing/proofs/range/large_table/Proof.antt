@@ -5,7 +5,7 @@ use Prim.Native.Nat.{ℕ, ◌-◌}
 use borrow.Author.Rules.{rules}
 use lib.IntN.{ℤ}
 use Rattle.tables.specs.Cells.{seen}
-use Rattle.tables.specs.Scan.{Scanned, scan_none, scan_more, scan_found, scan_all}
+use Rattle.tables.proofs.Scan.{Scanned, scan_none, scan_more, scan_found, scan_all}
 use Rattle.rules.specs.Reach.{bed_at}
 use Rattle.finishing.specs.Unfit.{too_large}
 use Rattle.finishing.proofs.range.large_table.Statement.{statement}

@@ -7,7 +7,7 @@ use mir.Facts.{to_z-of_z}
 use Rattle.whole.specs.Parts.{le_of, b_nonneg}
 use Rattle.whole.specs.Machine.{back_in}
 use Rattle.rules.specs.Friction.{cube}
-use Rattle.rules.specs.Laws.Speeds.{cube_most}
+use Rattle.rules.proofs.Laws.Speeds.{cube_most}
 use Rattle.speeds.specs.Answers.{told, untold}
 use Rattle.speeds.proofs.Fits.{cube_given_lem}
 use Rattle.friction.proofs.strength.cube_of.Goals as goal

@@ -10,7 +10,7 @@ use Rattle.whole.specs.Choice.{size_z, b_size}
 use Rattle.whole.specs.Machine.{X, v, k, ◌⊗◌, ◌⊘◌, Entry, entry, need, value, divisor, g_var}
 use Rattle.rules.specs.Limits.{least_dry, deepest, fastest}
 use Rattle.rules.specs.Friction.{cube, drag}
-use Rattle.rules.specs.Laws.Speeds.{cube_least, cube_most}
+use Rattle.rules.proofs.Laws.Speeds.{cube_least, cube_most}
 use Rattle.reach.specs.Size.{sized as size-got}
 use Rattle.reach.specs.Ranges.{UpTo}
 use Rattle.friction.specs.Strength.{wet, wet_size, divisor_pos}

@@ -6,7 +6,7 @@ use borrow.Author.Tests.{lt-ltb, le-ltb}
 use lib.ListN.{get_or}
 use lib.IntN.{pos}
 use Rattle.rules.specs.Refusals.{bad_rough}
-use Rattle.tables.specs.Scan.{scan_none, scan_more, scan_lowest, scan_past}
+use Rattle.tables.proofs.Scan.{scan_none, scan_more, scan_lowest, scan_past}
 use Rattle.reach.proofs.friction.bad_friction.Goals as goal
 
 -- over 200 or not; no value is below nought

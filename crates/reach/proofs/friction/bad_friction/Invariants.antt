@@ -5,7 +5,7 @@ use Prim.Native.Nat.{ℕ, ◌-◌}
 use lib.ListN.{get_or, length}
 use lib.IntN.{pos}
 use Rattle.rules.specs.Refusals.{bad_rough}
-use Rattle.tables.specs.Scan.{Scanned}
+use Rattle.tables.proofs.Scan.{Scanned}
 use Rattle.reach.proofs.friction.bad_friction.Given as goal
 
 abbrev pub bad : List ℕ → ℕ → Bool

@@ -10,7 +10,7 @@ use Rattle.whole.specs.Machine.{back64}
 use Rattle.rules.specs.Limits.{highest_bed}
 use Rattle.rules.specs.Refusals.{outside}
 use Rattle.sill_rules.specs.Refusals.{bad_bed}
-use Rattle.tables.specs.Scan.{Scanned, scan_none, scan_more, scan_lowest, scan_past}
+use Rattle.tables.proofs.Scan.{Scanned, scan_none, scan_more, scan_lowest, scan_past}
 use Rattle.sill.proofs.checks.bad_bed.Statement.{statement}
 use Rattle.sill.proofs.checks.bad_bed.Tie as tie
 

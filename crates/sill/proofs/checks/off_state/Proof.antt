@@ -7,7 +7,7 @@ use borrow.Author.Rules.{rules}
 use lib.ListN.{get_or}
 use lib.IntN.{ℤ, pos}
 use Rattle.whole.specs.Machine.{back64}
-use Rattle.tables.specs.Scan.{Scanned, scan_none, scan_more, scan_lowest, scan_past}
+use Rattle.tables.proofs.Scan.{Scanned, scan_none, scan_more, scan_lowest, scan_past}
 use Rattle.tables.specs.Pools.{pool_in}
 use Rattle.sill_rules.specs.Refusals.{off_pool}
 use Rattle.sill.proofs.checks.off_state.Statement.{statement}

@@ -6,7 +6,7 @@ use borrow.Author.Rules.{rules}
 use Rattle.whole.specs.Parts.{fit}
 use Rattle.whole.specs.Machine.{back}
 use Rattle.rules.specs.Face.{Flux, face}
-use Rattle.rules.specs.Laws.Sizes.{depth_size}
+use Rattle.rules.proofs.Laws.Sizes.{depth_size}
 use Rattle.speeds.specs.Given.{given}
 use Rattle.face.specs.Answers.{flux, one_flux}
 use Rattle.face.specs.declared.answer.Carried.{Carried}

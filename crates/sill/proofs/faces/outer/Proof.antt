@@ -8,7 +8,8 @@ use Rattle.whole.specs.Difference.{at, lit, ◌⊟◌, ⊖, eq! }
 use Rattle.whole.specs.Machine.{X, v, k, ◌⊝◌, Entry, sized, need, value}
 use Rattle.rules.specs.Lawful.{mirror}
 use Rattle.rules.specs.Ends.{outer}
-use Rattle.rules.specs.Laws.Sizes.{Sound, depth_size}
+use Rattle.rules.specs.Laws.Sizes.{Sound}
+use Rattle.rules.proofs.Laws.Sizes.{depth_size}
 use Rattle.sill.specs.Rows.{side_in}
 use Rattle.sill.specs.Laws.FaceSizes.{turned_sound}
 use Rattle.sill.proofs.faces.outer.Statement.{statement}

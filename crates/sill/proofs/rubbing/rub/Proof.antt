@@ -10,7 +10,7 @@ use lib.IntN.{ℤ, pos}
 use lib.Signed.{◌≤ℤ◌}
 use Rattle.whole.specs.Parts.{nat_nonneg}
 use Rattle.whole.specs.Machine.{back, back64, rd}
-use Rattle.tables.specs.Scan.{Scanned, scan_none, scan_more, scan_lowest, scan_past}
+use Rattle.tables.proofs.Scan.{Scanned, scan_none, scan_more, scan_lowest, scan_past}
 use Rattle.tables.specs.Rows.{Written, written_none, written_more}
 use Rattle.tables.specs.Pools.{Pool, as_pool, pool_in}
 use Rattle.rules.specs.Limits.{highest_bed, deepest, fullest, fastest, roughest}

@@ -16,7 +16,7 @@ use Rattle.tables.specs.Pools.{Pool, as_pool, as_row, of_two}
 use Rattle.rules.specs.Limits.{least_dry, fastest}
 use Rattle.rules.specs.Refusals.{past}
 use Rattle.rules.specs.Friction.{drag, slowed}
-use Rattle.rules.specs.Laws.Friction.{after_none}
+use Rattle.rules.proofs.Laws.Friction.{after_none}
 use Rattle.sill_rules.specs.Reach.{depth, shallow, pace}
 use Rattle.sill_rules.specs.Step.{rubbed_pool}
 use Rattle.sill_rules.specs.Refusals.{fast_pool}

@@ -8,7 +8,7 @@ use Rattle.whole.specs.Parts.{lt_le, le_lt_trans, le_lit}
 use Rattle.whole.specs.Machine.{back64, rd}
 use Rattle.rules.specs.Limits.{least_dry}
 use Rattle.rules.specs.Friction.{drag, slowed}
-use Rattle.rules.specs.Laws.Friction.{drag_nonneg}
+use Rattle.rules.proofs.Laws.Friction.{drag_nonneg}
 use Rattle.reach.specs.Ranges.{UpTo}
 use Rattle.speeds.specs.Given.{given}
 use Rattle.speeds.specs.Answers.{value_of, told, untold}

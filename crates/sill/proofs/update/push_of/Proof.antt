@@ -3,7 +3,7 @@ use mathlib.Core.List.{List, [], ◌∷◌}
 use borrow.Author.Rules.{rules}
 use Rattle.whole.specs.Parts.{b_nonneg}
 use Rattle.whole.specs.Machine.{X, v, ◌⊝◌, ◌⊗◌, Entry, sized, need, value}
-use Rattle.rules.specs.Laws.Sizes.{depth_size}
+use Rattle.rules.proofs.Laws.Sizes.{depth_size}
 use Rattle.sill.specs.Rows.{push_by}
 use Rattle.sill.proofs.update.push_of.Statement.{statement}
 use Rattle.sill.proofs.update.push_of.Tie as tie

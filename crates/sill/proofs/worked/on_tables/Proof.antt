@@ -10,7 +10,7 @@ use Rattle.whole.specs.Machine.{back64}
 use Rattle.tables.specs.Pools.{as_pool, pools_seen, pool_in}
 use Rattle.rules.specs.Refusals.{Clear}
 use Rattle.rules.specs.Found.{found, none}
-use Rattle.rules.specs.Laws.Verdicts.{none_stops}
+use Rattle.rules.proofs.Laws.Verdicts.{none_stops}
 use Rattle.reach.specs.Told.{found_in}
 use Rattle.sill.specs.declared.rows.Call.{Call}
 use Rattle.sill.specs.Told.{reach_in, call_in}

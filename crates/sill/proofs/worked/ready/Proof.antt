@@ -7,7 +7,7 @@ use lib.ListN.{get_or}
 use lib.IntN.{pos}
 use Rattle.tables.specs.Some.{lowest}
 use Rattle.rules.specs.Refusals.{bad_rough, Check, applies, lowest_of}
-use Rattle.rules.specs.Laws.Verdicts.{check_at, stops_at, passes, none_stops}
+use Rattle.rules.proofs.Laws.Verdicts.{check_at, stops_at, passes, none_stops}
 use Rattle.sill_rules.specs.Refusals.{bad_bed}
 use Rattle.sill.specs.Says.{ready_checks}
 use Rattle.sill.specs.Laws.LentChecks.{grounds}

@@ -2,7 +2,7 @@
 use native.Mathlib.Omega.{arith}
 use borrow.Author.Rules.{rules}
 use Rattle.rules.specs.Refusals.{Clear}
-use Rattle.rules.specs.Laws.Verdicts.{clear_found}
+use Rattle.rules.proofs.Laws.Verdicts.{clear_found}
 use Rattle.sill.specs.Says.{ready_checks}
 use Rattle.sill.specs.Laws.OnTables.{ready_stops}
 use Rattle.sill.proofs.worked.short_step.Statement.{statement}

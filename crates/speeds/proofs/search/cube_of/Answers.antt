@@ -8,7 +8,7 @@ use mir.Facts.{to_z-of_z}
 use Rattle.whole.specs.Parts.{of_le, b_nonneg}
 use Rattle.whole.specs.Machine.{as_whole}
 use Rattle.rules.specs.Friction.{cube, cube_of}
-use Rattle.rules.specs.Laws.Speeds.{cube_most}
+use Rattle.rules.proofs.Laws.Speeds.{cube_most}
 use Rattle.speeds.proofs.search.cube_of.Goals as goal
 
 small : (s : goal.Start) → nat_abs s.args.h ≤ 262144

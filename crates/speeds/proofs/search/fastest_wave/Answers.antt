@@ -4,7 +4,7 @@ use Prim.Native.Nat.{ℕ, ◌*◌, ◌/◌, ◌≤◌}
 use native.Mathlib.Nat.{mul-one}
 use native.Mathlib.Omega.{arith}
 use Rattle.whole.specs.Largest.{IsLargest}
-use Rattle.rules.specs.Laws.Speeds.{wave_root}
+use Rattle.rules.proofs.Laws.Speeds.{wave_root}
 use Rattle.digits.proofs.WholeRoot.{told, untold}
 use Rattle.speeds.proofs.search.fastest_wave.Goals as goal
 

@@ -1,7 +1,7 @@
 use Prim.Native.Nat.{ℕ, ◌+◌, ◌-◌, ◌*◌, ◌≤◌}
 use native.Mathlib.Nat.{mul-le-mul, mul-le-mul_left}
 use native.Mathlib.Omega.{arith}
-use Rattle.rules.specs.Laws.Speeds.{cube_by}
+use Rattle.rules.proofs.Laws.Speeds.{cube_by}
 use Rattle.speeds.proofs.search.largest_cube.Goals as goal
 
 square_most : (c : ℕ) → c ≤ 16384 → c * c ≤ c * 16384

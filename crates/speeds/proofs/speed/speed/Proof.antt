@@ -10,7 +10,7 @@ use borrow.Author.Rules.{rules}
 use Rattle.whole.specs.Parts.{b_nonneg, le_trans, le_lt_trans, nat_nonneg}
 use Rattle.whole.specs.Tests.{le_no}
 use Rattle.whole.specs.Machine.{X, v, k, ◌⊗◌, ◌⊘◌, Entry, entry, need, value, divisor, said_no, said_yes}
-use Rattle.rules.specs.Laws.Speeds.{speed_dry, speed_wet}
+use Rattle.rules.proofs.Laws.Speeds.{speed_dry, speed_wet}
 use Rattle.speeds.specs.Given.{given, discharge_fits, depth_fits, dry_fits, speed_given}
 use Rattle.speeds.specs.Answers.{value_of}
 use Rattle.speeds.proofs.Fits.{discharge_in, depth_in, dry_in}

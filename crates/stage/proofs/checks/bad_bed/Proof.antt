@@ -8,7 +8,7 @@ use lib.ListN.{get_or, length}
 use lib.IntN.{ℤ, pos}
 use Rattle.whole.specs.Machine.{back64}
 use Rattle.rules.specs.Refusals.{bad_bed}
-use Rattle.tables.specs.Scan.{Scanned, scan_none, scan_more, scan_lowest, scan_past}
+use Rattle.tables.proofs.Scan.{Scanned, scan_none, scan_more, scan_lowest, scan_past}
 use Rattle.stage.proofs.checks.bad_bed.Statement.{statement}
 use Rattle.stage.proofs.checks.bad_bed.Tie as tie
 

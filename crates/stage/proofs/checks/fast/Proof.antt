@@ -6,7 +6,7 @@ use Prim.Native.Nat.{ℕ, ◌-◌}
 use borrow.Author.Rules.{rules}
 use lib.IntN.{ℤ}
 use Rattle.whole.specs.Machine.{back}
-use Rattle.tables.specs.Scan.{Scanned, scan_none, scan_more, scan_lowest, scan_past}
+use Rattle.tables.proofs.Scan.{Scanned, scan_none, scan_more, scan_lowest, scan_past}
 use Rattle.tables.specs.Cells.{seen}
 use Rattle.rules.specs.Refusals.{fast_cell}
 use Rattle.rules.specs.Reach.{bed_at}

@@ -7,7 +7,8 @@ use mir.Val.{to_z, of_z}
 use Rattle.whole.specs.Parts.{fit, b_nonneg}
 use Rattle.whole.specs.Machine.{back_in}
 use Rattle.rules.specs.Face.{Flux, face}
-use Rattle.rules.specs.Laws.Sizes.{Sound, Sized, depth_size, face_sized}
+use Rattle.rules.specs.Laws.Sizes.{Sound, Sized}
+use Rattle.rules.proofs.Laws.Sizes.{depth_size, face_sized}
 use Rattle.speeds.specs.Given.{given}
 use Rattle.face.specs.Answers.{flux, one_flux}
 use Rattle.face.specs.declared.answer.Carried.{Carried}

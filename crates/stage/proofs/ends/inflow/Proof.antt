@@ -9,9 +9,9 @@ use lib.Signed.{quot_z}
 use Rattle.whole.specs.Parts.{Within, fit}
 use Rattle.whole.specs.Machine.{X, v, k, ◌⊗◌, ◌⊘◌, Entry, need, value, back, back64, sized}
 use Rattle.rules.specs.Ends.{inflow_speed, inflow}
-use Rattle.rules.specs.Laws.Speeds.{speed_size}
-use Rattle.rules.specs.Laws.Sizes.{depth_size}
-use Rattle.rules.specs.Laws.EndSizes.{inflow_most}
+use Rattle.rules.proofs.Laws.Speeds.{speed_size}
+use Rattle.rules.proofs.Laws.Sizes.{depth_size}
+use Rattle.rules.proofs.Laws.EndSizes.{inflow_most}
 use Rattle.reach.specs.Told.{end_in}
 use Rattle.stage.specs.Rows.{side_in}
 use Rattle.stage.proofs.ends.inflow.Statement.{statement}

@@ -5,7 +5,7 @@ use lib.IntN.{pos}
 use Rattle.whole.specs.Parts.{Within, b_nonneg, fit}
 use Rattle.whole.specs.Machine.{back64}
 use Rattle.rules.specs.Ends.{inflow_speed}
-use Rattle.rules.specs.Laws.EndSizes.{inflow_most}
+use Rattle.rules.proofs.Laws.EndSizes.{inflow_most}
 use Rattle.reach.specs.Told.{end_in}
 use Rattle.stage.proofs.ends.inflow_speed.Statement.{statement}
 use Rattle.stage.proofs.ends.inflow_speed.Tie as tie

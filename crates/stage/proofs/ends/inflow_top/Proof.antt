@@ -9,7 +9,7 @@ use Rattle.whole.specs.Parts.{fit}
 use Rattle.whole.specs.Choice.{max_z, size_z, b_size}
 use Rattle.whole.specs.Machine.{Got, g_var, g_add, g_fits, g_back, rd, back, back64}
 use Rattle.rules.specs.Face.{wave}
-use Rattle.rules.specs.Laws.Sizes.{depth_size, wave_size}
+use Rattle.rules.proofs.Laws.Sizes.{depth_size, wave_size}
 use Rattle.reach.specs.Size.{sized}
 use Rattle.stage.proofs.ends.inflow_top.Statement.{statement}
 use Rattle.stage.proofs.ends.inflow_top.Tie as tie

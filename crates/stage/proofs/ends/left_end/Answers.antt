@@ -6,7 +6,7 @@ use Rattle.whole.specs.Parts.{fit}
 use Rattle.rules.specs.Face.{Side, face}
 use Rattle.rules.specs.Ends.{left_end}
 use Rattle.rules.specs.Laws.Sizes.{Sound}
-use Rattle.rules.specs.Laws.EndSizes.{inflow_most, outer_sound}
+use Rattle.rules.proofs.Laws.EndSizes.{inflow_most, outer_sound}
 use Rattle.reach.specs.Told.{end_in}
 use Rattle.stage.specs.Rows.{side_in}
 use Rattle.stage.proofs.ends.left_end.Goals as goal

@@ -7,7 +7,7 @@ use borrow.Author.Tests.{eq-eqb, ne_eqb}
 use Rattle.whole.specs.Difference.{at, lit, ◌⊟◌, ⊖, eq! }
 use Rattle.whole.specs.Machine.{X, v, k, ◌⊝◌, Entry, need, value, sized}
 use Rattle.rules.specs.Ends.{outer}
-use Rattle.rules.specs.Laws.Sizes.{depth_size}
+use Rattle.rules.proofs.Laws.Sizes.{depth_size}
 use Rattle.stage.proofs.ends.outer.Statement.{statement}
 use Rattle.stage.proofs.ends.outer.Tie as tie
 

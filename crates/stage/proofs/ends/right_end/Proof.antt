@@ -12,7 +12,7 @@ use Rattle.whole.specs.Machine.{X, v, k, ◌⊝◌, Entry, rd, need, value, size
 use Rattle.rules.specs.Face.{face}
 use Rattle.rules.specs.Ends.{right_end}
 use Rattle.rules.specs.Laws.Sizes.{Sound}
-use Rattle.rules.specs.Laws.EndSizes.{inflow_most, outer_sound}
+use Rattle.rules.proofs.Laws.EndSizes.{inflow_most, outer_sound}
 use Rattle.reach.specs.Told.{end_in}
 use Rattle.stage.specs.Rows.{side_in}
 use Rattle.stage.proofs.ends.right_end.Statement.{statement}

@@ -4,7 +4,7 @@ use mir.Facts.{to_z-of_z}
 use Rattle.whole.specs.Parts.{b_nonneg}
 use Rattle.whole.specs.Machine.{back_in}
 use Rattle.rules.specs.Face.{wave}
-use Rattle.rules.specs.Laws.Speeds.{wave≥0, wave_most}
+use Rattle.rules.proofs.Laws.Speeds.{wave≥0, wave_most}
 use Rattle.speeds.specs.Answers.{told, untold}
 use Rattle.speeds.proofs.Fits.{wave_given_lem}
 use Rattle.stage.proofs.ends.wave_of.Goals as goal

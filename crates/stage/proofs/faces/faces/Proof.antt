@@ -4,7 +4,7 @@ use mathlib.Core.List.{[]}
 use Prim.Native.Nat.{suc, ◌+◌, ◌-◌}
 use native.Mathlib.Omega.{arith}
 use borrow.Author.Rules.{rules}
-use Rattle.tables.specs.Filling.{Filling, fill_none, fill_more, fill_stops, fill_ends}
+use Rattle.tables.proofs.Filling.{Filling, fill_none, fill_more, fill_stops, fill_ends}
 use Rattle.rules.specs.Laws.Sizes.{Sized}
 use Rattle.stage.specs.Rows.{flux_in, face_row, long_flux, long_at, face_row_at}
 use Rattle.stage.specs.Laws.Faces.{cross_sized}

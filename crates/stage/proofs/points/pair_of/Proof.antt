@@ -7,7 +7,7 @@ use mir.Facts.{to_z-of_z}
 use borrow.Author.Rules.{rules}
 use Rattle.whole.specs.Machine.{back, back64}
 use Rattle.rules.specs.Stage.{carried}
-use Rattle.rules.specs.Laws.Speeds.{speed_size}
+use Rattle.rules.proofs.Laws.Speeds.{speed_size}
 use Rattle.stage.specs.Rows.{side_by, side_row}
 use Rattle.stage.specs.Laws.Around.{ql_fits, qr_fits}
 use Rattle.stage.proofs.points.pair_of.Statement.{statement}

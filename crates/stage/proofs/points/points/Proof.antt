@@ -7,7 +7,7 @@ use borrow.Author.Rules.{rules}
 use lib.ListN.{get_or}
 use lib.IntN.{ℤ, pos}
 use Rattle.whole.specs.Machine.{back, back64, rd}
-use Rattle.tables.specs.Filling.{Filling, fill_none, fill_more, fill_stops, fill_ends}
+use Rattle.tables.proofs.Filling.{Filling, fill_none, fill_more, fill_stops, fill_ends}
 use Rattle.tables.specs.Cells.{seen}
 use Rattle.rules.specs.Refusals.{fast_points}
 use Rattle.rules.specs.Reach.{bed_at}

@@ -14,7 +14,8 @@ use Rattle.whole.specs.Equal.{eq_z, eq_yes}
 use Rattle.whole.specs.Choice.{within_past}
 use Rattle.whole.specs.Tests.{le_no}
 use Rattle.whole.specs.Machine.{rd, back, back64}
-use Rattle.tables.specs.Cells.{Cell, as_cell, as_list, of_four}
+use Rattle.tables.specs.Cells.{Cell, as_cell, as_list}
+use Rattle.tables.proofs.Cells.{of_four}
 use Rattle.rules.specs.Limits.{least_dry}
 use Rattle.rules.specs.Face.{speed}
 use Rattle.rules.specs.Friction.{drag}
@@ -22,7 +23,7 @@ use Rattle.rules.specs.Reach.{Bed, h0, shallow}
 use Rattle.rules.specs.Step.{rubbed_cell}
 use Rattle.rules.specs.Refusals.{fast_cell}
 use Rattle.rules.specs.AtRest.{Calm}
-use Rattle.rules.specs.Laws.Friction.{drag_nonneg, rubbed_dry, rubbed_calm, rub_wet}
+use Rattle.rules.proofs.Laws.Friction.{drag_nonneg, rubbed_dry, rubbed_calm, rub_wet}
 use Rattle.reach.specs.Told.{bed_in}
 use Rattle.reach.specs.Ranges.{UpTo, DryDepth}
 use Rattle.friction.specs.Given.{strongest}

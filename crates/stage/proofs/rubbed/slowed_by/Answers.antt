@@ -5,7 +5,7 @@ use mir.Facts.{to_z-of_z}
 use Rattle.whole.specs.Parts.{Within}
 use Rattle.whole.specs.Machine.{back_in}
 use Rattle.rules.specs.Friction.{slowed}
-use Rattle.rules.specs.Laws.Friction.{slowed_size}
+use Rattle.rules.proofs.Laws.Friction.{slowed_size}
 use Rattle.speeds.specs.Answers.{told, untold}
 use Rattle.friction.proofs.Fits.{slowed_given_lem}
 use Rattle.stage.proofs.rubbed.slowed_by.Goals as goal

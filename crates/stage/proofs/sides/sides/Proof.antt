@@ -5,7 +5,7 @@ use Prim.Native.Nat.{◌-◌}
 use native.Mathlib.Omega.{arith}
 use borrow.Author.Rules.{rules}
 use Rattle.whole.specs.Machine.{back}
-use Rattle.tables.specs.Filling.{Filling, fill_none, fill_more, fill_stops, fill_ends}
+use Rattle.tables.proofs.Filling.{Filling, fill_none, fill_more, fill_stops, fill_ends}
 use Rattle.tables.specs.Cells.{seen}
 use Rattle.stage.specs.Rows.{sides_at, fast_sides}
 use Rattle.stage.proofs.sides.sides.Statement.{statement}

@@ -3,7 +3,7 @@ use mathlib.Core.Path.{◌≡◌, ◌∙◌, refl}
 use mir.Facts.{to_z-of_z}
 use Rattle.whole.specs.Machine.{back_in}
 use Rattle.rules.specs.Face.{speed}
-use Rattle.rules.specs.Laws.Speeds.{speed_size}
+use Rattle.rules.proofs.Laws.Speeds.{speed_size}
 use Rattle.speeds.specs.Answers.{told, untold}
 use Rattle.speeds.proofs.Fits.{speed_given_lem}
 use Rattle.stage.proofs.sides.speed_of.Goals as goal

@@ -5,9 +5,9 @@ use Prim.Native.Nat.{ℕ, suc, ◌≤◌}
 use native.Mathlib.Omega.{arith}
 use borrow.Author.Rules.{rules}
 use lib.IntN.{ℤ, pos}
-use Rattle.tables.specs.Some.{lowest_past}
+use Rattle.tables.proofs.Some.{lowest_past}
 use Rattle.tables.specs.Rows.{Written}
-use Rattle.tables.specs.Filling.{all_filled}
+use Rattle.tables.proofs.Filling.{all_filled}
 use Rattle.tables.specs.Cells.{seen}
 use Rattle.rules.specs.Reach.{State}
 use Rattle.stage.specs.Rows.{fast_points_at, momentum_at, long_at, face_row_at}

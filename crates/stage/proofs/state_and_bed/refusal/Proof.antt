@@ -11,8 +11,9 @@ use Rattle.tables.specs.Some.{lowest}
 use Rattle.rules.specs.Refusals.{bad_bed, Check, applies, lowest_of, verdict}
 use Rattle.rules.specs.Found.{Found}
 use Rattle.rules.specs.StateAndBed.{cells_over, misfit_state, state_checks, state_refusal}
-use Rattle.rules.specs.Laws.Verdicts.{check_at, of_call_lem, stops_at, passes, none_stops}
-use Rattle.rules.specs.Laws.StateAndBed.{StateFits, state_fits}
+use Rattle.rules.proofs.Laws.Verdicts.{check_at, of_call_lem, stops_at, passes, none_stops}
+use Rattle.rules.specs.Laws.StateAndBed.{StateFits}
+use Rattle.rules.proofs.Laws.StateAndBed.{state_fits}
 use Rattle.reach.specs.Ranges.{Grounds}
 use Rattle.stage.specs.Laws.LentChecks.{grounds}
 use Rattle.stage.proofs.state_and_bed.refusal.Statement.{statement}

@@ -8,7 +8,8 @@ use lib.IntN.{ℤ, pos}
 use lib.Signed.{mag}
 use Rattle.whole.specs.Parts.{mag_abs, b_up}
 use Rattle.whole.specs.Machine.{narrows, narrowed}
-use Rattle.tables.specs.Cells.{as_cell, of_each}
+use Rattle.tables.specs.Cells.{as_cell}
+use Rattle.tables.proofs.Cells.{of_each}
 use Rattle.rules.specs.Limits.{fullest}
 use Rattle.reach.specs.Ranges.{UpTo}
 use borrow.Author.Rules.{rules}

@@ -5,7 +5,8 @@ use native.Mathlib.Omega.{arith}
 use lib.ListN.{length}
 use lib.IntN.{ℤ}
 use Rattle.tables.specs.Columns.{Stores, stores_none}
-use Rattle.tables.specs.Cells.{seen, columns_of, put_cell, length_put_cell, cells_more, cells_all}
+use Rattle.tables.specs.Cells.{seen, columns_of, put_cell}
+use Rattle.tables.proofs.Cells.{length_put_cell, cells_more, cells_all}
 use Rattle.stage.proofs.store.store.Goals as goal
 
 pub loop-i-init : goal.loop-i-init

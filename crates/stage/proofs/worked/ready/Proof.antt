@@ -10,7 +10,7 @@ use lib.IntN.{pos}
 use Rattle.tables.specs.Some.{lowest}
 use Rattle.tables.specs.Cells.{seen}
 use Rattle.rules.specs.Refusals.{bad_bed, bad_rough, Check, applies, lowest_of}
-use Rattle.rules.specs.Laws.Verdicts.{check_at, stops_at, passes, none_stops}
+use Rattle.rules.proofs.Laws.Verdicts.{check_at, stops_at, passes, none_stops}
 use Rattle.reach.specs.Ranges.{Grounds}
 use Rattle.stage.specs.Says.{ready_checks}
 use Rattle.stage.specs.Laws.LentChecks.{grounds, ranged}

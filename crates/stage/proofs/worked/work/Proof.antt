@@ -11,7 +11,7 @@ use Rattle.whole.specs.Machine.{back64, rd}
 use Rattle.rules.specs.Lent.{Lent, misfit, state_of, reach_of, call_of}
 use Rattle.rules.specs.Refusals.{bad_call}
 use Rattle.rules.specs.Found.{found, found_of}
-use Rattle.rules.specs.Laws.Lengths.{Fitted, fitted}
+use Rattle.rules.proofs.Laws.Lengths.{Fitted, fitted}
 use Rattle.reach.specs.Told.{reach_in, call_on}
 use Rattle.stage.specs.Ranges.{InOrder}
 use Rattle.stage.specs.Says.{ready_checks, both_checks}

@@ -1,7 +1,7 @@
 -- The smaller of where the next block begins and where the reach ends.
 use mathlib.Core.Logic.{⊎_elim}
 use native.Mathlib.Omega.{arith}
-use Rattle.rules.specs.Laws.Blocks.{block_end}
+use Rattle.rules.proofs.Laws.Blocks.{block_end}
 use Rattle.sums.proofs.blocks.block_to.Goals as goal
 
 pub returns-then-next-n : goal.returns-then-next-n

@@ -8,7 +8,7 @@ use mir.Val.{to_z, of_z}
 use Rattle.whole.specs.Machine.{read32}
 use Rattle.tables.specs.Rows.{written_none, written_more}
 use Rattle.rules.specs.Sums.{block_sum}
-use Rattle.rules.specs.Laws.Sums.{sums_are}
+use Rattle.rules.proofs.Laws.Sums.{sums_are}
 use Rattle.sums.proofs.filling.fill.Goals as goal
 
 pub loop-k-init : goal.loop-k-init

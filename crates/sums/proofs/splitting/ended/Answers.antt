@@ -1,6 +1,6 @@
 -- All blocks end with the reach; before that, as many as fit whole.
 use native.Mathlib.Omega.{arith}
-use Rattle.rules.specs.Laws.Blocks.{ended_all, ended_part}
+use Rattle.rules.proofs.Laws.Blocks.{ended_all, ended_part}
 use Rattle.sums.proofs.splitting.ended.Goals as goal
 
 pub returns-then-b-n : goal.returns-then-b-n

@@ -1,6 +1,6 @@
 -- The cut of the two faces, with or without a block that lies whole.
 use native.Mathlib.Omega.{arith}
-use Rattle.rules.specs.Laws.Blocks.{cut_some, cut_none}
+use Rattle.rules.proofs.Laws.Blocks.{cut_some, cut_none}
 use Rattle.sums.proofs.splitting.split_between.Goals as goal
 
 pub block_to-requires : goal.block_to-requires
