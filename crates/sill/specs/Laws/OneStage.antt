@@ -16,7 +16,7 @@ use Rattle.rules.specs.Found.{at, found, none}
 use Rattle.rules.specs.Laws.Verdicts.{check_at, stops_at, passes, none_stops}
 use Rattle.sill_rules.specs.Reach as rules
 use Rattle.sill_rules.specs.Reach.{State, over, crest_left, crest_right}
-use Rattle.sill_rules.specs.Step.{rubbed, face_at, stage, next}
+use Rattle.sill_rules.specs.Step.{rubbed, face_at, next}
 use Rattle.sill_rules.specs.Refusals.{off_pool, off, fast_friction, fast_face, too_long}
 use Rattle.sill_rules.specs.Laws.Positive.{Fine, Wet, over≥0, left_shown, right_shown}
 use Rattle.sill_rules.specs.Laws.Speeds.{slow_cells, slow_faces}

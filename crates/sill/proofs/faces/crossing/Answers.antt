@@ -3,9 +3,8 @@ use mathlib.Core.Path.{◌≡◌, sym, ◌∙◌}
 use mir.Facts.{to_z-of_z}
 use Rattle.whole.specs.Parts.{fit, b_nonneg}
 use Rattle.whole.specs.Machine.{back_in}
-use Rattle.rules.specs.Face.{Side, Flux, face}
-use Rattle.rules.specs.Laws.Sizes.{Sound, Sized, depth_size, face_sized}
-use Rattle.speeds.specs.Given.{given}
+use Rattle.rules.specs.Face.{Flux, face}
+use Rattle.rules.specs.Laws.Sizes.{depth_size, face_sized}
 use Rattle.speeds.specs.Answers.{same, never}
 use Rattle.face.specs.Answers.{flux}
 use Rattle.face.proofs.Fits.{face_given_lem}

@@ -1,11 +1,9 @@
 -- Within the limits the crate of speeds answers with the rule's speed.
-use mathlib.Core.Path.{◌≡◌, ◌∙◌, refl}
-use lib.IntN.{ℤ}
+use mathlib.Core.Path.{◌∙◌, refl}
 use mir.Facts.{to_z-of_z}
 use Rattle.whole.specs.Machine.{back_in}
 use Rattle.rules.specs.Face.{speed}
 use Rattle.rules.specs.Laws.Speeds.{speed_size}
-use Rattle.speeds.specs.Given.{given, speed_given}
 use Rattle.speeds.specs.Answers.{told, untold}
 use Rattle.speeds.proofs.Fits.{speed_given_lem}
 use Rattle.sill.proofs.pool.speed_of.Goals as goal

@@ -7,7 +7,7 @@ use borrow.Author.Rules.{rules}
 use borrow.Author.Tests.{eq-eqb}
 use lib.IntN.{ℤ, pos}
 use lib.ListN.{length}
-use lib.Signed.{le_z, mag, ◌<ℤ◌, ◌≤ℤ◌}
+use lib.Signed.{le_z, mag, ◌<ℤ◌}
 use mir.Facts.{to_z-of_z, sfits_lit}
 use Rattle.std.proofs.Common.{SFits}
 use Rattle.std.specs.Int.{w64}
@@ -25,7 +25,6 @@ use Rattle.reach.specs.Ranges.{UpTo, DryDepth}
 use Rattle.sill_rules.specs.Reach.{depth, shallow, pace}
 use Rattle.sill_rules.specs.Step.{rubbed_pool}
 use Rattle.sill_rules.specs.Refusals.{fast_pool}
-use Rattle.sill.specs.Ranges.{Inside}
 use Rattle.sill.specs.Laws.PoolSizes.{pool_sizes, pool_wide}
 use Rattle.sill.proofs.rubbing.rubbed_pool.Goals as goal
 use Rattle.sill.proofs.rubbing.rubbed_pool.Goals.{then-h-call-via-then-h-call, then-h-call-via-else-h-call+then-x-eq0}
@@ -81,8 +80,8 @@ returns-then-h-call c =
     let q = fit (pool_sizes c.requires.inside).flow tt in
     of_two a.x two
     ∙ sym (ap as_row (left call.dt call.dry a.f a.z x (elim c.then-h-call.branch [
-      then-h-call-via-then-h-call w ↦ dry_left call.dt call.dry a.f a.z x (test_is c.depth_of-h.result call.dry a.z x h dry ∙ w.if-h-call.true)
-    | then-h-call-via-else-h-call+then-x-eq0 w ↦ calm_left call.dt call.dry a.f a.z x (eq_yes x.q (pos 0)
+      | then-h-call-via-then-h-call w ↦ dry_left call.dt call.dry a.f a.z x (test_is c.depth_of-h.result call.dry a.z x h dry ∙ w.if-h-call.true)
+      | then-h-call-via-else-h-call+then-x-eq0 w ↦ calm_left call.dt call.dry a.f a.z x (eq_yes x.q (pos 0)
           (sym (same_test {a = x.q} q (sfits_lit tt)) ∙ eq-eqb _ _ w.if-x-eq0.true))
     ])))
 

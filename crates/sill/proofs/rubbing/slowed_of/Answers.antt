@@ -1,11 +1,10 @@
 -- Within the limits the crate of friction answers with the rule's numbers, both times.
 use mathlib.Core.Path.{◌≡◌, ◌∙◌, refl}
-use Prim.Native.Nat.{◌≤◌}
-use lib.IntN.{ℤ, pos, nat_abs}
+use lib.IntN.{ℤ, pos}
 use lib.Signed.{◌≤ℤ◌, ◌<ℤ◌}
 use mir.Facts.{to_z-of_z}
 use Rattle.std.proofs.Math.Nat as NatL
-use Rattle.whole.specs.Parts.{Within, lt_le, le_lt_trans, le_lit}
+use Rattle.whole.specs.Parts.{lt_le, le_lt_trans, le_lit}
 use Rattle.whole.specs.Machine.{back_in, rd}
 use Rattle.rules.specs.Limits.{least_dry, deepest, fastest, fullest, roughest, longest_step}
 use Rattle.rules.specs.Friction.{drag, slowed}

@@ -6,7 +6,7 @@ use lib.Signed.{◌<ℤ◌}
 use Rattle.std.proofs.Common.{SFits}
 use Rattle.std.specs.Int.{w64}
 use Rattle.whole.specs.Parts.{of_lt}
-use Rattle.whole.specs.Difference.{at, lit, ◌⊠◌, lt!}
+use Rattle.whole.specs.Difference.{at, lit, ◌⊠◌, lt! }
 use Rattle.whole.specs.Machine.{X, v, k, ◌⊗◌, ◌⊘◌, Entry, entry, sized, need, value, divisor}
 use Rattle.reach.specs.Ranges.{UpTo}
 use Rattle.sill.specs.declared.rows.Call.{Call}
