@@ -24,8 +24,8 @@ short h = max_z (pos 0) (neg_ℤ h)
 unfoldable pub depth : ℤ → ℤ
 depth h = h +ℤ short h
 
-unfoldable pub ground : ℤ → ℤ → ℤ
-ground z h = z -ℤ short h
+unfoldable pub grounded : ℤ → ℤ → ℤ
+grounded z h = z -ℤ short h
 
 -- the sides
 unfoldable pub side_l : ℤ → Bed → Cell → Side
@@ -36,7 +36,7 @@ side_r d b x = record { h = depth (hr b x); u = speed d (qr x) (depth (hr b x)) 
 
 -- E, and the discharge's mean after a stage
 unfoldable pub push : Bed → Cell → Flux → Flux → ℤ
-push b x l f = l.K -ℤ f.K -ℤ (depth (hr b x) +ℤ depth (hl b x)) *ℤ (ground b.zr (hr b x) -ℤ ground b.zl (hl b x))
+push b x l f = l.K -ℤ f.K -ℤ (depth (hr b x) +ℤ depth (hl b x)) *ℤ (grounded b.zr (hr b x) -ℤ grounded b.zl (hl b x))
 
 unfoldable pub update : ℤ → ℤ → ℤ → Bed → Cell → Flux → Flux → Cell
 update dx dt d b x l f = let y = rules.update dx dt d b x l f in record {

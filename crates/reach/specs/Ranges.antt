@@ -53,7 +53,7 @@ Wides n s = (i : ℕ) → i < n → Wide (s i)
 
 -- an unfinished cell over its bed, and an unfinished state of n cells
 pub record Unfinished (b : Bed) (x : Cell) : Type 0 where
-  pub ground : Ground b
+  pub grounded : Ground b
   pub wide : Wide x
 
 abbrev pub AllUnfinished : List ℤ → ℕ → State → Type 0

@@ -52,7 +52,7 @@ Grounds bed n = (i : ℕ) → i < n → UpTo highest_bed (get_or bed i (pos 0))
 
 -- a cell in range over its bed z
 pub record Inside (z : ℤ) (x : Pool) : Type 0 where
-  pub ground : UpTo highest_bed z
+  pub grounded : UpTo highest_bed z
   pub range : off_pool z x ≡ false
 
 -- the cells of a lent state, and their friction, that passed checks 5 and 4

@@ -2,6 +2,7 @@
 // and no slopes. It checks all that it is lent, and `next` is written only when nothing can stop the step
 // any more.
 #![tactic(auto)]
+
 mod checks;
 mod crests;
 mod faces;

@@ -79,7 +79,7 @@ pub record InOrder (reach : Reach) (call : Call) (bed : List ℤ) : Type 0 where
 -- ---- cells
 -- a cell in range over its bed, and a state of n cells
 pub record Inside (b : rules.Bed) (x : Cell) : Type 0 where
-  pub ground : Ground b
+  pub grounded : Ground b
   pub range : off_cell b x ≡ false
 
 abbrev pub Ranged : List ℤ → ℕ → rules.State → Type 0

@@ -15,7 +15,7 @@ use reach::limits::{DEEPEST, FASTEST, FULLEST, outside, past};
 
 // The mean depth h0 and the depth's slope h1.
 pub fn depths(b: Bed, x: Cell) -> [i64; 2]
-    requires ground { Ground (bed_in b) }
+    requires grounded { Ground (bed_in b) }
     requires wide { Wide (as_cell x) }
     ensures { result ≡ h0 (bed_in b) (as_cell x) ∷ h1 (bed_in b) (as_cell x) ∷ [] }
 {
@@ -46,7 +46,7 @@ fn off_flows(m: i64, s: i64) -> bool
 
 // Is the cell out of range: a face depth or a face discharge?
 pub fn off_cell(b: Bed, x: Cell) -> bool
-    requires ground { Ground (bed_in b) }
+    requires grounded { Ground (bed_in b) }
     requires wide { Wide (as_cell x) }
     ensures { result ≡ off_cell (bed_in b) (as_cell x) }
 {

@@ -15,7 +15,7 @@ use Rattle.rules.specs.Lent.{Lent, cells_of, reach_of, call_of}
 use Rattle.rules.proofs.Laws.Positive.{Nonneg, rubbed_wet}
 use Rattle.before.specs.E7 as E7
 use Rattle.before.specs.E7.{state_of}
-use Rattle.before.specs.E6.{short, depth, ground, side_l, side_r, push, update, parts, step_of, checks_to_five, checks_of_one, stage_one}
+use Rattle.before.specs.E6.{short, depth, grounded, side_l, side_r, push, update, parts, step_of, checks_to_five, checks_of_one, stage_one}
 use Rattle.before.proofs.Laws.Parts.{AsInForce, wet_now, wet_one, as_before}
 
 -- ---- the shortfall is nought
@@ -45,8 +45,8 @@ module _ (h : ℤ) (k : pos 0 ≤ℤ h) where
   unfolding depth
   depth_is = rw (no_short h k) (plus_none h)
 
-  ground_is : (z : ℤ) → ground z h ≡ z
-  unfolding ground
+  ground_is : (z : ℤ) → grounded z h ≡ z
+  unfolding grounded
   ground_is z = rw (no_short h k) (plus_none z)
 
 push_is : (b : Bed) (x : Cell) → Nonneg b x → (l f : Flux) → push b x l f ≡ rules.push b x l f

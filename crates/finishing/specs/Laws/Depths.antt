@@ -10,14 +10,14 @@ use Rattle.rules.specs.Limits.{highest_bed}
 use Rattle.reach.specs.Ranges.{UpTo, widest}
 use Rattle.finishing.specs.Depths.{widest_depth}
 
-module _ {level ground found : ℤ} (w : UpTo widest level) (g : UpTo highest_bed ground) (e : found ≡ ground) where
+module _ {level grounded found : ℤ} (w : UpTo widest level) (g : UpTo highest_bed grounded) (e : found ≡ grounded) where
   abbrev both : List Entry
   both = entry (fit w tt) w ∷ entry (fit g tt) g ∷ []
 
   pub depth_fits_lem : SFits w64 (rd level -ℤ rd found)
   depth_fits_lem = subst (λ (z : ℤ). SFits w64 (rd level -ℤ rd z)) (sym e) (need both (v 0 ⊝ v 1) tt)
 
-  pub depth_is : rd (rd level -ℤ rd found) ≡ level -ℤ ground
+  pub depth_is : rd (rd level -ℤ rd found) ≡ level -ℤ grounded
   depth_is = ap (λ (z : ℤ). rd (rd level -ℤ rd z)) e ∙ value both (v 0 ⊝ v 1) tt
 
 -- there `-x` is 0 - x

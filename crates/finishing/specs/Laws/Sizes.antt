@@ -77,11 +77,11 @@ z1_size b g = b_quot_by (pos 2) (b_sub g.zr g.zl)
 
 pub h0_size : (b : Bed) (x : Cell) → Unfinished b x → UpTo widest_depth (h0 b x)
 unfolding h0
-h0_size b x u = b_sub u.wide.e0 (z0_size b u.ground)
+h0_size b x u = b_sub u.wide.e0 (z0_size b u.grounded)
 
 pub h1_size : (b : Bed) (x : Cell) → Unfinished b x → UpTo widest_depth (h1 b x)
 unfolding h1
-h1_size b x u = b_sub u.wide.e1 (z1_size b u.ground)
+h1_size b x u = b_sub u.wide.e1 (z1_size b u.grounded)
 
 pub clip_size : {A : ℕ} (m x : ℤ) → Within A m → Within A x → Within A (clipped m x)
 unfolding clipped

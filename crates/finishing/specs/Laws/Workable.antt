@@ -39,13 +39,13 @@ module _ (b : Bed) (x : Cell) where
       let level = both_in (nat_abs widest) x.e0 x.e1 (none 1) in
       let flow = both_in (nat_abs widest) x.q0 x.q1 (none 2) in
       record {
-        ground = record { zl = bed.0; zr = bed.1 };
+        grounded = record { zl = bed.0; zr = bed.1 };
         wide = record { e0 = level.0; e1 = level.1; q0 = flow.0; q1 = flow.1 };
       }
 
   not_large : Unfinished b x → too_large b x ≡ false
   unfolding too_large any
-  not_large r = let g = r.ground in let w = r.wide in rw (in_both g.zl g.zr, in_both w.e0 w.e1, in_both w.q0 w.q1)
+  not_large r = let g = r.grounded in let w = r.wide in rw (in_both g.zl g.zr, in_both w.e0 w.e1, in_both w.q0 w.q1)
 
 -- ---- a table, and one with that much room to finish it in
 pub record Workable (reach : Reach) (call : Call) (bed : List ℤ) (u : List (List ℤ)) (room : ℕ) : Type 0 where

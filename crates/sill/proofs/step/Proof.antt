@@ -100,10 +100,10 @@ module _ (e : tie.Else-bad_numbers) where
   abbrev start : tie.Start
   start = s (fit m)
 
-  asked : let p = start.args in Numbers (call m) × Lengths (call m) p.state.now p.next-1.now p.bed.now p.friction.now
+  asked : let p = start.args in Numbers (call m) × Lengths (call m) p.state.now p.next.now p.bed.now p.friction.now
   asked = let p = start.args in let f = fits (fit m) in let rough : ℕ → ℤ = λ i. pos (get_or p.friction.now i 0) in (
     numbers (call m) p.bed.now rough f.some f.most (sym (m.bad_numbers.ensures p.bed.now rough) ∙ e.if-bad_numbers.false),
-    record { state_is = f.now; next_is = f.next-1; bed_is = f.beds; friction_is = refl },
+    record { state_is = f.now; next_is = f.next; bed_is = f.beds; friction_is = refl },
   )
 
   outcome_is : let p = start.args in tables_outcome (call m) p.bed.now p.friction.now p.state.now ≡ step_of (lent start)

@@ -13,13 +13,13 @@ use Rattle.sill.specs.declared.rows.Call.{Call}
 use Rattle.sill.specs.Told.{reach_in}
 use Rattle.sill.specs.Ranges.{Grounds}
 
-module _ (call : Call) (bed : List ℤ) (ground : Grounds bed call.n) where
+module _ (call : Call) (bed : List ℤ) (grounded : Grounds bed call.n) where
   pub left_size : (i : ℕ) → i < call.n → UpTo highest_bed (crest_left (reach_in call bed) i)
   unfolding crest_left higher
-  left_size zero l = ground zero l
-  left_size (suc i) l = b_max _ _ (ground i (omega arith)) (ground (suc i) l)
+  left_size zero l = grounded zero l
+  left_size (suc i) l = b_max _ _ (grounded i (omega arith)) (grounded (suc i) l)
 
   pub right_size : (i : ℕ) → i < call.n → UpTo highest_bed (crest_right (reach_in call bed) i)
   unfolding crest_right higher
-  right_size i l = by (eqb (suc i) call.n) (λ e. rw e (ground i l))
-      (λ e. rw e (b_max _ _ (ground i l) (ground (suc i) (inside i call.n l e))))
+  right_size i l = by (eqb (suc i) call.n) (λ e. rw e (grounded i l))
+      (λ e. rw e (b_max _ _ (grounded i l) (grounded (suc i) (inside i call.n l e))))

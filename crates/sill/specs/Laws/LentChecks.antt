@@ -60,6 +60,6 @@ module _ (n : ℕ) (bed : List ℤ) (friction : List ℕ) (state : List ℤ) (cl
 
   pub lent_ranged : Ranged bed n state
   lent_ranged i l = record {
-    ground = lent_grounds i l;
+    grounded = lent_grounds i l;
     range = some_none (λ i. off_pool (get_or bed i (pos 0)) (pool_in n state i)) n (passed 2) i l;
   }

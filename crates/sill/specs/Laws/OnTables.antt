@@ -4,7 +4,6 @@ use Rattle.std.specs.Prelude.{◌≡◌, List, [], ◌++◌, ℕ, ◌<◌, get_o
 use Rattle.std.proofs.Math.Path.{sym, ap}
 use Rattle.std.proofs.Common.{◌∙◌, arith}
 use Rattle.tables.specs.Pools.{as_pool, pools_seen, pool_in, pool_table, length_pools, pool_in_table, pools_are}
-use Rattle.rules.specs.Shown.{volume}
 use Rattle.rules.specs.Refusals.{Check}
 use Rattle.rules.specs.Found.{Found, found}
 use Rattle.rules.specs.Lent.{Outcome, refused}

@@ -18,7 +18,7 @@ use Rattle.rules.specs.Found.{at, found, none}
 use Rattle.rules.proofs.Laws.Verdicts.{check_at, stops_at, passes, none_stops}
 use Rattle.sill_rules.specs.Reach as rules
 use Rattle.sill_rules.specs.Reach.{State, over, crest_left, crest_right}
-use Rattle.sill_rules.specs.Step.{rubbed, face_at, stage, next}
+use Rattle.sill_rules.specs.Step.{rubbed, face_at, next}
 use Rattle.sill_rules.specs.Refusals.{off_pool, off, fast_friction, fast_face, too_long}
 use Rattle.sill_rules.proofs.Laws.Positive.{Fine, Wet, over≥0, left_shown, right_shown}
 use Rattle.sill_rules.proofs.Laws.Speeds.{slow_cells, slow_faces}
@@ -137,5 +137,5 @@ module _ (call : Call) (num : Numbers call) (bed : List ℤ) (friction : List �
               stage_done = record {
                 faces = λ i l. written i l ∙ ap (face_row call.dx call.dt) (face_is i l);
                 pools = λ i l. end.up_to i l (omega arith) ∙ ap as_row (next_is i l);
-                fits = λ i l. pool_fits (record { ground = (lent i l).ground; range = some_none (off r (next r c s)) n in_range i l });
+                fits = λ i l. pool_fits (record { grounded = (lent i l).grounded; range = some_none (off r (next r c s)) n in_range i l });
               }

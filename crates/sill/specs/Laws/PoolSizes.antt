@@ -37,7 +37,7 @@ pool_sizes {z} {x} i =
     record {
       least = low;
       most = high;
-      level = subst (UpTo highest_level) (eq! (at x.e ⊟ at z ⊞ at z) (at x.e) (omega arith)) (b_add (b_nonneg low high) i.ground);
+      level = subst (UpTo highest_level) (eq! (at x.e ⊟ at z ⊞ at z) (at x.e) (omega arith)) (b_add (b_nonneg low high) i.grounded);
       flow = within_past 8388608 x.q (fails 1);
     }
 
@@ -55,7 +55,7 @@ rubbed_inside dt d f z x p l i =
     let size = after_size dt d f h x.q x.q p l in
     let small = not_beyond 8388608 (rubbed_pool dt d f z x).q
     (record { abs = NatL.le_trans size (within_past 8388608 x.q (fails 1)).abs }) in
-    record { ground = i.ground; range = rw (fails 0, small) }
+    record { grounded = i.grounded; range = rw (fails 0, small) }
 
 -- ---- a cell after the stage, from its row x and the rows l and f of its faces
 module _ {x l f : List ℤ} (r : Row x) (p : FaceRow l) (q : FaceRow f) where

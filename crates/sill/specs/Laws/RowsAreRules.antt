@@ -7,7 +7,6 @@ use mathlib.Core.List.{List, []}
 use Prim.Native.Nat.{ℕ, suc, ◌<◌}
 use Rattle.std.proofs.Math.ListN.{get_or}
 use Rattle.tables.specs.Rows.{Written}
-use Rattle.tables.specs.Pools.{Pool}
 use Rattle.rules.specs.Face.{Flux}
 use Rattle.rules.specs.Shown.{cross_at}
 use Rattle.rules.proofs.Laws.Shown.{at_same}

@@ -88,7 +88,7 @@ pub cell_sizes : {b : Bed} {x : Cell} → Inside b x → CellSizes b x
 unfolding h0 h1
 cell_sizes {b} {x} i =
     let f = faces_of (in_range b x i.range) in
-    let mid = z0_size b i.ground in let tilt = z1_size b i.ground in
+    let mid = z0_size b i.grounded in let tilt = z1_size b i.grounded in
     let e0 : UpTo highest_level x.e0 = subst (UpTo highest_level) (back x.e0 (z0 b)) (b_add (mean_size f) mid) in
     let e1 : UpTo steepest_level x.e1 = subst (UpTo steepest_level) (back x.e1 (z1 b)) (b_add (slope_size f) tilt) in
     let q0 = flow_mean x.q0 x.q1 f.ql f.qr in let q1 = flow_slope x.q0 x.q1 f.ql f.qr in

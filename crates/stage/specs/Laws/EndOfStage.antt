@@ -23,7 +23,7 @@ use Rattle.stage.specs.Laws.StateSizes.{small_wide, finish_wide}
 
 -- what a stage leaves can be finished
 pub unfinished : (bed : List ℤ) (n : ℕ) (s : State) → Grounds bed n → Smalls n s → AllUnfinished bed n s
-unfinished bed n s g w i l = record { ground = g i l; wide = small_wide (w i l) }
+unfinished bed n s g w i l = record { grounded = g i l; wide = small_wide (w i l) }
 
 -- a table b that finishing filled from u
 module _ {reach : ToldReach} {call : ToldCall} {bed : List ℤ} {u : List (List ℤ)} {done : Bool} {old b : List (List ℤ)}
@@ -41,7 +41,7 @@ module _ {reach : ToldReach} {call : ToldCall} {bed : List ℤ} {u : List (List 
   pub finished_wide : Grounds bed reach.n → Smalls reach.n (seen u) → AllUnfinished bed reach.n (seen b)
   unfolding finish
   finished_wide g w i l = record {
-    ground = g i l;
+    grounded = g i l;
     wide = subst (λ (m : List ℤ). Wide (as_cell m)) (sym (filled i l)) (finish_wide r c (seen u) i (bed_at bed i) (g i l) (w i l));
   }
 
@@ -66,7 +66,7 @@ unfolding off
 end_ranged reach call bed ρ {v} says z g i l =
     let r = reach_in reach bed in let t = finish r (call_on call ρ) v in let check = range_check r t in
     record {
-      ground = g i l;
+      grounded = g i l;
       range = ap (λ (m : List ℤ). off_cell (bed_at bed i) (as_cell m)) (says.cells i l)
           ∙ some_none (off r t) reach.n (clear_at check (clear_found check tt says.found z) 0) i l;
     }

@@ -25,7 +25,7 @@ rubbed_inside dt d f b x p l i =
     let u : nat_abs y.q0 ≤ nat_abs x.q0 = rub_size dt d f b x x.q0 p l in
     let v : nat_abs y.q1 ≤ nat_abs x.q1 = rub_size dt d f b x x.q1 p l in
     record {
-      ground = i.ground;
+      grounded = i.grounded;
       range = range_in b y (record {
         left = g.left;
         right = g.right;

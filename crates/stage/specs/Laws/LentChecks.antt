@@ -31,7 +31,7 @@ grounds n bed e i l = record { zl = value i (omega arith); zr = value (suc i) (o
         (or_l (outside (pos 0) highest_bed z) (not (eqb (nat_abs z % 2) 0)) (some_none (λ i. bad_bed (get_or bed i (pos 0))) (suc n) e j m))
 
 pub ranged : (n : ℕ) (bed : List ℤ) (s : State) → Grounds bed n → some (λ i. off_cell (bed_at bed i) (s i)) n ≡ false → Ranged bed n s
-ranged n bed s g e i l = record { ground = g i l; range = some_none (λ i. off_cell (bed_at bed i) (s i)) n e i l }
+ranged n bed s g e i l = record { grounded = g i l; range = some_none (λ i. off_cell (bed_at bed i) (s i)) n e i l }
 
 slows : (dry : ℤ) (n : ℕ) (bed : List ℤ) (friction : List ℕ) (s : State) → some (λ i. bad_rough (pos (get_or friction i 0))) n ≡ false
     → some (λ i. fast_cell dry (bed_at bed i) (s i)) n ≡ false → Slows dry friction bed n s

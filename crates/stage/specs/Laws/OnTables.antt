@@ -115,7 +115,7 @@ module _
         pub both_fits : AllFit n (seen b)
         unfolding off
         both_fits i l =
-            let k = cell_sizes (record { ground = (loaded_ranged i l).ground; range = some_none (off r (next r c s)) n in_range i l }) in
+            let k = cell_sizes (record { grounded = (loaded_ranged i l).grounded; range = some_none (off r (next r c s)) n in_range i l }) in
             subst Fits (sym (shown i l)) (record { e0 = k.e0; e1 = b_up 1310720 k.e1 tt; q0 = k.q0; q1 = k.q1 })
 
         pub both_done : (old : List ℤ) {new : List ℤ} {w v : ℤ} → new ≡ table_of n (seen b) → w ≡ volume_at f x 0 → v ≡ volume_at f x n

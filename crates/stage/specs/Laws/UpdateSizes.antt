@@ -53,8 +53,8 @@ module _ {b : Bed} {x : Cell} (i : Inside b x) where
       record {
         mean = b_nonneg k.mean k.mean_most;
         slope = k.slope;
-        zl_in = i.ground.zl;
-        zr_in = i.ground.zr;
+        zl_in = i.grounded.zl;
+        zr_in = i.grounded.zr;
         kl_in = p;
         kr_in = q;
       }

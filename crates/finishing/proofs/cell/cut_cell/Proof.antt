@@ -36,7 +36,7 @@ z0-requires : tie.Need-z0-requires
 z0-requires c κs = search rules
 
 overflow_sub-mean : tie.Need-overflow_sub-mean
-overflow_sub-mean c = let s = start c in depth_fits_lem s.requires.wide.e0 (z0_size (bed s) s.requires.ground) c.z0.ensures
+overflow_sub-mean c = let s = start c in depth_fits_lem s.requires.wide.e0 (z0_size (bed s) s.requires.grounded) c.z0.ensures
 
 bounds-x-1 : tie.Need-bounds-x-1
 bounds-x-1 c = search rules
@@ -44,16 +44,16 @@ bounds-x-1 c = search rules
 overflow_sub-slope : tie.Need-overflow_sub-slope
 overflow_sub-slope c =
     let a = c.before in let s = start a in
-    depth_fits_lem s.requires.wide.e1 (z1_size (bed s) s.requires.ground) a.before.before.z1-tilt.ensures
+    depth_fits_lem s.requires.wide.e1 (z1_size (bed s) s.requires.grounded) a.before.before.z1-tilt.ensures
 
 -- ---- the mean depth and the depth's slope
 mean : (c : tie.After-z0) → let s = start c in rd (rd (cell s).e0 -ℤ rd c.z0.result) ≡ h0 (bed s) (cell s)
 unfolding h0
-mean c = let s = start c in depth_is s.requires.wide.e0 (z0_size (bed s) s.requires.ground) c.z0.ensures
+mean c = let s = start c in depth_is s.requires.wide.e0 (z0_size (bed s) s.requires.grounded) c.z0.ensures
 
 slope : (c : tie.After-z0) → let s = start c in rd (rd (cell s).e1 -ℤ rd c.before.before.z1-tilt.result) ≡ h1 (bed s) (cell s)
 unfolding h1
-slope c = let s = start c in depth_is s.requires.wide.e1 (z1_size (bed s) s.requires.ground) c.before.before.z1-tilt.ensures
+slope c = let s = start c in depth_is s.requires.wide.e1 (z1_size (bed s) s.requires.grounded) c.before.before.z1-tilt.ensures
 
 clip-requires : tie.Need-clip-requires
 clip-requires c κs = let a = c.before in let s = start a in rw (mean a) (h0_size (bed s) (cell s) s.requires)
@@ -69,7 +69,7 @@ cut_to c =
     }
 
 tilt : (c : tie.After-z1-tilt) → Got (nat_abs highest_bed) (rd c.z1-tilt.result) (z1 (bed c.before))
-tilt c = let s = c.before in record { same = back64 c.z1-tilt.type_inv c.z1-tilt.ensures; bound = z1_size (bed s) s.requires.ground }
+tilt c = let s = c.before in record { same = back64 c.z1-tilt.type_inv c.z1-tilt.ensures; bound = z1_size (bed s) s.requires.grounded }
 
 overflow_add-e1 : tie.Need-overflow_add-e1
 overflow_add-e1 c = g_fits (g_add (cut_to c) (tilt c.before.before.before.before)) tt

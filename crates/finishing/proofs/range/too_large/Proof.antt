@@ -28,14 +28,14 @@ either_past-requires : tie.Need-either_past-requires
 either_past-requires c κs = search rules
 
 -- what the test of the bed says,
-ground : (c : tie.After-either_past) → let b = (start c).args.b in either_past highest_bed b.zl b.zr ≡ c.either_past.result
-ground c =
+grounded : (c : tie.After-either_past) → let b = (start c).args.b in either_past highest_bed b.zl b.zr ≡ c.either_past.result
+grounded c =
     let b = (start c).args.b in
     sym (c.either_past.ensures ∙ ap₂ (either_past highest_bed) (widened {z = b.zl} (omega arith)) (widened {z = b.zr} (omega arith)))
 
 returns-then-either_past : tie.Need-returns-then-either_past
 unfolding too_large any
-returns-then-either_past c = rw (ground c.before ∙ c.if-either_past.true)
+returns-then-either_past c = rw (grounded c.before ∙ c.if-either_past.true)
 
 bounds-x-0 : tie.Need-bounds-x-0
 bounds-x-0 c = search rules
@@ -58,7 +58,7 @@ returns-then-either_past-2 : tie.Need-returns-then-either_past-2
 unfolding too_large any
 returns-then-either_past-2 c =
     let p = c.before in let e = p.before.before.before in
-    rw (ground e.before ∙ e.if-either_past.false, level p ∙ c.if-either_past-2.true)
+    rw (grounded e.before ∙ e.if-either_past.false, level p ∙ c.if-either_past-2.true)
 
 bounds-x-2 : tie.Need-bounds-x-2
 bounds-x-2 c = search rules
@@ -75,7 +75,7 @@ returns c =
     let q = c.before in let p = q.before in let f = p.before in let l = f.before in let e = l.before.before.before in
     let x = cell e.before in
     let q0 = back {z = x.q0} p.either_past-arg-3-1.given in let q1 = back {z = x.q1} q.either_past-arg-4-1.given in
-    rw (ground e.before ∙ e.if-either_past.false, level l ∙ f.if-either_past-2.false) (c.either_past-3.ensures ∙ ap₂ (either_past widest) q0 q1 ∙ or_last _)
+    rw (grounded e.before ∙ e.if-either_past.false, level l ∙ f.if-either_past-2.false) (c.either_past-3.ensures ∙ ap₂ (either_past widest) q0 q1 ∙ or_last _)
 
 pub too_large_spec : {M : Type 1} → statement M
 too_large_spec =

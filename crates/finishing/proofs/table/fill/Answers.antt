@@ -14,7 +14,7 @@ pub finished-requires : goal.finished-requires
 finished-requires c =
     let p = c.requires in record {
       row = record { below = c.loop-i-test.true; room = p.n_in_bounds.0; wide = λ k h. (p.all_unfinished k h).wide };
-      grounds = λ k h. (p.all_unfinished k h).ground;
+      grounds = λ k h. (p.all_unfinished k h).grounded;
     }
 
 pub loop-i-preserved : goal.loop-i-preserved

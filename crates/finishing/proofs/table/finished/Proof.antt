@@ -21,8 +21,8 @@ limit-requires : tie.Need-limit-requires
 limit-requires c κs = search rules
 
 -- the bed of the cell
-ground : (c : tie.After-under-b) → Ground (bed_in c.under-b.result)
-ground c = let s = c.before in subst Ground (sym c.under-b.ensures) (s.requires.grounds s.args.i s.requires.row.below)
+grounded : (c : tie.After-under-b) → Ground (bed_in c.under-b.result)
+grounded c = let s = c.before in subst Ground (sym c.under-b.ensures) (s.requires.grounds s.args.i s.requires.row.below)
 
 -- the cell as the limiter leaves it, of which any friction tells
 limit_in : (c : tie.After-limit) → Wide (as_cell c.limit.result)
@@ -33,13 +33,13 @@ limit_in c =
     (limit_wide (reach_in s.args.reach z) (call_on s.args.call smooth) (seen s.args.u.now) i (t.wide i t.below))
 
 cut_cell-requires : tie.Need-cut_cell-requires
-cut_cell-requires c κs = record { ground = ground c.before; wide = limit_in c }
+cut_cell-requires c κs = record { grounded = grounded c.before; wide = limit_in c }
 
 dried_cell-requires : tie.Need-dried_cell-requires
 unfolding cut
 dried_cell-requires c κs =
     let k = c.before in let l = k.before in
-    (ground l.before, subst (λ (x : List ℤ). UpTo widest (as_cell x).e0) (sym k.cut_cell.ensures) (limit_in l).e0)
+    (grounded l.before, subst (λ (x : List ℤ). UpTo widest (as_cell x).e0) (sym k.cut_cell.ensures) (limit_in l).e0)
 
 returns : tie.Need-returns
 unfolding finish

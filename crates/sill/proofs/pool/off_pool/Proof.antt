@@ -17,7 +17,7 @@ depth_of-requires : tie.Need-depth_of-requires
 depth_of-requires c κs = rw (to_z-of_z c.ranges.z) c.requires
 
 deep_test : (c : tie.After-outside) → let a = c.args in
-    outside (pos 0) deepest (depth a.z (as_pool a.t2)) ≡ c.outside.result
+    outside (pos 0) deepest (depth a.z (as_pool a.x)) ≡ c.outside.result
 deep_test c = let d = c.before in let s = d.before in
     sym (c.outside.ensures
     ∙ ap (outside (pos 0) deepest) (back64 d.depth_of.type_inv (rw (to_z-of_z s.ranges.z) at d.depth_of.ensures)))

@@ -67,7 +67,7 @@ module _ (b : tie.After-bed_at) where
   z_is = back64 b.bed_at.type_inv b.bed_at.ensures
 
 depth_of-requires : tie.Need-depth_of-requires
-depth_of-requires c κs = let i = inside (start c) in rw (z_is c) (i.ground, pool_wide i)
+depth_of-requires c κs = let i = inside (start c) in rw (z_is c) (i.grounded, pool_wide i)
 
 module _ (d : tie.After-depth_of) where
   h_is : let s = start d.before in rd d.depth_of.result ≡ depth (get_or (bed s) s.args.i (pos 0)) (pool s)

@@ -2,7 +2,7 @@
 use mathlib.Core.Path.{◌≡◌, refl, sym, ◌∙◌, ap, subst}
 use mathlib.Core.Bool.{Bool, false}
 use mathlib.Core.List.{List, []}
-use Prim.Native.Nat.{ℕ, ◌-◌, ◌≤◌, ◌<◌}
+use Prim.Native.Nat.{ℕ, ◌-◌, ◌<◌}
 use native.Mathlib.Omega.{arith}
 use borrow.Author.Rules.{rules}
 use lib.ListN.{get_or, length, length-set}
@@ -76,7 +76,7 @@ module _ (a : tie.After-speed_of-arg-1 invariant-loop decreases-loop) where
 
 depth_of-requires : tie.Need-depth_of-requires invariant-loop decreases-loop
 depth_of-requires c κs = (
-  subst (UpTo highest_bed) (sym (z_is c)) (inside c).ground,
+  subst (UpTo highest_bed) (sym (z_is c)) (inside c).grounded,
   subst Wide (sym (cell_is c)) (pool_wide (inside c)),
 )
 

@@ -33,7 +33,7 @@ module _ (s : tie.Start) where
   inside = s.requires.1.1.0
 
 depth_of-h-requires : tie.Need-depth_of-h-requires
-depth_of-h-requires c κs = rw (to_z-of_z c.ranges.z) ((inside c).ground, pool_wide (inside c))
+depth_of-h-requires c κs = rw (to_z-of_z c.ranges.z) ((inside c).grounded, pool_wide (inside c))
 
 -- ---- what the two tests say
 module _ (k : tie.After-struct_told-1) where

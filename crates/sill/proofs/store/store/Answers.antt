@@ -1,5 +1,5 @@
 use mathlib.Core.Path.{◌≡◌, sym, ap, subst, ◌∙◌}
-use Prim.Native.Nat.{◌+◌, ◌-◌}
+use Prim.Native.Nat.{◌+◌}
 use native.Mathlib.Omega.{arith}
 use mathlib.Core.List.{List}
 use lib.ListN.{length}
@@ -21,18 +21,18 @@ pub loop-i-preserved : goal.loop-i-preserved
 loop-i-preserved c =
     let b = c.before in let l = b.loop-i in let s = b.before.before.before.before.before in
     let n = s.args.n in let y = pools_seen s.args.y.now in
-    let e : b.put_pool.new.0 ≡ put_pool n l.next-1 l.i (y l.i) = b.put_pool.ensures in (
+    let e : b.put_pool.new.next ≡ put_pool n l.next l.i (y l.i) = b.put_pool.ensures in (
       omega arith,
-      ap length e ∙ length_put_pool n l.next-1 l.i (y l.i) ∙ l.invariant.1,
+      ap length e ∙ length_put_pool n l.next l.i (y l.i) ∙ l.invariant.1,
       subst (λ (t : List ℤ). Stores n (pool_columns y) t (l.i + 1)) (sym e)
-          (pools_more n y l.next-1 l.i (omega arith) l.invariant.1 l.invariant.2),
+          (pools_more n y l.next l.i (omega arith) l.invariant.1 l.invariant.2),
     )
 
 pub returns : goal.returns
 returns c =
     let l = c.loop-i in
     let s = c.before.before in
-    pools_all s.args.n (pools_seen s.args.y.now) l.next-1 l.invariant.1 (λ m k h b. l.invariant.2 m k h (omega arith))
+    pools_all s.args.n (pools_seen s.args.y.now) l.next l.invariant.1 (λ m k h b. l.invariant.2 m k h (omega arith))
 
 pub bounds-y-i : goal.bounds-y-i
 bounds-y-i c = omega arith

@@ -1,5 +1,5 @@
 -- The test is the rule's, and the level stays.
-use mathlib.Core.Path.{◌≡◌, sym, ◌∙◌, ap, ap₂}
+use mathlib.Core.Path.{◌≡◌, sym, ◌∙◌, ap₂}
 use mathlib.Core.List.{[], ◌∷◌}
 use lib.ListN.{get_or}
 use lib.IntN.{pos}
@@ -8,7 +8,7 @@ use mir.Facts.{to_z-of_z}
 use borrow.Author.Rules.{rules}
 use Rattle.whole.specs.Machine.{back, back64, rd}
 use Rattle.tables.specs.Pools.{as_pool, of_two}
-use Rattle.sill_rules.specs.Reach.{depth, shallow}
+use Rattle.sill_rules.specs.Reach.{shallow}
 use Rattle.sill_rules.specs.Step.{dried_pool}
 use Rattle.sill.proofs.update.dried.Statement.{statement}
 use Rattle.sill.proofs.update.dried.Tie as tie

@@ -3,14 +3,20 @@ use mathlib.Core.List.{List, [], ◌∷◌}
 use native.Mathlib.Omega.{arith}
 use lib.IntN.{ℤ, pos, ◌*ℤ◌}
 use lib.Signed.{◌<ℤ◌}
+use Rattle.std.proofs.Common.{SFits}
+use Rattle.std.specs.Int.{w64}
 use Rattle.whole.specs.Parts.{of_lt}
-use Rattle.whole.specs.Difference.{at, lit, ◌⊠◌, lt!}
+use Rattle.whole.specs.Difference.{at, lit, ◌⊠◌, lt! }
 use Rattle.whole.specs.Machine.{X, v, k, ◌⊗◌, ◌⊘◌, Entry, entry, sized, need, value, divisor}
+use Rattle.reach.specs.Ranges.{UpTo}
+use Rattle.sill.specs.declared.rows.Call.{Call}
 use Rattle.sill.specs.Rows.{thrust}
+use Rattle.sill.specs.Ranges.{Numbers, most_pressure}
 use Rattle.sill.proofs.update.thrust_of.Goals as goal
 
-abbrev env : goal.Start → List Entry
-env s = entry s.ranges.e s.requires.up_to ∷ sized s.requires.numbers.dx_in tt ∷ sized s.requires.numbers.dt_in tt ∷ []
+-- the pressure, the length of a cell and the step
+abbrev env : {e : ℤ} {call : Call} → SFits w64 e → UpTo most_pressure e → Numbers call → List Entry
+env f p num = entry f p ∷ sized num.dx_in tt ∷ sized num.dt_in tt ∷ []
 
 abbrev above : X
 above = k (pos 981) ⊗ v 0 ⊗ v 2
@@ -22,19 +28,19 @@ wide_pos : (dx : ℤ) → pos 0 <ℤ dx → pos 0 <ℤ (pos 819200 *ℤ dx)
 wide_pos dx h = lt! (lit 0) (lit 819200 ⊠ at dx) (omega (arith, of_lt h))
 
 pub overflow_mul-result : goal.overflow_mul-result
-overflow_mul-result c = need (env c) (k (pos 981) ⊗ v 0) tt
+overflow_mul-result c = need (env c.ranges.e c.requires.up_to c.requires.numbers) (k (pos 981) ⊗ v 0) tt
 
 pub overflow_mul-result-2 : goal.overflow_mul-result-2
-overflow_mul-result-2 c = need (env c.before.before) above tt
+overflow_mul-result-2 c = need (env c.ranges.e c.requires.up_to c.requires.numbers) above tt
 
 pub overflow_mul-result-3 : goal.overflow_mul-result-3
-overflow_mul-result-3 c = need (env c.before.before.before.before) below tt
+overflow_mul-result-3 c = need (env c.ranges.e c.requires.up_to c.requires.numbers) below tt
 
 pub nonzero_div-result : goal.nonzero_div-result
-nonzero_div-result c =
-    let s = c.before.before.before.before in
-    (divisor (env s) below tt (wide_pos s.args.call.dx s.requires.numbers.dx_pos), need (env s) (above ⊘ below) tt)
+nonzero_div-result c = let num = c.requires.numbers in
+    let ρ : List Entry = env c.ranges.e c.requires.up_to num in
+    (divisor ρ below tt (wide_pos c.args.call.dx num.dx_pos), need ρ (above ⊘ below) tt)
 
 pub returns : goal.returns
 unfolding thrust
-returns c = value (env c.before.before.before.before) (above ⊘ below) tt
+returns c = value (env c.ranges.e c.requires.up_to c.requires.numbers) (above ⊘ below) tt

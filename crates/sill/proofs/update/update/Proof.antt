@@ -60,8 +60,8 @@ module _ (u : tie.After-updated invariant-loop decreases-loop) where
       update_wide s.args.call.dx s.args.call.dt (rows.0 i below) (rows.1 i (omega arith))
       (rows.1 (suc i) (omega arith)) num.dx_pos num.dt_in
 
-  ground : UpTo highest_bed (rd read.bed_at-z.result)
-  ground = subst (UpTo highest_bed) (sym z_is) (start.requires.0.1 i turn.loop-i-test.true)
+  grounded : UpTo highest_bed (rd read.bed_at-z.result)
+  grounded = subst (UpTo highest_bed) (sym z_is) (start.requires.0.1 i turn.loop-i-test.true)
 
 updated-requires : tie.Need-updated-requires invariant-loop decreases-loop
 updated-requires c κs =
@@ -69,7 +69,7 @@ updated-requires c κs =
     ((rows.0 i c.loop-i-test.true, rows.1 i (omega arith), rows.1 (i + 1) (omega arith)), c.requires.0.0)
 
 dried-x-requires : tie.Need-dried-x-requires invariant-loop decreases-loop
-dried-x-requires c κs = (ground c.before, subst (λ (l : List ℤ). Wide (as_pool l)) (sym (moved_is c.before)) (moved_wide c.before))
+dried-x-requires c κs = (grounded c.before, subst (λ (l : List ℤ). Wide (as_pool l)) (sym (moved_is c.before)) (moved_wide c.before))
 
 module _ (d : tie.After-dried-x invariant-loop decreases-loop) where
   abbrev told : tie.After-struct_told-1 invariant-loop decreases-loop
@@ -92,7 +92,7 @@ module _ (d : tie.After-dried-x invariant-loop decreases-loop) where
   end_wide = dried_wide begun.args.call.dry _ (moved moving) (moved_wide moving)
 
 off_pool-requires : tie.Need-off_pool-requires invariant-loop decreases-loop
-off_pool-requires c κs = (ground (moving c), subst (λ (l : List ℤ). Wide (as_pool l)) (sym (end_is c)) (end_wide c))
+off_pool-requires c κs = (grounded (moving c), subst (λ (l : List ℤ). Wide (as_pool l)) (sym (end_is c)) (end_wide c))
 
 -- what the test of this turn says
 off_here : (o : tie.After-off_pool invariant-loop decreases-loop) → let d = o.before in

@@ -59,10 +59,10 @@ module _ (m : tie.After-stage-m) where
 
   -- the tables of the faces and of the end state
   abbrev f : List (List ℤ)
-  f = let tables = m.stage-m.last.1.1.1 in tables.1.1.0
+  f = m.stage-m.new.f
 
   abbrev a : List (List ℤ)
-  a = let tables = m.stage-m.last.1.1.1 in let later = tables.1.1 in later.1.0
+  a = m.stage-m.new.a
 
   said : let s = opened in StageSays (reach_in (call s) (bed s)) (call_in (call s) (λ i. pos (get_or (friction s) i 0)))
       (pool_in (call s).n (state s)) (found_in m.stage-m.result) f a

@@ -21,7 +21,7 @@ module _ (w : tie.After-rub-fast) where
 
   -- the table of the cells
   abbrev b : List (List ℤ)
-  b = let tables = w.rub-fast.last.1.1.1 in tables.1.0
+  b = w.rub-fast.new.b
 
   said : let a = start.args in
       RubSays (reach_in a.call a.bed.now) (call_in a.call (λ i. pos (get_or a.friction.now i 0)))

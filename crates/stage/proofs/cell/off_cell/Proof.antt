@@ -67,7 +67,7 @@ module _ (c : tie.After-off_depths) where
       ∙ ap₂ (λ (m d : ℤ). outside (pos 0) deepest (m -ℤ d) || outside (pos 0) deepest (m +ℤ d)) (mean c.before) (slope c.before)
 
 off_depths-requires : tie.Need-off_depths-requires
-off_depths-requires c κs = let w : Unfinished (bed c.before.before.before) (cell c.before.before.before) = record { ground = c.requires.0; wide = c.requires.1 } in (
+off_depths-requires c κs = let w : Unfinished (bed c.before.before.before) (cell c.before.before.before) = record { grounded = c.requires.0; wide = c.requires.1 } in (
       subst (UpTo widest_depth) (sym (mean c)) (h0_size (bed c.before.before.before) (cell c.before.before.before) w),
       subst (UpTo widest_depth) (sym (slope c)) (h1_size (bed c.before.before.before) (cell c.before.before.before) w),
     )

@@ -26,7 +26,7 @@ keeps : (s : tie.Start) → CellSizes (bed s) (cell s)
 keeps s = cell_sizes s.requires.0
 
 depths-h-requires : tie.Need-depths-h-requires
-depths-h-requires c κs = (c.requires.0.ground, (keeps c).wide)
+depths-h-requires c κs = (c.requires.0.grounded, (keeps c).wide)
 
 mean : (c : tie.After-depths-h) → get_or c.depths-h.result 0 (pos 0) ≡ h0 (bed c.before) (cell c.before)
 mean c = ap (λ (l : List ℤ). get_or l 0 (pos 0)) c.depths-h.ensures

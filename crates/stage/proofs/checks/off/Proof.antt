@@ -27,7 +27,7 @@ loop-i-init c = scan_none _ _
 off_cell-requires : tie.Need-off_cell-requires invariant-loop decreases-loop
 off_cell-requires c κs =
     let x = c.requires.1 c.loop-i.i c.loop-i-test.true in
-    rw c.under.ensures (x.ground, x.wide)
+    rw c.under.ensures (x.grounded, x.wide)
 
 -- what the test of this turn says
 here : (c : tie.After-off_cell invariant-loop decreases-loop) →

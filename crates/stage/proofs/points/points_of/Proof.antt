@@ -13,7 +13,7 @@ use Rattle.stage.proofs.points.points_of.Statement.{statement}
 use Rattle.stage.proofs.points.points_of.Tie as tie
 
 depths-h-requires : tie.Need-depths-h-requires
-depths-h-requires c κs = (c.requires.0.ground, (cell_sizes c.requires.0).wide)
+depths-h-requires c κs = (c.requires.0.grounded, (cell_sizes c.requires.0).wide)
 
 bounds-h-0 : tie.Need-bounds-h-0
 bounds-h-0 c = search rules

@@ -58,7 +58,7 @@ module _ (s : tie.Start) where
   strong = drag s.args.call.dt s.args.f (h0 bed cell) (speed dry cell.q0 (h0 bed cell))
 
 depths-h-requires : tie.Need-depths-h-requires
-depths-h-requires c κs = ((inside c).ground, (sizes c).wide)
+depths-h-requires c κs = ((inside c).grounded, (sizes c).wide)
 
 -- ---- what the two tests say
 module _ (k : tie.After-struct_told-1) where

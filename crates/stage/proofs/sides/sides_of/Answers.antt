@@ -5,7 +5,7 @@ use Rattle.stage.specs.Laws.CellSizes.{cell_sizes}
 use Rattle.stage.proofs.sides.sides_of.Goals as goal
 
 pub depths-h-requires : goal.depths-h-requires
-depths-h-requires c = record { ground = c.requires.inside.ground; wide = (cell_sizes c.requires.inside).wide }
+depths-h-requires c = record { grounded = c.requires.inside.grounded; wide = (cell_sizes c.requires.inside).wide }
 
 pub places_of-requires : goal.places_of-requires
 places_of-requires c =

@@ -80,13 +80,13 @@ module _ (c : tie.Else-bad_bed-n) where
   unfolding state_checks
   bed_passed = passes (check_at (list (one two)) 1) _ (bed_test c.before) (omega (arith, c.if-bad_bed-n.false, cells two))
 
-  ground : Grounds (bed (one two)) (n (one two))
+  grounded : Grounds (bed (one two)) (n (one two))
   unfolding state_checks
-  ground = grounds (n (one two)) (bed (one two)) bed_passed
+  grounded = grounds (n (one two)) (bed (one two)) bed_passed
 
 -- ---- the cells
 off_state-requires : tie.Need-off_state-requires
-off_state-requires c κs = let f = fits (two c) in rw (cells (two c)) (f.most, f.state, ground c)
+off_state-requires c κs = let f = fits (two c) in rw (cells (two c)) (f.most, f.state, grounded c)
 
 off_test : (c : tie.After-off_state) → c.off_state.result ≡ lowest_of (check_at (list (one (two c.before))) 2)
 unfolding state_checks

@@ -17,7 +17,7 @@ use Rattle.stage.proofs.update.pressures.Statement.{statement}
 use Rattle.stage.proofs.update.pressures.Tie as tie
 
 depths-h-requires : tie.Need-depths-h-requires
-depths-h-requires c κs = (c.requires.0.ground, (cell_sizes c.requires.0).wide)
+depths-h-requires c κs = (c.requires.0.grounded, (cell_sizes c.requires.0).wide)
 
 overflow_cast-zl : tie.Need-overflow_cast-zl
 overflow_cast-zl c = widens c.args.b.zl c.struct_told-1.given.0.1

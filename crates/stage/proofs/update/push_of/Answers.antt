@@ -14,11 +14,11 @@ left = v 0 ⊝ v 1
 abbrev right : X
 right = v 0 ⊕ v 1
 
-abbrev ground : X
-ground = (right ⊕ left) ⊗ (v 3 ⊝ v 2)
+abbrev grounded : X
+grounded = (right ⊕ left) ⊗ (v 3 ⊝ v 2)
 
 abbrev whole : X
-whole = v 4 ⊝ v 5 ⊝ ground
+whole = v 4 ⊝ v 5 ⊝ grounded
 
 pub returns : goal.returns
 unfolding push_of
@@ -40,7 +40,7 @@ pub overflow_sub-result-2 : goal.overflow_sub-result-2
 overflow_sub-result-2 c = need (env c) (v 3 ⊝ v 2) tt
 
 pub overflow_mul-result : goal.overflow_mul-result
-overflow_mul-result c = need (env c) ground tt
+overflow_mul-result c = need (env c) grounded tt
 
 pub overflow_sub-result-3 : goal.overflow_sub-result-3
 overflow_sub-result-3 c = need (env c) whole tt

@@ -19,14 +19,14 @@ means = k (pos 6) ⊗ (v 0 ⊗ v 0)
 abbrev slopes : X
 slopes = k (pos 2) ⊗ (v 1 ⊗ v 1)
 
-abbrev ground : X
-ground = (v 3 ⊝ v 2) ⊘ k (pos 2)
+abbrev grounded : X
+grounded = (v 3 ⊝ v 2) ⊘ k (pos 2)
 
 abbrev whole : X
-whole = faces ⊝ means ⊝ slopes ⊕ k (pos 4) ⊗ (v 1 ⊗ ground)
+whole = faces ⊝ means ⊝ slopes ⊕ k (pos 4) ⊗ (v 1 ⊗ grounded)
 
 pub nonzero_div-result : goal.nonzero_div-result
-nonzero_div-result c = (lit< tt, need (env c) ground tt)
+nonzero_div-result c = (lit< tt, need (env c) grounded tt)
 
 pub returns : goal.returns
 unfolding tilt_of
@@ -63,10 +63,10 @@ pub overflow_sub-result-3 : goal.overflow_sub-result-3
 overflow_sub-result-3 c = need (env c) (v 3 ⊝ v 2) tt
 
 pub overflow_mul-result-7 : goal.overflow_mul-result-7
-overflow_mul-result-7 c = need (env c) (v 1 ⊗ ground) tt
+overflow_mul-result-7 c = need (env c) (v 1 ⊗ grounded) tt
 
 pub overflow_mul-result-8 : goal.overflow_mul-result-8
-overflow_mul-result-8 c = need (env c) (k (pos 4) ⊗ (v 1 ⊗ ground)) tt
+overflow_mul-result-8 c = need (env c) (k (pos 4) ⊗ (v 1 ⊗ grounded)) tt
 
 pub overflow_add-result-2 : goal.overflow_add-result-2
 overflow_add-result-2 c = need (env c) whole tt

@@ -41,8 +41,8 @@ module _ (c : tie.Else-z-n) where
   bed_passed : applies (check_at (list one) 0) ≡ false
   bed_passed = passes (check_at (list one) 0) _ (bed_test c.before) (omega (arith, c.if-z-n.false))
 
-  ground : Grounds one.args.bed.now one.args.reach.n
-  ground = grounds one.args.reach.n one.args.bed.now bed_passed
+  grounded : Grounds one.args.bed.now one.args.reach.n
+  grounded = grounds one.args.reach.n one.args.bed.now bed_passed
 
 module _ (c : tie.Else-f-n) where
   abbrev two : tie.Else-z-n
@@ -58,7 +58,7 @@ returns-then-f-n : tie.Need-returns-then-f-n
 returns-then-f-n c = stops_at (list (one c.before.before)) 1 _ (bed_passed c.before.before, tt) (rough_test c.before) c.if-f-n.true
 
 off-i-requires : tie.Need-off-i-requires
-off-i-requires c κs = let s = one (two c) in (s.requires.0.0, λ i l. record { ground = ground (two c) i l; wide = s.requires.1.0 i l })
+off-i-requires c κs = let s = one (two c) in (s.requires.0.0, λ i l. record { grounded = grounded (two c) i l; wide = s.requires.1.0 i l })
 
 returns-then-i-n : tie.Need-returns-then-i-n
 returns-then-i-n c = let d = two c.before.before in
@@ -74,7 +74,7 @@ module _ (c : tie.Else-i-n) where
 
 fast-j-requires : tie.Need-fast-j-requires
 fast-j-requires c κs = let d = two (three c) in let s = one d in
-    (s.requires.0.0, (ranged s.args.reach.n s.args.bed.now (seen s.args.t.now) (ground d) (range_passed c), s.requires.1.1))
+    (s.requires.0.0, (ranged s.args.reach.n s.args.bed.now (seen s.args.t.now) (grounded d) (range_passed c), s.requires.1.1))
 
 returns-then-j-n : tie.Need-returns-then-j-n
 returns-then-j-n c = let e = three c.before.before in let d = two e in

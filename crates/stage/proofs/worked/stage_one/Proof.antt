@@ -33,7 +33,7 @@ end-requires : tie.Need-end-requires
 end-requires c κs =
     let s = start (went c.before) in (
       (s.requires.0.most, s.requires.0.beds, omega arith, omega arith),
-      (s.requires.0.numbers, ((λ i l. (s.requires.1.1 i l).ground), done_small (((went c.before).stage-k.ensures (λ i. pos 0)).done c.if-k-ne0.false))),
+      (s.requires.0.numbers, ((λ i l. (s.requires.1.1 i l).grounded), done_small (((went c.before).stage-k.ensures (λ i. pos 0)).done c.if-k-ne0.false))),
     )
 
 returns : tie.Need-returns
@@ -48,7 +48,7 @@ returns c =
           (one_state o v a.a.now shows (says.done c.if-k-ne0.false)) (c.end.ensures ρ);
       sized = λ z. ((w.stage-k.ensures (λ i. pos 0)).done c.if-k-ne0.false).faces.sized;
       ranged = λ z. end_ranged a.reach a.call a.bed.now (λ i. pos 0) (c.end.ensures (λ i. pos 0)) z
-          (λ i l. (s.requires.1.1 i l).ground);
+          (λ i l. (s.requires.1.1 i l).grounded);
     }
 
 pub stage_one_spec : {M : Type 1} → statement M

@@ -47,7 +47,7 @@ end-requires c κs =
       (
         s.requires.0.numbers,
         (
-          (λ i l. (given.0.0 i l).ground),
+          (λ i l. (given.0.0 i l).grounded),
           join_small s.args.bed.now c.join.ensures given.0.0 (done_small done) given.1 done.faces.sized,
         ),
       ),
