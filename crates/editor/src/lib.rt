@@ -1,6 +1,7 @@
-// The library for callers in C: numbers, tables as pointer and length, and a number for an answer.
-// include/bassoonsun.h declares these functions.
+// The library for callers in C: numbers, tables, and a number for an answer. The crate editor_c exports these functions,
+// and include/bassoonsun.h declares them.
 #![tactic(auto)]
+
 ghost use Rattle.std.specs.Prelude.{◌≡◌, ◌≤◌, length};
 ghost use Rattle.rules.specs.Limits.{most_cells};
 ghost use Rattle.rules.specs.Lent.{step_of};
@@ -70,8 +71,7 @@ fn tell(a: Answer, volumes: &mut [i64; 2], place: &mut [u32; 1]) -> u32
 
 // 0 when the step is accepted, else the refusal's number; `volumes`, W at face 0 and at face n, is
 // written only when it is accepted, `place` in either case: 0, or the refusal's place.
-#[unsafe(no_mangle)]
-pub extern "C" fn bassoonsun_step(
+pub fn bassoonsun_step(
     state: &[i32],
     next: &mut [i32],
     bed: &[i32],
@@ -98,8 +98,7 @@ pub extern "C" fn bassoonsun_step(
 }
 
 // The same step, which also leaves the sums of the new state in `sums` when it is accepted.
-#[unsafe(no_mangle)]
-pub extern "C" fn bassoonsun_step_sums(
+pub fn bassoonsun_step_sums(
     state: &[i32],
     next: &mut [i32],
     bed: &[i32],
@@ -132,8 +131,7 @@ pub extern "C" fn bassoonsun_step_sums(
 
 // The same over a stepped bed: 0 when the step is accepted, else the refusal's number; `volumes`, V at face 0
 // and at face n, is written only when it is accepted, `place` in either case.
-#[unsafe(no_mangle)]
-pub extern "C" fn bassoonsun_sill_step(
+pub fn bassoonsun_sill_step(
     state: &[i32],
     next: &mut [i32],
     bed: &[i32],
@@ -163,8 +161,7 @@ pub extern "C" fn bassoonsun_sill_step(
 }
 
 // 0 when all of the sums are filled, else the refusal's number; they are then as they were.
-#[unsafe(no_mangle)]
-pub extern "C" fn bassoonsun_sums(state: &[i32], bed: &[i32], sums: &mut [i32]) -> u32
+pub fn bassoonsun_sums(state: &[i32], bed: &[i32], sums: &mut [i32]) -> u32
     ensures { MakingTold
         (making_of bed.now state.now (length sums.old))
         result sums.old sums.new }
@@ -177,8 +174,7 @@ pub extern "C" fn bassoonsun_sums(state: &[i32], bed: &[i32], sums: &mut [i32]) 
 
 // 0 when the question is answered, else the refusal's number; `answer`, the water, the cells and the
 // blocks that were read, is written only for 0.
-#[unsafe(no_mangle)]
-pub extern "C" fn bassoonsun_between(
+pub fn bassoonsun_between(
     state: &[i32],
     bed: &[i32],
     sums: &[i32],
@@ -202,8 +198,7 @@ pub extern "C" fn bassoonsun_between(
 }
 
 // 0 when the sides are within the limits, else 1; `flux`, F, K, A and S, is written only for 0.
-#[unsafe(no_mangle)]
-pub extern "C" fn bassoonsun_face(hl: i64, ul: i64, hr: i64, ur: i64, flux: &mut [i64; 4]) -> u32
+pub fn bassoonsun_face(hl: i64, ul: i64, hr: i64, ur: i64, flux: &mut [i64; 4]) -> u32
     ensures { FaceTold (face_given (side hl ul) (side hr ur)) result flux.old flux.new }
 {
     let c = face::flux::face(hl, ul, hr, ur);
@@ -221,14 +216,7 @@ pub extern "C" fn bassoonsun_face(hl: i64, ul: i64, hr: i64, ur: i64, flux: &mut
 
 // 0 for a flux (mass, pressure, advection, top speed), 1 when both sides are dry, 2 when refused;
 // `flux` is written only for 0.
-#[unsafe(no_mangle)]
-pub extern "C" fn bassoonsun_face_double(
-    hl: f64,
-    ul: f64,
-    hr: f64,
-    ur: f64,
-    flux: &mut [f64; 4],
-) -> u32
+pub fn bassoonsun_face_double(hl: f64, ul: f64, hr: f64, ur: f64, flux: &mut [f64; 4]) -> u32
     ensures { DoubleTold hl ul hr ur result flux.old flux.new }
 {
     let c = double::face::face(hl, ul, hr, ur);
@@ -246,8 +234,7 @@ pub extern "C" fn bassoonsun_face_double(
 }
 
 // 0 when x has a root, else 1; `root` is written only for 0.
-#[unsafe(no_mangle)]
-pub extern "C" fn bassoonsun_root(x: f64, root: &mut [f64; 1]) -> u32
+pub fn bassoonsun_root(x: f64, root: &mut [f64; 1]) -> u32
     ensures { RootTold x result root.old root.new }
 {
     let c = root::root(x);

@@ -31,7 +31,7 @@ pub record Went (r : Reach) (c : Call) (s : State) (k : Found) (w v : ℤ) (new 
   pub right : v ≡ carry r c s r.n
   pub cells : new ≡ table_of r.n (next r c s)
   pub left_in : Volume w
-  pub right_in_lem : Volume v
+  pub right_in : Volume v
 
 abbrev pub Says : Reach → Call → State → Found → Worked → List ℤ → List ℤ → Type 0
 Says r c s k (Refused m p) old new = Stopped k (at m p) old new

@@ -28,7 +28,7 @@ module _ (a : Lent) (w : Worked) (old new : List ℤ) (h : WorkedSays a w old ne
 
   module _ (p q : ℤ) (e : w ≡ worked.Done p q) where
     pub worked_volumes : Volume p × Volume q
-    worked_volumes = let g = told (worked.Done p q) e in (g.left_in, g.right_in_lem)
+    worked_volumes = let g = told (worked.Done p q) e in (g.left_in, g.right_in)
 
     pub worked_done : Gives (step_of a) (Accepted p q) old new
     unfolding step_of answer leaves filled crossed

@@ -6,30 +6,30 @@ use Rattle.editor.proofs.bassoonsun_face_double.Goals as goal
 
 pub returns-in-Flux : goal.returns-in-Flux
 unfolding double_code double_into
-returns-in-Flux c = let f = c.before.before.before in let e = sym c.c-1.given.1 in
+returns-in-Flux c = let e = sym c.in-Flux.is in
     record {
-      answer = f.face-c.result;
-      is = f.face-c.ensures;
+      answer = c.face-c.result;
+      is = c.face-c.ensures;
       number = ap double_code e;
-      flux = ap (λ (x : DoubleAnswer). double_into x f.args.flux.now) e;
+      flux = ap (λ (x : DoubleAnswer). double_into x c.args.flux.now) e;
     }
 
 pub returns-in-Dry : goal.returns-in-Dry
 unfolding double_code double_into
-returns-in-Dry c = let f = c.before.before in let e = sym c.enum_told-1.given.1 in
+returns-in-Dry c = let e = sym c.in-Dry.is in
     record {
-      answer = f.face-c.result;
-      is = f.face-c.ensures;
+      answer = c.face-c.result;
+      is = c.face-c.ensures;
       number = ap double_code e;
-      flux = ap (λ (x : DoubleAnswer). double_into x f.args.flux.now) e;
+      flux = ap (λ (x : DoubleAnswer). double_into x c.args.flux.now) e;
     }
 
 pub returns-in-Refused : goal.returns-in-Refused
 unfolding double_code double_into
-returns-in-Refused c = let f = c.before.before in let e = sym c.enum_told-in-Refused-1.given.1 in
+returns-in-Refused c = let e = sym c.in-Refused.is in
     record {
-      answer = f.face-c.result;
-      is = f.face-c.ensures;
+      answer = c.face-c.result;
+      is = c.face-c.ensures;
       number = ap double_code e;
-      flux = ap (λ (x : DoubleAnswer). double_into x f.args.flux.now) e;
+      flux = ap (λ (x : DoubleAnswer). double_into x c.args.flux.now) e;
     }

@@ -6,20 +6,20 @@ use Rattle.editor.proofs.bassoonsun_root.Goals as goal
 
 pub returns-in-Root : goal.returns-in-Root
 unfolding root_code root_into
-returns-in-Root c = let f = c.before.before.before in let e = sym c.c-1.given.1 in
+returns-in-Root c = let e = sym c.in-Root.is in
     record {
-      answer = f.root-c.result;
-      is = f.root-c.ensures;
+      answer = c.root-c.result;
+      is = c.root-c.ensures;
       number = ap root_code e;
-      root = ap (λ (x : RootAnswer). root_into x f.args.root.now) e;
+      root = ap (λ (x : RootAnswer). root_into x c.args.root.now) e;
     }
 
 pub returns-in-Refused : goal.returns-in-Refused
 unfolding root_code root_into
-returns-in-Refused c = let f = c.before.before in let e = sym c.enum_told-1.given.1 in
+returns-in-Refused c = let e = sym c.in-Refused.is in
     record {
-      answer = f.root-c.result;
-      is = f.root-c.ensures;
+      answer = c.root-c.result;
+      is = c.root-c.ensures;
       number = ap root_code e;
-      root = ap (λ (x : RootAnswer). root_into x f.args.root.now) e;
+      root = ap (λ (x : RootAnswer). root_into x c.args.root.now) e;
     }

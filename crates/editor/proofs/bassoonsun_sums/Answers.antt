@@ -5,11 +5,8 @@ use Rattle.editor.proofs.bassoonsun_sums.Goals as goal
 
 pub returns-in-Refused : goal.returns-in-Refused
 unfolding made_code
-returns-in-Refused c =
-    let k = c.before in let told = k.k-1.given in let g = k.make.ensures in
-    record { number = ap made_code (sym told.1 ∙ g.says); table = g.table }
+returns-in-Refused c = let g = c.make.ensures in record { number = ap made_code (sym c.in-Refused.is ∙ g.says); table = g.table }
 
 pub returns-in-Done : goal.returns-in-Done
 unfolding made_code
-returns-in-Done c = let g = c.make.ensures in
-    record { number = ap made_code (sym c.enum_told-1.given.1 ∙ g.says); table = g.table }
+returns-in-Done c = let g = c.make.ensures in record { number = ap made_code (sym c.in-Done.is ∙ g.says); table = g.table }

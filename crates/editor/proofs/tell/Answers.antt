@@ -11,15 +11,13 @@ use Rattle.editor.proofs.tell.Goals as goal
 
 pub overflow_cast-place : goal.overflow_cast-place
 unfolding placed
-overflow_cast-place c = let told = c.a-1.given in
-    search (rules, subst (λ (x : Answer). placed x ≤ most_cells) told.1 c.requires)
+overflow_cast-place c = search (rules, subst (λ (x : Answer). placed x ≤ most_cells) c.in-Refused.is c.requires)
 
 pub returns-in-Refused : goal.returns-in-Refused
-returns-in-Refused c = let told = c.before.a.given in let p = c.args in
-    refused_told told.0.0 told.0.1.0 p.volumes.now p.place.now (sym told.1)
+returns-in-Refused c = let p = c.args in
+    refused_told c.in-Refused.k c.in-Refused.p p.volumes.now p.place.now (sym c.in-Refused.is)
 
 pub returns-in-Accepted : goal.returns-in-Accepted
 returns-in-Accepted c =
-    let told = c.a-in-Accepted-1.given in let t = c.known_told-in-Accepted-1.given in let p = c.args in
-    rw (back {z = told.0.0} t.0.1, back {z = told.0.1.0} t.1.0.1)
-    (accepted_told told.0.0 told.0.1.0 p.volumes.now p.place.now (sym told.1))
+    let p = c.args in let w = c.in-Accepted.w in let v = c.in-Accepted.v in let t = c.in-Accepted.known_told-in-Accepted-1-own.given in
+    rw (back {z = w} t.0.1, back {z = v} t.1.0.1) (accepted_told w v p.volumes.now p.place.now (sym c.in-Accepted.is))

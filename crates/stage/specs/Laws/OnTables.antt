@@ -126,5 +126,5 @@ module _
           right = q ∙ volume_is d n (omega arith);
           cells = e ∙ table_same n (seen b) (next r c s) shown;
           left_in = subst Volume (sym p) (volume_in 0 (omega arith));
-          right_in_lem = subst Volume (sym q) (volume_in n (omega arith));
+          right_in = subst Volume (sym q) (volume_in n (omega arith));
         }

@@ -18,14 +18,14 @@ use Rattle.sums.proofs.between.Statement.{statement}
 use Rattle.sums.proofs.between.Tie as tie
 
 -- ---- the lengths
-sums_test : (c : tie.After-bad_sums) → let p = c.before.before.args in
+sums_test : (c : tie.After-bad_sums) → let p = c.args in
     c.bad_sums.result ≡ misfit_sums (length p.sums.now) (cells_over p.bed.now)
-sums_test c = rw c.before.cells_over-n.ensures at c.bad_sums.ensures
+sums_test c = rw c.cells_over-n.ensures at c.bad_sums.ensures
 
 returns-then-bad_sums : tie.Need-returns-then-bad_sums
 unfolding asked
-returns-then-bad_sums c = let b = c.before in let p = b.before.before.args in
-    sym (unanswered_sums p.bed.now p.state.now p.sums.now p.a p.b (sym (sums_test b) ∙ c.if-bad_sums.true))
+returns-then-bad_sums c = let p = c.args in
+    sym (unanswered_sums p.bed.now p.state.now p.sums.now p.a p.b (sym (sums_test c.before) ∙ c.if-bad_sums.true))
 
 module _ (c : tie.Else-bad_sums) where
   abbrev s : tie.Start
@@ -36,12 +36,12 @@ module _ (c : tie.Else-bad_sums) where
 
 state_test : (c : tie.After-bad_state) → let p = (s c.before).args in
     c.bad_state.result ≡ misfit_state (length p.state.now) (cells_over p.bed.now)
-state_test c = rw c.before.before.before.cells_over-n.ensures at c.bad_state.ensures
+state_test c = rw c.cells_over-n.ensures at c.bad_state.ensures
 
 returns-then-bad_state : tie.Need-returns-then-bad_state
 unfolding asked
-returns-then-bad_state c = let b = c.before in let e = b.before in let p = (s e).args in
-    sym (unanswered_state p.bed.now p.state.now p.sums.now p.a p.b (fit e) (sym (state_test b) ∙ c.if-bad_state.true))
+returns-then-bad_state c = let p = (s c.before.before).args in
+    sym (unanswered_state p.bed.now p.state.now p.sums.now p.a p.b (fit c.before.before) (sym (state_test c.before) ∙ c.if-bad_state.true))
 
 -- ---- the faces
 module _ (c : tie.Else-bad_state) where
@@ -53,7 +53,7 @@ module _ (c : tie.Else-bad_state) where
 
   -- as many cells as the bed is for
   beyond : fitted.before.before.cells_over-n.result ≡ cells_over (s fitted).args.bed.now
-  beyond = fitted.before.before.cells_over-n.ensures
+  beyond = fitted.cells_over-n.ensures
 
   -- they are not in order
   faces_ten : let p = (s fitted).args in disordered p.bed.now p.state.now p.sums.now p.a p.b ≡ true
@@ -67,23 +67,23 @@ returns-then-to-from c = faces_ten c.before (rw (lt-ltb _ _ c.if-to-from.true))
 
 returns-then-n-to : tie.Need-returns-then-n-to
 unfolding asked
-returns-then-n-to c = let e = c.before.before in let p = (s (fitted e)).args in
-    let d : cells_over p.bed.now < p.b = omega (arith, beyond e, c.if-n-to.true) in
-    faces_ten e (rw (lt-ltb (cells_over p.bed.now) p.b d) (or_true (ltb p.b p.a)))
+returns-then-n-to c = let p = (s (fitted c.before.before)).args in
+    let d : cells_over p.bed.now < p.b = omega (arith, beyond c.before.before, c.if-n-to.true) in
+    faces_ten c.before.before (rw (lt-ltb (cells_over p.bed.now) p.b d) (or_true (ltb p.b p.a)))
 
 read-requires : tie.Need-read-requires
 read-requires c κs =
-    let e = c.before.before in let p = (s (fitted e)).args in let bed = p.bed.now in let state = p.state.now in
-    let ok = state_fits (length state) (cells_over bed) (fits e) in
-    (tables_fit bed state p.sums.now ok (fit (fitted e)), c.before.if-to-from.false, omega (arith, beyond e, c.if-n-to.false))
+    let p = (s (fitted c.before.before)).args in let bed = p.bed.now in let state = p.state.now in
+    let ok = state_fits (length state) (cells_over bed) (fits c.before.before) in
+    (tables_fit bed state p.sums.now ok (fit (fitted c.before.before)), c.if-to-from.false, omega (arith, beyond c.before.before, c.if-n-to.false))
 
 returns : tie.Need-returns
 returns c =
-    let f = c.before in let e = f.before.before in let p = (s (fitted e)).args in
-    let low = le-ltb p.b p.a f.before.if-to-from.false in
-    let high = le-ltb (cells_over p.bed.now) p.b (omega (arith, beyond e, f.if-n-to.false)) in
+    let p = (s (fitted c.before.before.before)).args in
+    let low = le-ltb p.b p.a c.if-to-from.false in
+    let high = le-ltb (cells_over p.bed.now) p.b (omega (arith, beyond c.before.before.before, c.if-n-to.false)) in
     c.read.ensures
-    ∙ sym (all_answered p.bed.now p.state.now p.sums.now p.a p.b (fit (fitted e)) (fits e) (rw (low, high)))
+    ∙ sym (all_answered p.bed.now p.state.now p.sums.now p.a p.b (fit (fitted c.before.before.before)) (fits c.before.before.before) (rw (low, high)))
 
 pub between_spec : {M : Type 1} → statement M
 between_spec =

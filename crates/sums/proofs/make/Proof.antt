@@ -12,13 +12,13 @@ use Rattle.sums.proofs.make.Statement.{statement}
 use Rattle.sums.proofs.make.Tie as tie
 
 -- the length of the sums
-sums_test : (c : tie.After-bad_sums) → let p = c.before.before.args in
-    c.bad_sums.result ≡ misfit_sums (length p.sums-1.now) (cells_over p.bed.now)
-sums_test c = rw c.before.cells_over.ensures at c.bad_sums.ensures
+sums_test : (c : tie.After-bad_sums) → let p = c.args in
+    c.bad_sums.result ≡ misfit_sums (length p.sums.now) (cells_over p.bed.now)
+sums_test c = rw c.cells_over.ensures at c.bad_sums.ensures
 
 returns-then-bad_sums : tie.Need-returns-then-bad_sums
-returns-then-bad_sums c = let b = c.before in let p = b.before.before.args in
-    made_none (unmade_one p.bed.now p.state.now (length p.sums-1.now) (sym (sums_test b) ∙ c.if-bad_sums.true)) p.sums-1.now
+returns-then-bad_sums c = let p = c.args in
+    made_none (unmade_one p.bed.now p.state.now (length p.sums.now) (sym (sums_test c.before) ∙ c.if-bad_sums.true)) p.sums.now
 
 module _ (c : tie.Else-bad_sums) where
   abbrev s : tie.Start
@@ -29,10 +29,10 @@ module _ (c : tie.Else-bad_sums) where
 
 returns-then-k-ne0 : tie.Need-returns-then-k-ne0
 returns-then-k-ne0 c =
-    let r = c.before in let e = r.before in let p = (s e).args in let is = r.refusal-k.ensures in
+    let p = (s c.before.before).args in let is = c.refusal-k.ensures in
     made_none
-    (unmade_later p.bed.now p.state.now (length p.sums-1.now) (fit e) (λ z. c.if-k-ne0.true (is ∙ z)) ∙ ap unmade (sym is))
-    p.sums-1.now
+    (unmade_later p.bed.now p.state.now (length p.sums.now) (fit c.before.before) (λ z. c.if-k-ne0.true (is ∙ z)) ∙ ap unmade (sym is))
+    p.sums.now
 
 -- the state passes its checks
 module _ (c : tie.Else-k-ne0) where
@@ -40,17 +40,17 @@ module _ (c : tie.Else-k-ne0) where
   fitted = c.before.before
 
   passed : let p = (s fitted).args in state_refusal p.bed.now p.state.now ≡ 0
-  passed = sym c.before.refusal-k.ensures ∙ c.if-k-ne0.false
+  passed = sym c.refusal-k.ensures ∙ c.if-k-ne0.false
 
 fill-requires : tie.Need-fill-requires
 fill-requires c κs =
-    let z = c.before in let p = (s (fitted z)).args in let bed = p.bed.now in let state = p.state.now in
-    let ok = state_passed bed state (passed z) in (tables_fit bed state p.sums-1.now ok.0 (fit (fitted z)), ok.1)
+    let p = (s (fitted c.before)).args in let bed = p.bed.now in let state = p.state.now in
+    let ok = state_passed bed state (passed c.before) in (tables_fit bed state p.sums.now ok.0 (fit (fitted c.before)), ok.1)
 
 returns : tie.Need-returns
 returns c =
-    let f = c.before in let z = f.before.before in let e = fitted z in let p = (s e).args in
-    made_all (all_made p.bed.now p.state.now (length p.sums-1.now) (fit e) (passed z)) p.sums-1.now _ f.fill.ensures
+    let e = fitted c.before.before.before in let p = (s e).args in
+    made_all (all_made p.bed.now p.state.now (length p.sums.now) (fit e) (passed c.before.before.before)) p.sums.now _ c.fill.ensures
 
 pub make_spec : {M : Type 1} → statement M
 make_spec =

@@ -24,7 +24,7 @@ module _ (c : tie.After-split_between-s) where
   at = c.split_between-s.result
 
   cut : Cut (cells_over s.args.bed.now) s.args.a s.args.b at.head at.first at.last at.tail
-  cut = rw (← c.before.cells_over.ensures) c.split_between-s.ensures
+  cut = rw (← c.cells_over.ensures) c.split_between-s.ensures
 
 depths-before-requires : tie.Need-depths-before-requires
 depths-before-requires c κs = let k = cut c in let p = (s c).requires in let f = p.0 in (
@@ -56,8 +56,8 @@ module _ (c : tie.After-depths-behind) where
   abbrev env : List Entry
   env =
       let k = cut split in let p = (s split).requires in let f = p.0 in
-      entry (record { sfits = blocks.added-whole.ok }) (added_most blocks.added-whole.ensures (omega (arith, k.most, f.most)))
-      ∷ entry (record { sfits = head.depths-before.ok }) (added_most head.depths-before.ensures (omega (arith, k.inside, k.behind, p, f.most)))
+      entry (record { sfits = blocks.added-whole.type_inv }) (added_most blocks.added-whole.ensures (omega (arith, k.most, f.most)))
+      ∷ entry (record { sfits = head.depths-before.type_inv }) (added_most head.depths-before.ensures (omega (arith, k.inside, k.behind, p, f.most)))
       ∷ entry (record { sfits = c.depths-behind.type_inv }) (added_most c.depths-behind.ensures (omega (arith, p, f.most)))
       ∷ []
 
@@ -72,11 +72,11 @@ overflow_add-result-2 c = need (env c) all tt
 
 returns : tie.Need-returns
 returns c =
-    let l = c.before.before.before in let h = head l in let p = (s (split l)).args in
+    let h = head c.before.before.before in let p = (s (split c.before.before.before)).args in
     let bed = p.bed.now in let state = p.state.now in let sums = p.sums.now in
-    let is = cut_reading bed state sums (cut (split l)) in
+    let is = cut_reading bed state sums (cut (split c.before.before.before)) in
     asked_read (reading bed state sums p.a p.b) _ _ _
-    (value (env l) all tt ∙ ap₂ ◌+ℤ◌ (blocks l).added-whole.ensures.is (ap₂ ◌+ℤ◌ h.depths-before.ensures.is l.depths-behind.ensures.is)
+    (value (env c.before.before.before) all tt ∙ ap₂ ◌+ℤ◌ (blocks c.before.before.before).added-whole.ensures.is (ap₂ ◌+ℤ◌ h.depths-before.ensures.is c.depths-behind.ensures.is)
     ∙ sym (ap (λ (r : Reading). r.water) is))
     (sym (ap (λ (r : Reading). r.cells) is)) (sym (ap (λ (r : Reading). r.blocks) is))
 

@@ -13,7 +13,7 @@ use Rattle.sums.proofs.adding.depth.Statement.{statement}
 use Rattle.sums.proofs.adding.depth.Tie as tie
 
 overflow_cast-result : tie.Need-overflow_cast-result
-overflow_cast-result c = let s = c.before.before.before in widens (get_or s.args.state.now s.args.i (pos 0)) c.result-1.given
+overflow_cast-result c = widens (get_or c.args.state.now c.args.i (pos 0)) c.result-1.given
 
 module _ (c : tie.After-z0) where
   abbrev s : tie.Start
@@ -29,31 +29,29 @@ module _ (c : tie.After-z0) where
   next = omega arith
 
   -- the mean of the bed under the cell
-  mean_is : c.z0.result-1 ≡ z0 (bed_at bed i)
+  mean_is : c.z0.result ≡ z0 (bed_at bed i)
   mean_is =
-      let right = c.before.before in
-      let l = read32 (get_or bed i (pos 0)) right.before.zl-1.given in
-      let r = read32 (get_or bed (i + 1) (pos 0)) right.zr-1.given ∙ ap (λ (j : ℕ). get_or bed j (pos 0)) next in
+      let l = read32 (get_or bed i (pos 0)) c.zl-1.given in
+      let r = read32 (get_or bed (i + 1) (pos 0)) c.zr-1.given ∙ ap (λ (j : ℕ). get_or bed j (pos 0)) next in
       c.z0.ensures ∙ ap z0 (λ j. record { zl = l j; zr = r j })
 
-  mean_in : Word c.z0.result-1
-  mean_in = let right = c.before.before in
-      rw mean_is (mean_bed (bed_at bed i) (within32 right.before.zl-1.given)
-      (subst (λ (j : ℕ). Word (get_or bed j (pos 0))) next (within32 right.zr-1.given)))
+  mean_in : Word c.z0.result
+  mean_in = rw mean_is (mean_bed (bed_at bed i) (within32 c.zl-1.given)
+      (subst (λ (j : ℕ). Word (get_or bed j (pos 0))) next (within32 c.zr-1.given)))
 
   -- the level of the cell, and that mean
   abbrev level : ℤ
   level = get_or s.args.state.now i (pos 0)
 
   abbrev env : List Entry
-  env = cast32 level c.before.result-1.given ∷ entry (record { sfits = c.z0.type_inv }) mean_in ∷ []
+  env = cast32 level c.result-1.given ∷ entry (record { sfits = c.z0.type_inv }) mean_in ∷ []
 
 overflow_sub-result : tie.Need-overflow_sub-result
 overflow_sub-result c = need (env c) (v 0 ⊝ v 1) tt
 
 returns : tie.Need-returns
 returns c =
-    let word = c.before.result-1.given in let state = (s c).args.state.now in
+    let word = c.result-1.given in let state = (s c).args.state.now in
     let is = value (env c) (v 0 ⊝ v 1) tt ∙ ap₂ ◌-ℤ◌ (read32 (level c) word) (mean_is c) in
     (is ∙ level_less_bed (bed c) state (i c), rw (is, ← mean_is c) (mean_depth (level c) _ (within32 word) (mean_in c)))
 

@@ -19,19 +19,18 @@ module _ (s : tie.Start) where
   within = block_within s.args.bed.now s.args.state.now s.args.k (rw (← s.requires.0.0) s.requires.0.3)
 
 depths-requires : tie.Need-depths-requires
-depths-requires c κs = let s = c.before in let w = within s in let p = s.requires.0 in let e = c.Block-to.ensures in
+depths-requires c κs = let w = within c.before in let p = c.requires.0 in let e = c.block_to.ensures in
     rw (e, p.0) (omega (arith, w), omega (arith, w, p), omega (arith, w, p), omega (arith, w, p))
 
 -- what the cells of the block come to
-sum_is : (c : tie.After-depths) → let p = c.before.before.args in c.depths.result ≡ block_sum p.bed.now p.state.now p.k
+sum_is : (c : tie.After-depths) → let p = c.args in c.depths.result ≡ block_sum p.bed.now p.state.now p.k
 unfolding block_sum
 sum_is c = let t = c.before in let s = t.before in
     c.depths.ensures.is ∙ ap (sum_to (depth_in s.args.bed.now s.args.state.now) (block_from s.args.k))
-    (t.Block-to.ensures ∙ ap (λ (n : ℕ). block_to n s.args.k) s.requires.0.0)
+    (t.block_to.ensures ∙ ap (λ (n : ℕ). block_to n s.args.k) s.requires.0.0)
 
 small : (c : tie.After-depths) → mag c.depths.result < 2 ^ 31
-small c = let s = c.before.before in
-    rw (sum_is c) (block_small s.args.bed.now s.args.state.now s.args.k (rw (← s.requires.0.0) s.requires.0.3) s.requires.1)
+small c = rw (sum_is c) (block_small c.args.bed.now c.args.state.now c.args.k (rw (← c.requires.0.0) c.requires.0.3) c.requires.1)
 
 overflow_cast-result : tie.Need-overflow_cast-result
 overflow_cast-result c = narrows c.depths.result (small c)

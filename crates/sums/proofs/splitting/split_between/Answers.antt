@@ -9,7 +9,7 @@ block_to-requires c = let e = c.before in omega (arith, e.ended-last.ensures.mos
 pub returns-then-first-last : goal.returns-then-first-last
 returns-then-first-last c =
     let t = c.before in let e = t.before in let o = e.before in let s = o.before in let p = s.args in
-    rw (c.Block-to.ensures, o.blocks-first.ensures)
+    rw (c.block_to.ensures, o.blocks-first.ensures)
     (cut_some p.n p.a p.b _ s.requires.0 s.requires.1 e.ended-last.ensures (rw o.blocks-first.ensures at t.if-first-last.true))
 
 pub returns : goal.returns
