@@ -28,6 +28,7 @@ use Rattle.rules.proofs.Laws.Inside.{above_least, below_most}
 use Rattle.rules.proofs.Laws.Accept.{none_at, One, any_one, passed}
 use Rattle.rules.proofs.Laws.Verdicts.{cleared, clear_at, of_call_lem, clear_parts}
 use Rattle.rules.proofs.Laws.Order as order
+use Rattle.rules.proofs.Laws.Late.{late}
 use Rattle.rules.proofs.Laws.Positive.{Fine, Nonneg, Wet, mean≥0, Brief, stage_one_wet, next_wet}
 use Rattle.rules.proofs.Laws.EvenBed.{even_of, EvenBed}
 use Rattle.rules.proofs.Laws.EndChecks.{SlowInflows, slow_inflows}
@@ -72,11 +73,6 @@ brief r c s e i l = lt_no (pos 4096 *ℤ r.dx) (pos 2 *ℤ c.dt *ℤ (face_at r 
 pub stage_brief : (r : Reach) (c : Call) (s : State) → Clear (stage_checks r c s) → Brief r c s
 unfolding stage_checks
 stage_brief r c s k = brief r c s (clear_at (stage_checks r c s) k order.faces)
-
--- the checks after `early`
-abbrev late : Reach → Call → State → List Check
-late r c s =
-    each 8 r.n (off r (stage_one r c s)) ∷ stage_checks r c (stage_one r c s) ++ each 8 r.n (off r (next r c s)) ∷ []
 
 -- a call that passed the checks up to stage one's faces
 pub record Early (r : Reach) (c : Call) (s : State) : Type 0 where
