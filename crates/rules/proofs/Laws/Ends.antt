@@ -5,13 +5,13 @@ use Rattle.std.specs.Prelude.{◌≡◌, ℕ, ℤ, neg_ℤ, ◌+ℤ◌, ◌*ℤ�
 use Rattle.std.proofs.Math.Path.{refl, ap}
 use Rattle.std.proofs.Common.{sym, ◌∙◌, subst, arith}
 use Rattle.std.proofs.Math.IntN.{pos}
-use Rattle.whole.specs.Flags.{by, cond_ind}
+use Rattle.whole.specs.Flags.{cond_ind}
 use Rattle.whole.specs.Parts.{nat_nonneg, le_trans}
 use Rattle.whole.specs.Difference.{lit, nonneg, ◌⊞◌, ⊖, ◌⊠◌, le!, none_times}
 use Rattle.whole.specs.Quotient.{quot_none}
-use Rattle.whole.specs.Choice.{max_z, size_z, max_l, max_r, size_nonneg, size_neg}
+use Rattle.whole.specs.Choice.{size_z, max_l, max_r, size_nonneg}
 use Rattle.rules.specs.Face.{Side, Flux, speed, wave}
-use Rattle.rules.specs.Lawful.{Still, resting, mirror, flip, Lawful}
+use Rattle.rules.specs.Lawful.{Still, resting, mirror, Lawful}
 use Rattle.rules.specs.Ends.{End, inflow_kind, is_inflow, outer, inflow_speed, inflow, left_end, right_end}
 use Rattle.rules.proofs.Laws.Speeds.{wave≥0}
 use Rattle.rules.proofs.Laws.Shown.{TakesRight, TakesLeft, takes_flip}

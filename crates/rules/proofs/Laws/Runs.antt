@@ -2,7 +2,7 @@
 -- Assumes nothing.
 use Rattle.std.proofs.Math.Path.{◌≡◌}
 use Rattle.std.proofs.Common.{sym, ◌∙◌, eqb→eq}
-use Rattle.std.specs.Prelude.{true, false, not, List, [], ◌∷◌, ◌++◌, ◌⊎◌, ℕ, suc, ◌%◌, ◌<◌, eqb, ℤ, pos, nat_abs, ◌*ℤ◌, ◌≤ℤ◌, ◌<ℤ◌}
+use Rattle.std.specs.Prelude.{true, false, not, [], ◌∷◌, ◌++◌, ◌⊎◌, ℕ, suc, ◌%◌, ◌<◌, eqb, ℤ, pos, nat_abs, ◌*ℤ◌, ◌≤ℤ◌, ◌<ℤ◌}
 use Rattle.std.proofs.Math.Logic.{inl, inr}
 use native.Mathlib.Omega.{arith}
 use Rattle.whole.specs.Flags.{or_r, not_f, held, by}
@@ -21,7 +21,7 @@ use Rattle.rules.specs.Stage.{face_at}
 use Rattle.rules.specs.Step.{rubbed, stage_one, carry, next}
 use Rattle.rules.specs.Refusals.{outside, past, call_tests, bad_end, bad_call, bad_bed, cell_tests, off_cell, off}
 use Rattle.rules.specs.Refusals.{fast_cell, fast_friction, fast_face, too_long}
-use Rattle.rules.specs.Refusals.{Check, each, stage_checks, early, checks, verdict, refusal, Clear}
+use Rattle.rules.specs.Refusals.{each, stage_checks, early, checks, verdict, refusal, Clear}
 use Rattle.rules.specs.AtRest.{AtRest}
 use Rattle.rules.specs.Laws.Agree.{Same}
 use Rattle.rules.proofs.Laws.Inside.{above_least, below_most}
