@@ -118,9 +118,7 @@ fn on_tables(
 }
 
 // The checks of the lent tables, and the step on tables made for a short reach: no table is cleared for a call
-// that they refuse. A longer reach is handed on. So `long_step` is called from two places, and the compiler,
-// which merges what is called from one place alone or is small into its caller, tables and all, keeps the long
-// tables off the stack of a short reach.
+// that they refuse. A longer reach is handed on.
 pub fn short_step(
     state: &[i32],
     next: &mut [i32],
@@ -145,7 +143,9 @@ pub fn short_step(
     on_tables(state, next, bed, friction, call, &mut b, &mut f, &mut a)
 }
 
-// And on tables made for the longest.
+// And on tables made for the longest. The compiler would merge it into its callers, tables and all, and is told not to:
+// that keeps the long tables off the stack of a short reach.
+#[inline(never)]
 pub fn long_step(
     state: &[i32],
     next: &mut [i32],
