@@ -1,5 +1,5 @@
--- Calls small enough for the checker to work them, and the state and the sums that are asked of; what each gives is in proofs/Cases.
--- Assumes nothing.
+-- To be believed: what the statements of proofs/Cases speak of.
+-- Calls small enough for the checker to work them, and a state with its sums. What each gives is stated there.
 use Rattle.std.specs.Prelude.{List, [], ◌∷◌, ℕ, suc, ℤ, pos, neg_ℤ}
 use Rattle.tables.specs.Rows.{row}
 use Rattle.tables.specs.Cells.{table_of}
