@@ -1,6 +1,7 @@
 // A square root in whole numbers, worked digit by digit: the one search behind the wave speed of a
 // depth and the root of a double. The public function answers every call: beyond its limits it refuses.
 #![tactic(auto)]
+
 ghost use Rattle.std.specs.Prelude.{◌*◌, ◌/◌, ◌^◌, ◌≤◌, ◌<◌};
 ghost use Rattle.digits.specs.Root.{RootOf, DigitsSay};
 ghost use Rattle.digits.specs.Turns.{Small, Turned};

@@ -33,6 +33,7 @@ fn bits(x: f64) -> u64 {
 }
 
 // From 0 up to 1, by 52 of the bits of x.
+#[tactic(auto, using(std::proofs::lemmas::Float::not_nan_f64_bits))]
 fn unit(x: u64) -> f64 {
     f64::from_bits(0x3ff0_0000_0000_0000 + (x >> 12)) - 1.0
 }

@@ -1,6 +1,7 @@
 // Finishing: the marks, the cells that are spared, the limiter, the cut and the drying that end each
 // stage. Every number read is of the unfinished table, so that the order of the cells does not matter.
 #![tactic(auto)]
+
 mod cell;
 mod limiter;
 mod range;

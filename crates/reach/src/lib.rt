@@ -2,6 +2,7 @@
 // travel together. The rules' records of the same names hold the bed and the friction too, which are
 // lent tables here.
 #![tactic(auto)]
+
 pub mod answer;
 pub mod bed;
 pub mod found;

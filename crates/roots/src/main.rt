@@ -24,6 +24,7 @@ fn mix(sum: u64, b: u64) -> u64 {
 }
 
 // The double with the bits b; the bits of every NaN give the one NaN.
+#[tactic(auto, using(std::proofs::lemmas::Float::not_nan_f64_bits))]
 fn double(b: u64) -> f64 {
     let size = b % SIGN;
     if TOP < size {

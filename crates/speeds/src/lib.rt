@@ -2,6 +2,7 @@
 // the cube-root number by which friction divides. Each public function answers every call: beyond
 // the limits of depth, discharge and dry depth it refuses.
 #![tactic(auto)]
+
 pub mod answer;
 pub mod cube;
 mod limits;

@@ -3,6 +3,7 @@
 // `state_and_bed::refusal`, check all that they are lent and answer every call; what they call stands in
 // modules that are not public.
 #![tactic(auto)]
+
 mod cell;
 mod checks;
 mod ending;

@@ -1,6 +1,7 @@
 // One step of a reach: the call itself, which answers what was worked. It checks all that it is lent, and
 // `next` is written only when nothing can stop the step any more.
 #![tactic(auto)]
+
 ghost use Rattle.std.specs.Prelude.{length};
 ghost use Rattle.rules.specs.Lent.{step_of};
 ghost use Rattle.stage.specs.Worked.{lent_by};

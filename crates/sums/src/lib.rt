@@ -1,6 +1,7 @@
 // The water between two faces of a reach. Beside a state stands a table of sums, one for each block of
 // sixteen cells; so a question reads few numbers, however far apart its faces are.
 #![tactic(auto)]
+
 mod adding;
 mod blocks;
 mod filling;

@@ -33,9 +33,12 @@ wet-requires c =
     let q = c.before in
     let r = q.before.before in
     let l = r.before.before in
-    let a = l.args in record { t = subst (λ (h : Float). T (Depth h)) (sym q.read_depth.ensures)
-          (side_depth a.hl a.ul (passed l.side_ok.ensures (ap not l.if-not-side_ok.false))); t_2 = subst (λ (h : Float). T (Depth h)) (sym c.read_depth-2.ensures)
-          (side_depth a.hr a.ur (passed r.side_ok-2.ensures (ap not r.if-not-side_ok-2.false))) }
+    let a = l.args in record {
+      t = subst (λ (h : Float). T (Depth h)) (sym q.read_depth.ensures)
+          (side_depth a.hl a.ul (passed l.side_ok.ensures (ap not l.if-not-side_ok.false)));
+      t_2 = subst (λ (h : Float). T (Depth h)) (sym c.read_depth-2.ensures)
+          (side_depth a.hr a.ur (passed r.side_ok-2.ensures (ap not r.if-not-side_ok-2.false)));
+    }
 
 pub returns : goal.returns
 returns c =

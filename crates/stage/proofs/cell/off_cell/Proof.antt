@@ -68,9 +68,9 @@ module _ (c : tie.After-off_depths) where
 
 off_depths-requires : tie.Need-off_depths-requires
 off_depths-requires c κs = let w : Unfinished (bed c.before.before.before) (cell c.before.before.before) = record { grounded = c.requires.0; wide = c.requires.1 } in (
-      subst (UpTo widest_depth) (sym (mean c)) (h0_size (bed c.before.before.before) (cell c.before.before.before) w),
-      subst (UpTo widest_depth) (sym (slope c)) (h1_size (bed c.before.before.before) (cell c.before.before.before) w),
-    )
+  subst (UpTo widest_depth) (sym (mean c)) (h0_size (bed c.before.before.before) (cell c.before.before.before) w),
+  subst (UpTo widest_depth) (sym (slope c)) (h1_size (bed c.before.before.before) (cell c.before.before.before) w),
+)
 
 returns-then-off_depths : tie.Need-returns-then-off_depths
 returns-then-off_depths c = off_is (bed (s c.before)) (cell (s c.before)) true (sym c.if-off_depths.true ∙ first c.before)
