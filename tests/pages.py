@@ -17,8 +17,8 @@
 
 Not looked at: whether what a page says of a name is so; where a name stands that has no file or crate beside it, or
 other words between; links from one page to another.  docs/LANDINGS.md is left out, as it speaks of files that have
-gone, and so is what waits in crates/ as text (its names end in .txt), docs/ and tools/ but for the pages, as they keep
-names that have gone.
+gone. What waits as text, in the files of crates/ that end in .txt, is no part of the tree, and a word that stands nowhere
+but in docs/ or tools/, which keep names that have gone, is none of its words.
 
 Prints a line for each fact that does not hold; the last line is 'N passed, M failed', and the exit status is 1
 when something failed.
