@@ -35,6 +35,19 @@ PLAN = {
     "before": {"Laws.*": []},
     "survey": {"Laws.*": []},
     "sill_rules": {"Laws.*": []},
+    "promises": {
+        "Outcomes": ["Taken", "reach_at", "One", "AStep", "ShutStep"],
+        "OtherEnd": [],
+        "Promises": [],
+        "Sums": [],
+        "SillTables": ["reach_at", "One"],
+        "Sill": [],
+        "Changed": [],
+        "FromC": [],
+        "SumsFromC": [],
+        "SillFromC": [],
+        "Cases": ["uneven", "moved", "two_cells", "rising", "shore", "lake", "brimming", "flat", "seventeen", "two_sums", "tells"],
+    },
 }
 
 # What a definition inside a `module _ (..) where` that stays in specs/ takes from outside that module: (crate, module): [(pattern, replacement)]
@@ -42,6 +55,7 @@ OUTSIDE = {
     ("tables", "Filling"): [(r"\bFillSays (?!d n p f\b)", "FillSays d n p f ")],
     ("rules", "Laws.Summing"): [(r"\bHas (?=true\b|false\b)", "Has p ")],
     ("tables", "Cells"): [(r"\bput_cell (?=t\b)", "put_cell n ")],
+    ("promises", "Outcomes"): [(r"\b(AStep|ShutStep)(?= s t\b)", r"(\1 bed n dx)")],
 }
 
 # The first lines of a file of which only a part moves: (in specs/, in proofs/)
@@ -68,6 +82,16 @@ HEADS = {
         "-- Any number of calls one after another, of any reach: what holds of each of them, said of them all. No reach is named here.\n-- Assumes nothing.\n",
     ),
     ("rules", "Laws.StateAndBed"): ("-- To be believed: `StateFits`.\n-- The lengths of a state that passed the checks that need no call.\n", None),
+    ("promises", "Outcomes"): (
+        "-- What an accepted call is to the rules: its number, its volumes and its table, and the step that it makes.\n-- Assumes nothing.\n",
+        None,
+    ),
+    ("promises", "SillTables"): ("-- What an accepted call over a stepped bed is to its rules: the step that it makes.\n-- Assumes nothing.\n", None),
+    ("promises", "Cases"): (
+        "-- Calls small enough for the checker to work them, and the state and the sums that are asked of; what each gives is in proofs/Cases.\n"
+        "-- Assumes nothing.\n",
+        None,
+    ),
 }
 
 
@@ -150,7 +174,7 @@ def parted(items, stays):
         elif any(it in stays for it in item[0]):
             if not all(it in stays for it in item[0]):
                 sys.exit(f"one item declares {item[0]}, of which only some stay")
-            here.append(item)
+            here.append((item[0], opened(item[1])))
         else:
             there.append(item)
     return here, there
@@ -169,6 +193,17 @@ def text_of(items):
 def is_used(name, words, text):
     name = name.split(" as ")[-1].strip()
     return all(it in words or it in "[]" and it in text for it in name.split("◌") if it)
+
+
+def opened(lines):
+    """Returns a definition that stays with the words that let the other file cite it."""
+    first = next(k for k, it in enumerate(lines) if not it.strip().startswith("--"))
+    is_private = not re.search(r"\bpub\b", lines[first])
+    out = [re.sub(r"^( *)(abbrev|unfoldable) (?!pub )", r"\1\2 pub ", it) if k == first else it for k, it in enumerate(lines)]
+    if is_private and re.match(r" *record ", out[first]):
+        out[first] = re.sub(r"^( *)record ", r"\1pub record ", out[first])
+        out = out[: first + 1] + [re.sub(r"^( +)(?=\w+ : )", r"\1pub ", it) for it in out[first + 1 :]]
+    return out
 
 
 def imports_for(uses, text):

@@ -1,6 +1,6 @@
--- The promises: `Promises` is the page to read, `Sums` the one of the water between two faces and `Sill` that of the reach over a stepped
--- bed; `Seen`, `SeenSums` and `SeenSill` name what they speak of, `FromC`, `SumsFromC` and `SillFromC` say them of the calls from C,
--- `Changed` what each request changed, and `Cases` that they are not empty.
+-- What the promises speak of: `Seen`, `SeenSums`, `SeenSill` and `SeenBefore` name it, and `Cases` has the calls that are worked. The
+-- promises themselves stand in proofs/, where `Promises` is the page to read: an edit of what they speak of, or of one of them, is then
+-- refused for a theorem that no longer holds.
 pub mod Seen
 pub mod SeenSums
 pub mod SeenSill
@@ -8,14 +8,6 @@ pub mod SeenBefore
 pub mod First
 pub mod ByChecks
 pub mod Outcomes
-pub mod OtherEnd
-pub mod Promises
-pub mod Sums
 pub mod SillTables
-pub mod Sill
-pub mod Changed
 pub mod ToldAnswers
-pub mod FromC
-pub mod SumsFromC
-pub mod SillFromC
 pub mod Cases

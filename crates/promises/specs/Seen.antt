@@ -1,5 +1,5 @@
 -- To be believed. What a caller sees: the depths and the water of the lent tables, and calls one after another.
-use Rattle.std.specs.Prelude.{◌≡◌, true, false, List, ◌∷◌, ◌++◌, reverse, ◌⊎◌, ℕ, zero, suc, ◌*◌, ◌≤◌, ◌<◌, length, get_or, ℤ, pos, negsuc, neg_ℤ, ◌+ℤ◌, ◌-ℤ◌, ◌*ℤ◌, ◌≤ℤ◌, ◌<ℤ◌}
+use Rattle.std.specs.Prelude.{◌≡◌, true, false, List, ◌∷◌, ◌++◌, reverse, ◌⊎◌, ℕ, zero, suc, ◌≤◌, ◌<◌, length, get_or, ℤ, pos, negsuc, neg_ℤ, ◌+ℤ◌, ◌-ℤ◌, ◌*ℤ◌, ◌≤ℤ◌, ◌<ℤ◌}
 use Rattle.std.specs.Int.Signed.{quot_z}
 use Rattle.whole.specs.Choice.{size_z}
 use Rattle.tables.specs.Some.{IsLowest}

@@ -1,2 +1,2 @@
-// No code: what is promised of the public calls stands in specs/Promises.antt.
+// No code: what is promised of the public calls stands in proofs/Promises.antt.
 #![tactic(auto)]

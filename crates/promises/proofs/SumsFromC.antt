@@ -23,8 +23,8 @@ use Rattle.editor.specs.Told.{StepTold, KeepingTold, MakingTold, reading_into, Q
 use Rattle.promises.specs.Seen.{at, FirstMet, water, lending}
 use Rattle.promises.specs.SeenSums.{water_between, MadeFrom, by_making, CallsKeeping, none_kept, more_kept}
 use Rattle.promises.specs.SeenSums.{CallsKeepingFromC, none_c, more_c}
-use Rattle.promises.specs.FromC.{wrote}
-use Rattle.promises.specs.Sums as page
+use Rattle.promises.proofs.FromC.{wrote}
+use Rattle.promises.proofs.Sums as page
 
 -- ---- one number, and one content of each lent table
 pub make_one : {m : Making} {r r' : ℕ} {old new new' : List ℤ} → MakingTold m r old new → MakingTold m r' old new'

@@ -38,8 +38,8 @@ use Rattle.promises.specs.SeenSums.{water_between, MadeFrom, by_making, by_step,
 use Rattle.promises.specs.SeenSums.{CallsKeeping, none_kept, more_kept}
 use Rattle.promises.specs.First.{first_verdict, verdict_first}
 use Rattle.promises.specs.ByChecks.{volumes_code}
-use Rattle.promises.specs.Outcomes.{coded, accepted_table}
-use Rattle.promises.specs.Promises as page
+use Rattle.promises.proofs.Outcomes.{coded, accepted_table}
+use Rattle.promises.proofs.Promises as page
 
 -- ---- demand 1: one answer, and one content of each table
 pub make_one : {m : Making} {a b : Made} {old new new' : List ℤ} → MakingGives m a old new → MakingGives m b old new'
@@ -217,10 +217,9 @@ module _ {bed t sums : List ℤ} (made : MadeFrom bed t sums) where
         water = ap (λ (z : List ℤ). (reading bed t z a b).water) ok.1 ∙ rules-water bed t a b low high ∙ sym (between_is bed t a (b - a));
       }
 
-  -- from the first face to the last that of the whole reach, with which demand 3 balances
-  pub between_all : (r : Amount) → asked r ≡ between_of bed t sums 0 n → Answers r (water bed t n)
+  reach_water : (r : Amount) → asked r ≡ between_of bed t sums 0 n → Answers r (water bed t n)
   unfolding water_between water
-  between_all r g = let x = between_water 0 n r g (omega arith) (omega arith) in record {
+  reach_water r g = let x = between_water 0 n r g (omega arith) (omega arith) in record {
     read = x.read;
     told = x.told;
     water = x.water ∙ all_cells;
@@ -232,6 +231,10 @@ module _ {bed t sums : List ℤ} (made : MadeFrom bed t sums) where
         where
           nought : (i : ℕ) → 0 + i ≡ i
           nought i = omega arith
+
+  -- from the first face to the last that of the whole reach, with which demand 3 balances
+  pub between_all : (r : Amount) → asked r ≡ between_of bed t sums 0 n → Answers r (water bed t n)
+  between_all r g = reach_water r g
 
 -- ---- over any number of accepted calls that keep the sums
 module _ {bed : List ℤ} {n dx : ℕ} where
@@ -266,9 +269,9 @@ module _ {bed : List ℤ} {n dx : ℕ} where
   between_balances {s} {t} {u} {z} size k h before after g f =
       let e : cells_over bed ≡ n = omega (arith, size) in (
         water bed s n,
-        over e s before (between_all h before (onto e s u before g)),
+        over e s before (reach_water h before (onto e s u before g)),
         subst (Answers after) (page.water_balances bed n dx (keeping_calls k))
-            (over e t after (between_all (still_made k h) after (onto e t z after f))),
+            (over e t after (reach_water (still_made k h) after (onto e t z after f))),
       )
     where
       onto : cells_over bed ≡ n → (t z : List ℤ) (r : Amount) → asked r ≡ between_of bed t z 0 n

@@ -18,7 +18,7 @@ use Rattle.promises.specs.Seen.{all_checks, check_five, FirstMet, FirstMetAt, at
 use Rattle.promises.specs.Seen.{NoneBelow, Excess, stage_table, water, Listed, most_passed, brought, Lake}
 use Rattle.promises.specs.Seen.{lending, Called, Calls, none, more, NoInflow, CalledFromC, CallsFromC, none_c, more_c, NoneComesIn}
 use Rattle.promises.specs.ToldAnswers.{gave, onto, over, place_is, volumes_kept, volumes_are, volumes_told}
-use Rattle.promises.specs.Promises as page
+use Rattle.promises.proofs.Promises as page
 
 -- ---- demand 1: one number, and one content of each lent table, of every call from C
 pub step_one : (l : Lent) {r r' : ℕ} {old new new' vs v v' : List ℤ} {ps p p' : List ℕ}

@@ -65,11 +65,13 @@ use Rattle.promises.specs.Seen.{level, level_slope, discharge, discharge_slope, 
 use Rattle.promises.specs.Seen.{water, Listed, most_passed, brought, Lake}
 use Rattle.promises.specs.Seen.{Called, lent, Calls, NoInflow, FitsI32, NoneLeast, FromOtherEnd}
 use Rattle.promises.specs.ByChecks as call
-use Rattle.promises.specs.Outcomes.{by_checks, all_listed, ones_whole, twos_whole, all_within, coded, refused_place, refused_later}
-use Rattle.promises.specs.Outcomes.{accepted_table, Taken, taken, none_below_table, excess_table, written_calm, both_listed}
-use Rattle.promises.specs.Outcomes.{wall_left, inflow_left, passed_left, one, one_balanced, one_now, one_written, one_rests}
-use Rattle.promises.specs.Outcomes.{AStep, ShutStep, chain, shut_chain, lake_number, again_in_range, five_applies}
-use Rattle.promises.specs.OtherEnd.{other_gives, other_run, turned_fits, accepted_none_least}
+use Rattle.promises.proofs.Outcomes.{by_checks, all_listed, ones_whole, twos_whole, all_within, coded, refused_place, refused_later}
+use Rattle.promises.specs.Outcomes.{Taken}
+use Rattle.promises.proofs.Outcomes.{accepted_table, taken, none_below_table, excess_table, written_calm, both_listed}
+use Rattle.promises.proofs.Outcomes.{wall_left, inflow_left, passed_left, one, one_balanced, one_now, one_written, one_rests}
+use Rattle.promises.specs.Outcomes.{AStep, ShutStep}
+use Rattle.promises.proofs.Outcomes.{chain, shut_chain, lake_number, again_in_range, five_applies}
+use Rattle.promises.proofs.OtherEnd.{other_gives, other_run, turned_fits, accepted_none_least}
 
 -- ---- demand 1: one answer, one content of the table
 pub step_answer : (l : Lent) {a b : Answer} {old new new' : List ℤ} → Gives (step_of l) a old new → Gives (step_of l) b old new' → a ≡ b
@@ -241,7 +243,8 @@ module _ (l : Lent) (a : Answer) (old new : List ℤ) (g : Gives (step_of l) a o
   lent_again = again_in_range l m (sym (coded l g) ∙ e) (now ∙ accepted_table l g e) bed cells
 
   pub never_five : (b : Answer) (old' new' : List ℤ) → Gives (step_of m) b old' new' → code b ≡ 5 → ⊥
-  never_five b old' new' h f = clash (sym lent_again ∙ five_applies m (sym (coded m h) ∙ f))
+  never_five b old' new' h f = let again = again_in_range l m (sym (coded l g) ∙ e) (now ∙ accepted_table l g e) bed cells in
+      clash (sym again ∙ five_applies m (sym (coded m h) ∙ f))
 
 -- ---- demand 3, over any number of accepted calls on one bed with n cells of length dx; all else that they are given may differ
 module _ (bed : List ℤ) (n dx : ℕ) where

@@ -18,7 +18,7 @@ use Rattle.promises.specs.Seen.{FirstMet, FirstMetAt, at, most_passed}
 use Rattle.promises.specs.SeenSill.{check_five, fast_cell, discharge, depth, NoneBelow, Excess, water, Lake}
 use Rattle.promises.specs.SeenSill.{lending, Called, AcceptedCall, Calls, CalledFromC, AcceptedFromC, CallsFromC}
 use Rattle.promises.specs.ToldAnswers.{gave, onto, over, place_is, volumes_kept, volumes_are, volumes_told}
-use Rattle.promises.specs.Sill as page
+use Rattle.promises.proofs.Sill as page
 
 -- ---- demand 1: one number, and one content of each lent table
 pub step_one : (l : Lent) {r r' : ℕ} {old new new' vs v v' : List ℤ} {ps p p' : List ℕ}

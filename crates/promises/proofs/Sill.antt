@@ -24,10 +24,10 @@ use Rattle.promises.specs.SeenSill.{to_end, check_five, fast_cell, discharge, de
 use Rattle.promises.specs.SeenSill.{Called, lent, AcceptedCall, Calls}
 use Rattle.promises.specs.ByChecks as call
 use Rattle.promises.specs.ByChecks.{Taken, taken}
-use Rattle.promises.specs.SillTables.{by_checks, all_listed, ones_whole, twos_whole, eight_later, five_applies, six_cell}
-use Rattle.promises.specs.SillTables.{lake_number, at_rest, none_below_table, excess_table, kinds_in, wall_left, wall_right}
-use Rattle.promises.specs.SillTables.{passed_left, passed_right, written_calm, again_in_range}
-use Rattle.promises.specs.SillTables.{one_balanced, one_now, one_written, one_rests}
+use Rattle.promises.proofs.SillTables.{by_checks, all_listed, ones_whole, twos_whole, eight_later, five_applies, six_cell}
+use Rattle.promises.proofs.SillTables.{lake_number, at_rest, none_below_table, excess_table, kinds_in, wall_left, wall_right}
+use Rattle.promises.proofs.SillTables.{passed_left, passed_right, written_calm, again_in_range}
+use Rattle.promises.proofs.SillTables.{one_balanced, one_now, one_written, one_rests}
 
 -- ---- demand 1: one answer, one content of the table
 pub step_answer : (l : Lent) {a b : Answer} {old new new' : List ℤ} → Gives (step_of l) a old new → Gives (step_of l) b old new' → a ≡ b

@@ -28,7 +28,7 @@ use Rattle.step.specs.Gives.{volumes, both, Gives, answer, leaves}
 use Rattle.reach.specs.declared.answer.Answer.{Answer}
 use Rattle.reach.specs.declared.answer.Answer.TheVariants.{Accepted}
 use Rattle.promises.specs.Seen.{Besides, lending, Called, lent, Calls, none, more, least_i32, FitsI32, NoneLeast, FromOtherEnd}
-use Rattle.promises.specs.Outcomes.{taken}
+use Rattle.promises.proofs.Outcomes.{taken}
 
 -- an accepted call
 pub other_gives : (l : Lent) (a : Answer) (w v : ℤ) (old new : List ℤ) → volumes a ≡ both w v → Gives (step_of l) a old new
