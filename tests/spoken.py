@@ -13,7 +13,8 @@ import re
 
 ROOT = os.path.join(os.path.dirname(os.path.abspath(__file__)), "..")
 NAMES = ("Promises", "Sums", "Sill", "FromC", "SumsFromC", "SillFromC", "Changed", "Cases")
-PROMISES = ["crates/promises/specs/%s.antt" % name for name in NAMES]
+PROMISES = ["crates/promises/proofs/%s.antt" % name for name in NAMES]
+CALLS = "crates/promises/specs/Cases.antt"           # a part of the page Cases: the calls that the checker works there
 PAGES = PROMISES + ["crates/rules/specs/Numbers.antt", "crates/sill_rules/specs/Numbers.antt"]
 
 USE = re.compile(r"^(?:ghost |unfoldable )?(?:pub )?use Rattle\.(\w+)\.((?:specs|proofs)\.[^\s{;]*[^\s{;.])(?:\.\{([^}]*)\}| as (\S+?))?;?$", re.M)
@@ -126,7 +127,7 @@ def files():
         if (path, name) not in seen and there(path):
             seen.add((path, name))
             found += followed(path, whole(path, name))
-    return {path for path, _ in seen} - set(PROMISES)
+    return {path for path, _ in seen} - {*PROMISES, CALLS}
 
 
 if __name__ == "__main__":
