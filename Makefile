@@ -18,8 +18,9 @@ library:
 
 shared: target/libbassoonsun.so
 
-# What is there and newer than its sources is not made again: the one who installs need not have rt.
-target/libbassoonsun.a: $(shell find crates crates.txt -type f)
+# What is there and newer than its sources is not made again: the one who installs need not have rt. The folders out
+# hold what rt makes.
+target/libbassoonsun.a: $(shell find crates crates.txt -name out -prune -o -type f -print)
 	$(MAKE) library
 
 target/libbassoonsun.so: target/libbassoonsun.a include/bassoonsun.h

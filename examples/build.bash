@@ -38,31 +38,35 @@ need_cpp() {
 }
 
 # Of what rt says, read from standard input, shows each crate that had to be proved, with its time. rt proves the
-# last one, editor, in every build and gives no time for it: it is shown where another was, or where $1 is not empty.
+# last one, editor_c, in every build: it is shown where another was, or where $1 is not empty.
 show_proved() {
-    local line shown=$1 since=$SECONDS
+    local line crate='' shown=$1 since=$SECONDS
     while IFS= read -r line; do
         case $line in
-            "rt: "*" proved (unchanged "*) ;;
-            "rt: "*" proved ("*) echo "${line#rt: }"; shown=yes since=$SECONDS ;;
-            "rt: target/staticlib/"*) [ -z "$shown" ] || echo "editor proved ($((SECONDS - since)) s)" ;;
+            "rt: chose --jobs "*" for "*) crate=${line##* } since=$SECONDS ;;
+            "logic=proved "*)
+                { [ "$crate" = editor_c ] && [ -z "$shown" ]; } || echo "$crate proved ($((SECONDS - since)) s)"
+                shown=yes
+                ;;
         esac
     done
 }
 
 # Builds target/libbassoonsun.a and shows on standard error what is proved for it; nothing, where nothing has changed.
-# All that rt says is kept in target/staticlib.log, and is shown where it fails.
+# All that rt says is kept in target/staticlib.log, and is shown where it fails. What rt keeps of its proofs, in the
+# folders out of the crates, is no source.
 build_library() {
-    local library=$root/target/libbassoonsun.a said=$root/target/staticlib.log changed=''
+    local library=$root/target/libbassoonsun.a said=$root/target/staticlib.log exports=$root/crates/editor_c changed=''
     command -v rt >/dev/null 2>&1 || { echo "the Rattle toolchain's command rt is not on PATH" >&2; exit 2; }
     mkdir -p "$root/target"
-    if [ ! -f "$library" ] || [ -n "$(find "$root/crates" "$root/crates.txt" -newer "$library" -print -quit)" ]; then
+    if [ ! -f "$library" ] ||
+        [ -n "$(find "$root/crates.txt" "$root"/crates/*/* -name out -prune -o -newer "$library" -print -quit)" ]; then
         changed=yes
         echo "building target/libbassoonsun.a; what has changed is proved first (from nothing, some minutes)" >&2
     fi
-    (cd "$root" && rt staticlib editor) 2>&1 | tee "$said" | show_proved "$changed" >&2
-    [ "${PIPESTATUS[0]}" -eq 0 ] || { cat "$said" >&2; echo "rt staticlib editor failed" >&2; exit 2; }
-    cp "$root/target/staticlib/libeditor.a" "$library" || exit 2
+    (cd "$exports" && rt lib) 2>&1 | tee "$said" | show_proved "$changed" >&2
+    [ "${PIPESTATUS[0]}" -eq 0 ] || { cat "$said" >&2; echo "rt lib failed in crates/editor_c" >&2; exit 2; }
+    cp "$exports/out/libeditor_c.a" "$library" || exit 2
 }
 
 # Makes target/libbassoonsun.so of the archive, under the name $1 by which programs will ask for it. It shows the header's

@@ -6,6 +6,7 @@ pub mod Face
 pub mod Sizes
 pub mod Shown
 pub mod Outer
+pub mod EndsTurned
 pub mod Ends
 pub mod FastFaces
 pub mod EndChecks
@@ -31,8 +32,10 @@ pub mod EvenBed
 pub mod Friction
 pub mod Rest
 pub mod Minmod
+pub mod Deep
 pub mod Limiter
 pub mod DryDepth
+pub mod Late
 pub mod Runs
 pub mod Written
 pub mod Questions

@@ -1,6 +1,6 @@
 -- The step on columns gives the columns of what the step on cells gave, with the same numbers and volumes.
 -- Assumes nothing.
-use Rattle.std.specs.Prelude.{◌≡◌, refl, false, List, [], ◌∷◌, ℕ, zero, suc, ◌+◌, ◌*◌, ◌<◌, eqb, length, get_or, ℤ, pos}
+use Rattle.std.specs.Prelude.{◌≡◌, refl, false, List, [], ◌∷◌, ℕ, zero, suc, ◌*◌, ◌<◌, eqb, length, ℤ}
 use Rattle.std.proofs.Math.Path.{sym}
 use Rattle.std.proofs.Common.{◌∙◌, ap, not-suc-le-zero, arith}
 use Rattle.std.proofs.Math.Decide.{ℕ_discrete}
@@ -22,17 +22,9 @@ use Rattle.before.specs.E13 as E13
 use Rattle.before.specs.E13.{accepted}
 use Rattle.before.specs.E7.{cell_at, flat, state_of, number, step_of, rearranged, into_columns, into_cells, ColumnsOfOne}
 use Rattle.before.specs.E7.{lending, lent_in_columns, lent_in_cells, given_in_columns}
+use Rattle.before.proofs.Laws.Shift.{shift}
 
 -- ---- tables of cells
-shift : (a b c d : ℤ) (s : List ℤ) (k : ℕ) → cell_at (a ∷ b ∷ c ∷ d ∷ s) (suc k) ≡ cell_at s k
-shift a b c d s k =
-    let m0 : 4 * suc k ≡ suc (suc (suc (suc (4 * k)))) = omega arith in
-    let m1 : 4 * suc k + 1 ≡ suc (suc (suc (suc (4 * k + 1)))) = omega arith in
-    let m2 : 4 * suc k + 2 ≡ suc (suc (suc (suc (4 * k + 2)))) = omega arith in
-    let m3 : 4 * suc k + 3 ≡ suc (suc (suc (suc (4 * k + 3)))) = omega arith in
-    let l = a ∷ b ∷ c ∷ d ∷ s in
-    λ i. record { e0 = get_or l (m0 i) (pos 0); e1 = get_or l (m1 i) (pos 0); q0 = get_or l (m2 i) (pos 0); q1 = get_or l (m3 i) (pos 0) }
-
 -- a table of 4n numbers is the table of its cells
 flat_cells : (n : ℕ) (s : List ℤ) → length s ≡ 4 * n → flat (row n (cell_at s)) ≡ s
 unfolding flat row

@@ -15,7 +15,8 @@ use Rattle.rules.specs.Refusals.{fast_inflow}
 use Rattle.rules.proofs.Laws.Face.{lawful}
 use Rattle.rules.specs.Laws.Sizes.{Sound, Sized}
 use Rattle.rules.proofs.Laws.Sizes.{wave_size, square_size, face_sized}
-use Rattle.rules.proofs.Laws.Ends.{inflow_size, right_turned}
+use Rattle.rules.proofs.Laws.EndsTurned.{right_turned}
+use Rattle.rules.proofs.Laws.Ends.{inflow_size}
 
 -- a Q in its list is no larger than a discharge may be
 pub inflow_most : (e : End) → e.q ≤ largest_inflow → Within 8388608 (pos e.q)

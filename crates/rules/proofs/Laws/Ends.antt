@@ -5,17 +5,18 @@ use Rattle.std.specs.Prelude.{◌≡◌, ℕ, ℤ, neg_ℤ, ◌+ℤ◌, ◌*ℤ�
 use Rattle.std.proofs.Math.Path.{refl, ap}
 use Rattle.std.proofs.Common.{sym, ◌∙◌, subst, arith}
 use Rattle.std.proofs.Math.IntN.{pos}
-use Rattle.whole.specs.Flags.{by, cond_ind}
+use Rattle.whole.specs.Flags.{cond_ind}
 use Rattle.whole.specs.Parts.{nat_nonneg, le_trans}
 use Rattle.whole.specs.Difference.{lit, nonneg, ◌⊞◌, ⊖, ◌⊠◌, le!, none_times}
 use Rattle.whole.specs.Quotient.{quot_none}
-use Rattle.whole.specs.Choice.{max_z, size_z, max_l, max_r, size_nonneg, size_neg}
+use Rattle.whole.specs.Choice.{size_z, max_l, max_r, size_nonneg}
 use Rattle.rules.specs.Face.{Side, Flux, speed, wave}
-use Rattle.rules.specs.Lawful.{Still, resting, mirror, flip, Lawful}
+use Rattle.rules.specs.Lawful.{Still, resting, mirror, Lawful}
 use Rattle.rules.specs.Ends.{End, inflow_kind, is_inflow, outer, inflow_speed, inflow, left_end, right_end}
 use Rattle.rules.proofs.Laws.Speeds.{wave≥0}
 use Rattle.rules.proofs.Laws.Shown.{TakesRight, TakesLeft, takes_flip}
-use Rattle.rules.proofs.Laws.Outer.{outer_turned, left_outer_takes, left_outer_still, left_outer_wall}
+use Rattle.rules.proofs.Laws.Outer.{left_outer_takes, left_outer_still, left_outer_wall}
+use Rattle.rules.proofs.Laws.EndsTurned.{right_turned}
 
 -- ---- an inflow's top speed is at least that of what comes in, and that of a wave against the inner side
 pub inflow_top : (d : ℤ) (e : End) (f : ℤ) (x : Side) → inflow_speed d e x ≤ℤ (inflow d e f x).S
@@ -30,16 +31,6 @@ pub inflow_size : (d : ℤ) (e : End) (f : ℤ) (x : Side) → pos 0 ≤ℤ (inf
 inflow_size d e f x = le_trans
     (le! (lit 0) (nonneg (size_nonneg x.u) ⊞ nonneg (wave≥0 x.h)) (omega arith)) (inflow_wave d e f x)
 
--- from the other bank the mass alone is turned
-inflow_turn : (d : ℤ) (e : End) (f : ℤ) (x : Side) → inflow d e (neg_ℤ f) x ≡ flip (inflow d e f (mirror x))
-unfolding inflow inflow_speed
-inflow_turn d e f x = λ j. record {
-  F = neg_ℤ f;
-  K = (inflow d e f x).K;
-  A = (inflow d e f x).A;
-  S = max_z (inflow_speed d e x) (sym (size_neg x.u) j +ℤ wave x.h);
-}
-
 -- one whose mass runs rightward takes nothing from the side right of it
 inflow_takes : (d : ℤ) (e : End) (f : ℤ) (x : Side) → pos 0 ≤ℤ f → pos 0 ≤ℤ x.h → TakesLeft x.h (inflow d e f x)
 unfolding inflow
@@ -48,12 +39,6 @@ inflow_takes d e f x p h = let s = inflow_size d e f x in
 
 -- ---- both ends, beside any lawful rule
 module _ (face : Side → Side → Flux) (law : Lawful face) (d : ℤ) (e : End) where
-  -- the right end is the left one of the mirror image, seen from the other bank
-  pub right_turned : (x : Side) → right_end face d e x ≡ flip (left_end face d e (mirror x))
-  unfolding left_end right_end
-  right_turned x = by (is_inflow e) (λ b. rw b (inflow_turn d e (pos e.q) x))
-      (λ b. rw b (outer_turned face law e.kind x))
-
   -- an end takes no more than its side has; an inflow takes nothing, as it only brings water in
   pub left_end_takes : (x : Side) → pos 0 ≤ℤ x.h → TakesLeft x.h (left_end face d e x)
   unfolding left_end
@@ -61,7 +46,7 @@ module _ (face : Side → Side → Flux) (law : Lawful face) (d : ℤ) (e : End)
       (λ b. inflow_takes d e (pos e.q) x (nat_nonneg e.q) h) (λ b. left_outer_takes face law e.kind x h)
 
   pub right_end_takes : (x : Side) → pos 0 ≤ℤ x.h → TakesRight x.h (right_end face d e x)
-  right_end_takes x h = subst (TakesRight x.h) (sym (right_turned x)) (takes_flip (left_end_takes (mirror x) h))
+  right_end_takes x h = subst (TakesRight x.h) (sym (right_turned face law d e x)) (takes_flip (left_end_takes (mirror x) h))
 
   -- beside still water an end that brings nothing in is still
   pub left_end_still : e.q ≡ 0 → (h : ℤ) → pos 0 ≤ℤ h → Still h (left_end face d e (resting h))
@@ -80,7 +65,7 @@ module _ (face : Side → Side → Flux) (law : Lawful face) (d : ℤ) (e : End)
 
   pub right_end_still : e.q ≡ 0 → (h : ℤ) → pos 0 ≤ℤ h → Still h (right_end face d e (resting h))
   right_end_still z h p = let s = left_end_still z h p in
-      subst (Still h) (sym (right_turned (resting h))) (record { F≡ = ap neg_ℤ s.F≡; K≡ = s.K≡; A≡ = s.A≡ })
+      subst (Still h) (sym (right_turned face law d e (resting h))) (record { F≡ = ap neg_ℤ s.F≡; K≡ = s.K≡; A≡ = s.A≡ })
 
   -- ---- the mass that crosses the left one: none at a wall, and at an inflow what is given
   pub left_wall : e.kind ≡ 0 → (x : Side) → (left_end face d e x).F ≡ pos 0

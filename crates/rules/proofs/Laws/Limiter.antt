@@ -6,12 +6,13 @@ use Rattle.std.proofs.Math.Bool.{true}
 use Prim.Native.Nat.{ℕ, zero, suc, ◌<◌}
 use Rattle.std.proofs.Common.{arith, ne_eqb}
 use Rattle.whole.specs.Flags.{by, or_true}
-use Rattle.whole.specs.Tests.{yes_le, no_le, yes_lt}
+use Rattle.whole.specs.Tests.{yes_le, yes_lt}
 use Rattle.whole.specs.Choice.{size_z}
 use Rattle.tables.specs.Cells.{Cell}
 use Rattle.rules.specs.Reach.{Reach, Call, State, el, er, under, h0}
 use Rattle.rules.specs.Finishing.{parted, marked, shallow_at, shallow_left, shallow_right, spared, is_limited, limit, cut, dried, finish}
 use Rattle.rules.proofs.Laws.Shown.{inside}
+use Rattle.rules.proofs.Laws.Deep.{Deep, is_deep}
 
 pub not_last : (i n : ℕ) → suc i < n → eqb (suc i) n ≡ false
 not_last i n l = ne_eqb (suc i) n (λ e. let z : ⊥ = omega arith in z)
@@ -39,14 +40,8 @@ module _ (d : ℤ) (r : Reach) (s : State) where
   abbrev Shallow : ℕ → Type 0
   Shallow i = h0 (under r i) (s i) ≤ℤ d
 
-  abbrev Deep : ℕ → Type 0
-  Deep i = d <ℤ h0 (under r i) (s i)
-
   is_shallow : (i : ℕ) → Shallow i → shallow_at d r s i ≡ true
   is_shallow i h = yes_le (h0 (under r i) (s i)) d h
-
-  is_deep : (i : ℕ) → Deep i → shallow_at d r s i ≡ false
-  is_deep i h = no_le (h0 (under r i) (s i)) d h
 
   pub spares_itself : (i : ℕ) → Shallow i → spared d r s i ≡ true
   unfolding spared
@@ -61,18 +56,18 @@ module _ (d : ℤ) (r : Reach) (s : State) where
   spares_left i l h = rw (not_last i r.n l, is_shallow (suc i) h) (or_true (shallow_at d r s i || shallow_left d r s i))
 
   -- and no other is
-  none_left : (i : ℕ) → ((k : ℕ) → suc k ≡ i → Deep k) → shallow_left d r s i ≡ false
+  none_left : (i : ℕ) → ((k : ℕ) → suc k ≡ i → Deep d r s k) → shallow_left d r s i ≡ false
   unfolding shallow_left
   none_left zero h = refl
-  none_left (suc i) h = is_deep i (h i refl)
+  none_left (suc i) h = is_deep d r s i (h i refl)
 
-  none_right : (i : ℕ) → i < r.n → (suc i < r.n → Deep (suc i)) → shallow_right d r s i ≡ false
+  none_right : (i : ℕ) → i < r.n → (suc i < r.n → Deep d r s (suc i)) → shallow_right d r s i ≡ false
   unfolding shallow_right
-  none_right i l h = by (eqb (suc i) r.n) (λ e. rw e) (λ e. rw e (is_deep (suc i) (h (inside i r.n l e))))
+  none_right i l h = by (eqb (suc i) r.n) (λ e. rw e) (λ e. rw e (is_deep d r s (suc i) (h (inside i r.n l e))))
 
-  pub unspared : (i : ℕ) → i < r.n → Deep i → ((k : ℕ) → suc k ≡ i → Deep k) → (suc i < r.n → Deep (suc i)) → spared d r s i ≡ false
+  pub unspared : (i : ℕ) → i < r.n → Deep d r s i → ((k : ℕ) → suc k ≡ i → Deep d r s k) → (suc i < r.n → Deep d r s (suc i)) → spared d r s i ≡ false
   unfolding spared
-  unspared i l here left right = λ k. is_deep i here k || none_left i left k || none_right i l right k
+  unspared i l here left right = λ k. is_deep d r s i here k || none_left i left k || none_right i l right k
 
 -- ---- a spared cell leaves finishing with the slopes it came with, but for the cut and the drying
 module _ (r : Reach) (c : Call) (s : State) (i : ℕ) (e : spared c.dry r s i ≡ true) where

@@ -2,7 +2,7 @@
 -- Assumes nothing.
 use Rattle.std.proofs.Math.Path.{◌≡◌}
 use Rattle.std.proofs.Common.{sym, ◌∙◌, eqb→eq}
-use Rattle.std.specs.Prelude.{true, false, not, List, [], ◌∷◌, ◌++◌, ◌⊎◌, ℕ, suc, ◌%◌, ◌<◌, eqb, ℤ, pos, nat_abs, ◌*ℤ◌, ◌≤ℤ◌, ◌<ℤ◌}
+use Rattle.std.specs.Prelude.{true, false, not, [], ◌∷◌, ◌++◌, ◌⊎◌, ℕ, suc, ◌%◌, ◌<◌, eqb, ℤ, pos, nat_abs, ◌*ℤ◌, ◌≤ℤ◌, ◌<ℤ◌}
 use Rattle.std.proofs.Math.Logic.{inl, inr}
 use native.Mathlib.Omega.{arith}
 use Rattle.whole.specs.Flags.{or_r, not_f, held, by}
@@ -21,13 +21,14 @@ use Rattle.rules.specs.Stage.{face_at}
 use Rattle.rules.specs.Step.{rubbed, stage_one, carry, next}
 use Rattle.rules.specs.Refusals.{outside, past, call_tests, bad_end, bad_call, bad_bed, cell_tests, off_cell, off}
 use Rattle.rules.specs.Refusals.{fast_cell, fast_friction, fast_face, too_long}
-use Rattle.rules.specs.Refusals.{Check, each, stage_checks, early, checks, verdict, refusal, Clear}
+use Rattle.rules.specs.Refusals.{each, stage_checks, early, checks, verdict, refusal, Clear}
 use Rattle.rules.specs.AtRest.{AtRest}
 use Rattle.rules.specs.Laws.Agree.{Same}
 use Rattle.rules.proofs.Laws.Inside.{above_least, below_most}
 use Rattle.rules.proofs.Laws.Accept.{none_at, One, any_one, passed}
 use Rattle.rules.proofs.Laws.Verdicts.{cleared, clear_at, of_call_lem, clear_parts}
 use Rattle.rules.proofs.Laws.Order as order
+use Rattle.rules.proofs.Laws.Late.{late}
 use Rattle.rules.proofs.Laws.Positive.{Fine, Nonneg, Wet, mean≥0, Brief, stage_one_wet, next_wet}
 use Rattle.rules.proofs.Laws.EvenBed.{even_of, EvenBed}
 use Rattle.rules.proofs.Laws.EndChecks.{SlowInflows, slow_inflows}
@@ -72,11 +73,6 @@ brief r c s e i l = lt_no (pos 4096 *ℤ r.dx) (pos 2 *ℤ c.dt *ℤ (face_at r 
 pub stage_brief : (r : Reach) (c : Call) (s : State) → Clear (stage_checks r c s) → Brief r c s
 unfolding stage_checks
 stage_brief r c s k = brief r c s (clear_at (stage_checks r c s) k order.faces)
-
--- the checks after `early`
-abbrev late : Reach → Call → State → List Check
-late r c s =
-    each 8 r.n (off r (stage_one r c s)) ∷ stage_checks r c (stage_one r c s) ++ each 8 r.n (off r (next r c s)) ∷ []
 
 -- a call that passed the checks up to stage one's faces
 pub record Early (r : Reach) (c : Call) (s : State) : Type 0 where

@@ -1,6 +1,6 @@
 -- What an accepted step writes passes, over its bed, the checks of a state that is lent without a call.
 -- Assumes nothing.
-use Rattle.std.specs.Prelude.{◌≡◌, false, ℕ, suc, ◌-◌, ◌*◌, length, get_or, pos}
+use Rattle.std.specs.Prelude.{◌≡◌, false, ℕ, suc, ◌*◌, length, get_or, pos}
 use Rattle.std.proofs.Math.Path.{refl, ap}
 use Rattle.std.proofs.Common.{sym, ◌∙◌, arith}
 use borrow.Author.Tests.{ne_eqb, le-ltb, eq-eqb}

@@ -5,7 +5,7 @@ use Rattle.std.specs.Prelude.{◌≡◌, Bool, [], ◌∷◌, ◌-ℤ◌, ◌*�
 use Rattle.std.proofs.Math.Path.{refl, ap, ap₂}
 use Rattle.std.proofs.Common.{sym, ◌∙◌, arith}
 use Rattle.std.proofs.Math.Bool.{cond}
-use Rattle.std.proofs.Math.IntN.{ℤ, pos, neg_ℤ, neg_ℤ-neg_ℤ, ◌+ℤ◌, +ℤ_comm}
+use Rattle.std.proofs.Math.IntN.{ℤ, pos, neg_ℤ, ◌+ℤ◌, +ℤ_comm}
 use Rattle.std.specs.Int.Signed.{quot_z, le_z}
 use Rattle.whole.specs.Flags.{cond_map}
 use Rattle.whole.specs.Difference.{at, lit, ◌⊞◌, ◌⊟◌, ⊖, ◌⊠◌, eq!, neg_add, neg_sub, sub_neg, neg_less, neg_more, sub_swap}
@@ -23,19 +23,14 @@ use Rattle.rules.specs.Step.{rub, rubbed_cell, joined_cell}
 use Rattle.rules.proofs.Laws.Speeds.{speed_odd}
 use Rattle.rules.proofs.Laws.Shown.{volume_flip}
 use Rattle.survey.specs.Turned.{turned_cell}
+use Rattle.survey.proofs.Laws.CellTwice.{cell_is, cell_twice}
 use Rattle.survey.proofs.Laws.Signs.{share_odd, carried_even, half_odd, slowed_odd, drag_even, clipped_odd, beyond_even}
 
 -- the bed under it
 abbrev pub turned_bed : Bed → Bed
 turned_bed b = record { zl = b.zr; zr = b.zl }
 
-pub cell_is : (x y : Cell) → x.e0 ≡ y.e0 → x.e1 ≡ y.e1 → x.q0 ≡ y.q0 → x.q1 ≡ y.q1 → x ≡ y
-cell_is x y a b c d = λ m. record { e0 = a m; e1 = b m; q0 = c m; q1 = d m }
-
 -- turned twice it is the cell itself: so what shows the g of a cell there shows the f of it here
-pub cell_twice : (x : Cell) → turned_cell (turned_cell x) ≡ x
-cell_twice x = cell_is (turned_cell (turned_cell x)) x refl (neg_ℤ-neg_ℤ x.e1) (neg_ℤ-neg_ℤ x.q0) refl
-
 from_there : {A : Type 0} (f g : Bed → Cell → A) → ((b : Bed) (x : Cell) → f (turned_bed b) (turned_cell x) ≡ g b x)
     → (b : Bed) (x : Cell) → g (turned_bed b) (turned_cell x) ≡ f b x
 from_there f g h b x = sym (h (turned_bed b) (turned_cell x)) ∙ ap (f b) (cell_twice x)

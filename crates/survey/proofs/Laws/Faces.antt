@@ -14,7 +14,7 @@ use Rattle.rules.specs.Reach.{State, Bed, under, side_l, side_r}
 use Rattle.rules.specs.Stage.{at_left, at_right, face_at, update, stage}
 use Rattle.rules.proofs.Laws.Mirror.{mirror_twice, flip_twice}
 use Rattle.rules.proofs.Laws.Limiter.{not_last}
-use Rattle.rules.proofs.Laws.Ends as ends
+use Rattle.rules.proofs.Laws.EndsTurned as ends
 use Rattle.survey.specs.Turned.{turned_cell}
 use Rattle.survey.proofs.Laws.Cell.{turned_bed, side_l_turned, update_turned}
 use Rattle.survey.proofs.Laws.Surveys.{Surveys, other_reach, other_call, other, under_turned}

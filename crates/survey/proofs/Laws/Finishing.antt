@@ -17,7 +17,8 @@ use Rattle.rules.specs.Finishing.{minmod, with_right, with_left, limited, limit,
 use Rattle.rules.proofs.Laws.Minmod.{minmod_odd, either_first}
 use Rattle.rules.proofs.Laws.Limiter.{not_last}
 use Rattle.survey.specs.Turned.{turned_cell}
-use Rattle.survey.proofs.Laws.Cell.{turned_bed, cell_is, shallow_turned, cut_turned, dried_turned}
+use Rattle.survey.proofs.Laws.CellTwice.{cell_is}
+use Rattle.survey.proofs.Laws.Cell.{turned_bed, shallow_turned, cut_turned, dried_turned}
 use Rattle.survey.proofs.Laws.Surveys.{Surveys, other_reach, other_call, Opposite, under_turned}
 use Rattle.survey.proofs.Laws.Surveys.{Turned, TurnsInto, from_other, opposite_cell}
 

@@ -1,25 +1,24 @@
 -- A call from the other end, on the lent tables: the same number, and where it is accepted the turned table, and the volumes exchanged with
 -- their signs changed.
 -- Assumes nothing.
-use Rattle.std.specs.Prelude.{◌≡◌, false, reverse, length, get_or, pos, neg_ℤ}
+use Rattle.std.specs.Prelude.{◌≡◌, false, length, pos, neg_ℤ}
 use Rattle.std.proofs.Math.Path.{sym, ap}
 use Rattle.std.proofs.Common.{◌∙◌}
 use Prim.Native.Nat.{ℕ, suc, ◌+◌, ◌-◌}
 use native.Mathlib.Omega.{arith}
-use Rattle.std.proofs.lemmas.List.{length-reverse}
-use Rattle.tables.specs.Reversed.{get_d_reverse}
 use Rattle.tables.specs.Cells.{cell_in, table_of}
-use Rattle.tables.proofs.Cells.{length_table, cell_in_table, table_same}
+use Rattle.tables.proofs.Cells.{cell_in_table, table_same}
 use Rattle.rules.specs.Face.{face}
 use Rattle.rules.specs.Reach.{Reach, State}
 use Rattle.rules.specs.Step.{carry, next}
 use Rattle.rules.specs.Refusals.{refusal}
-use Rattle.rules.specs.Lent.{Lent, cells_of, reach_of, call_of, state_of, misfit, misfits, number, filled, crossed}
+use Rattle.rules.specs.Lent.{Lent, cells_of, reach_of, call_of, state_of, misfits, number, filled, crossed}
 use Rattle.rules.proofs.Laws.Face.{lawful}
-use Rattle.rules.proofs.Laws.Lengths.{Fitted, fitted, later_number, unrefused}
+use Rattle.rules.proofs.Laws.Lengths.{Fitted, later_number, unrefused}
 use Rattle.rules.proofs.Laws.Runs.{Accepted, accepted}
 use Rattle.survey.specs.Turned.{turned_cell, turned_table, turned_call}
 use Rattle.survey.proofs.Laws.Surveys.{Surveys, other_reach, Turned}
+use Rattle.survey.proofs.Laws.Both as both
 use Rattle.survey.proofs.Laws.Step.{carry_turned, next_turned}
 use Rattle.survey.proofs.Laws.Checks.{refusal_turned}
 
@@ -28,22 +27,15 @@ module _ (l : Lent) (fit : misfits l ≡ false) where
   n = cells_of l
 
   lengths : Fitted (length l.now) l.room (length l.bed) n
-  lengths = fitted (length l.now) l.room (length l.bed) n fit
+  lengths = both.lengths l fit
 
   -- the call as it stands, and the turned one
   abbrev surveys : Surveys
-  surveys = record {
-    reach = reach_of l;
-    call = call_of l;
-    bed = λ i. get_or (reverse l.bed) i (pos 0);
-    rough = λ i. pos (get_or (reverse l.friction) i 0);
-    beds = λ i j o. get_d_reverse (pos 0) l.bed i j (omega (arith, lengths.beds));
-    roughs = λ i j o. ap pos (get_d_reverse 0 l.friction i j o);
-  }
+  surveys = both.surveys l fit
 
   -- which has as many cells, and whose state is turned
   cells : cells_of (turned_call l) ≡ n
-  cells = length-reverse l.friction
+  cells = both.cells l fit
 
   abbrev turned_state : State
   turned_state = cell_in n (turned_table n l.now)
@@ -59,15 +51,9 @@ module _ (l : Lent) (fit : misfits l ≡ false) where
   as_other f = λ m. f (cells m) (record { n = cells m; dx = pos l.dx; bed = surveys.bed; face = face })
       (cell_in (cells m) (turned_table n l.now))
 
-  fits_too : misfits (turned_call l) ≡ misfits l
-  unfolding turned_table
-  fits_too =
-      let state = length_table n (λ i. turned_cell (state_of l (n - suc i))) ∙ sym lengths.now in
-      λ m. misfit (state m) l.room (length-reverse l.bed m) (cells m)
-
   pub number_turned : number (turned_call l) ≡ number l
   number_turned =
-      later_number (turned_call l) (fits_too ∙ fit) ∙ as_other (λ k r s. refusal r (call_of (turned_call l)) s)
+      later_number (turned_call l) (both.fits_too l fit ∙ fit) ∙ as_other (λ k r s. refusal r (call_of (turned_call l)) s)
       ∙ refusal_turned surveys lawful lengths.some (state_of l) turned_state state_turned ∙ sym (later_number l fit)
 
   module _ (ok : number l ≡ 0) where

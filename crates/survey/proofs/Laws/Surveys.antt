@@ -6,7 +6,8 @@ use Rattle.std.proofs.Common.{sym, ◌∙◌, ap, ap₂, arith}
 use Rattle.tables.specs.Cells.{Cell}
 use Rattle.rules.specs.Reach.{Reach, Call, State, Bed, under}
 use Rattle.survey.specs.Turned.{turned_cell}
-use Rattle.survey.proofs.Laws.Cell.{turned_bed, cell_twice}
+use Rattle.survey.proofs.Laws.CellTwice.{cell_twice}
+use Rattle.survey.proofs.Laws.Cell.{turned_bed}
 
 -- the one as it stands, and of the other its bed and friction: only those at faces 0 to n and of cells below n count
 pub record Surveys : Type 0 where

@@ -9,7 +9,7 @@ use Rattle.tables.proofs.Cells.{cell_in_table, table_cells, table_same}
 use Rattle.rules.specs.Lent.{Lent, cells_of, misfits}
 use Rattle.rules.proofs.Laws.Lengths.{fitted}
 use Rattle.survey.specs.Turned.{turned_cell, turned_table, turned_call}
-use Rattle.survey.proofs.Laws.Cell.{cell_twice}
+use Rattle.survey.proofs.Laws.CellTwice.{cell_twice}
 
 pub table_twice : (n : ℕ) (t : List ℤ) → length t ≡ 4 * n → turned_table n (turned_table n t) ≡ t
 unfolding turned_table
