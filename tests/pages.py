@@ -17,7 +17,8 @@
 
 Not looked at: whether what a page says of a name is so; where a name stands that has no file or crate beside it, or
 other words between; links from one page to another.  docs/LANDINGS.md is left out, as it speaks of files that have
-gone.
+gone. What waits as text, in the files of crates/ that end in .txt, is no part of the tree, and a word that stands nowhere
+but in docs/ or tools/, which keep names that have gone, is none of its words.
 
 Prints a line for each fact that does not hold; the last line is 'N passed, M failed', and the exit status is 1
 when something failed.
@@ -36,9 +37,11 @@ PAGES = ("README.md", RULES, PROMISES, DECISIONS, "docs/VALIDATION.md")
 RULES_FILES = "crates/rules/specs/"
 WHOLE = re.compile(r"crates/((sill_)?rules/specs/\w+|survey/specs/Turned|double/specs/(Face|Constants)|root/specs/Root)\.antt")
 BELIEVED = "## What has to be believed"
-PATTERNS = {"src/m.rt", "proofs/m/f/Proof.antt"}    # of PROMISES.md, for any module m and function f
-TOOLCHAINS = {"natAbs"}                             # stands in a row of names, but is the toolchain's
+PATTERNS = {"src/m.rt"}                             # of PROMISES.md, for any module m
+TOOLCHAINS = {"nat_abs"}                            # stands in a row of names, but is the toolchain's
 LOGGED = {"logic-built", "libraries-built"}         # stand in the toolchain's log
+WAITING = re.compile(r"crates/.*\.txt$")            # unfinished work, which waits as text
+FORMER = re.compile(r"(docs|tools)/")               # has names that have gone: patches, tables of what was renamed
 
 PATH = re.compile(r"(?<![\w./-])(?:crates|docs|tests|examples|include|bench|validation)/[\w./-]*\w")
 SHORT = re.compile(r"(?<![\w./-])(?:[\w-]+/)*\w+\.(?:antt|rt|py)\b")
@@ -46,7 +49,7 @@ LABEL = re.compile(r"\b[FSRBL]\d+\b")
 NAME_OF_C = re.compile(r"\b(?:BASSOONSUN|bassoonsun)_\w+")
 NAMES = r"(`[^`\s]+`(?:(?:, | and )`[^`\s]+`)*)"
 CITED = re.compile(NAMES + r"(?:,| in)? ((?:[\w-]+/)*\w+\.antt)")
-WORD = re.compile(r"`(\w[\w′-]*)`")
+WORD = re.compile(r"`(\w[\w'-]*)`")
 EDITS = re.compile(NAMES + r" (crates/\w+)(?![\w/])")
 DEFINED = re.compile(r"^[ ]*(?:(?:abbrev|unfoldable|pub) )*(?:(?:record|data) (\S+)|(\S+) :)(?= |$)", re.M)
 PUBLIC = re.compile(r"^(?:(?:abbrev|unfoldable) )?pub (?:record |data )?(?!mod )(\S+)", re.M)
@@ -83,9 +86,9 @@ def read(path):
 def tree():
     found = []
     for folder, inner, files in os.walk(ROOT):
-        inner[:] = [name for name in inner if name not in (".git", "target", "__pycache__")]
+        inner[:] = [name for name in inner if name not in (".git", "target", "out", "__pycache__")]
         found += [os.path.relpath(os.path.join(folder, name), ROOT) for name in files]
-    return found
+    return [path for path in found if not WAITING.match(path)]
 
 
 @functools.lru_cache(None)
@@ -154,9 +157,9 @@ def definitions(page):
 
 @functools.lru_cache(None)
 def words():
-    """Every word of the tree but for its pages, and every name of a file."""
-    texts = [read(path) for path in tree() if not path.endswith((".md", ".svg"))]
-    return {word for text in texts for word in re.findall(r"\w[\w′-]*", text)} | {
+    """Every word of the tree but for its pages and what keeps former names, and every name of a file."""
+    texts = [read(path) for path in tree() if not path.endswith((".md", ".svg")) and not FORMER.match(path)]
+    return {word for text in texts for word in re.findall(r"\w[\w'-]*", text)} | {
         os.path.splitext(os.path.basename(path))[0] for path in tree()}
 
 
@@ -220,8 +223,8 @@ def limits():
 
 def proved():
     """The rows of values that the one statement of Numbers.antt has."""
-    stated = re.search(r"^pub numbers-on-either-side :(.*?)^unfolding", read(RULES_FILES + "Numbers.antt"), re.M | re.S)[1]
-    return [[-int(size) if minus else int(size) for minus, size in re.findall(r"(negℤ \()?pos (\d+)", line)]
+    stated = re.search(r"^pub numbers_on_either_side :(.*?)^unfolding", read(RULES_FILES + "Numbers.antt"), re.M | re.S)[1]
+    return [[-int(size) if minus else int(size) for minus, size in re.findall(r"(neg_ℤ \()?pos (\d+)", line)]
             for line in stated.splitlines() if "pos" in line]
 
 

@@ -13,14 +13,15 @@ import re
 
 ROOT = os.path.join(os.path.dirname(os.path.abspath(__file__)), "..")
 NAMES = ("Promises", "Sums", "Sill", "FromC", "SumsFromC", "SillFromC", "Changed", "Cases")
-PROMISES = ["crates/promises/specs/%s.antt" % name for name in NAMES]
+PROMISES = ["crates/promises/proofs/%s.antt" % name for name in NAMES]
+CALLS = "crates/promises/specs/Cases.antt"           # a part of the page Cases: the calls that the checker works there
 PAGES = PROMISES + ["crates/rules/specs/Numbers.antt", "crates/sill_rules/specs/Numbers.antt"]
 
-USE = re.compile(r"^(?:ghost |unfoldable )?(?:pub )?use Rattle·(\w+)(?:·specs|·proofs)?\.(\S+?)(?:\.\{([^}]*)\}| as (\S+?));?$", re.M)
+USE = re.compile(r"^(?:ghost |unfoldable )?(?:pub )?use Rattle\.(\w+)\.((?:specs|proofs)\.[^\s{;]*[^\s{;.])(?:\.\{([^}]*)\}| as (\S+?))?;?$", re.M)
 STARTS = re.compile(r"^ {0,4}(abbrev |unfoldable )?(pub )?(record |data )?([^\s(:]+) (?=.*:|$)")
 HEAD = re.compile(r"^ *module _ .*?where$", re.M | re.S)
 FUNCTION = re.compile(r"^pub (?:extern \"C\" )?fn .*?^\{", re.M | re.S)
-WORD = re.compile(r"[^\s(){},;\[\]⌜⌝«»]+")
+WORD = re.compile(r"[^\s(){},;\[\]]+")
 KEYWORDS = {"use", "module", "infixl", "infixr", "infix", "let", "in", "unfolding", "where", "→", "×", "⊎", "∷", "≡"}
 
 
@@ -40,8 +41,8 @@ def imports(path):
     names, modules = {}, {}
     for crate, module, group, other in USE.findall(read(path)):
         file = "crates/%s/%s.antt" % (crate, module.replace(".", "/"))
-        if other:
-            modules[other] = file
+        if not group:
+            modules[other or module.rpartition(".")[2]] = file
         for entry in filter(None, (part.strip() for part in group.split(","))):
             name, _, alias = entry.partition(" as ")
             names[alias or name] = (file, name)
@@ -75,16 +76,18 @@ def stated(name, lines, whole):
 
 
 def followed(path, text):
-    """The definitions that the words of a text may mean in that file."""
+    """The definitions that the words of a text may mean in that file; of `x.field` those of x, and of `⊕` those of `◌⊕◌`."""
     names, modules = imports(path)
     for word in WORD.findall(text):
-        first, _, rest = word.partition(".")
+        first, *rest = word.split(".")
         if first in modules and rest:
-            yield modules[first], rest
-        elif word in names:
-            yield names[word]
-        elif path.endswith(".antt") and word in definitions(path):
-            yield path, word
+            yield modules[first], rest[0]
+            continue
+        for name in {word, first, "◌%s◌" % word}:
+            if name in names:
+                yield names[name]
+            elif path.endswith(".antt") and name in definitions(path):
+                yield path, name
 
 
 def whole(path, name):
@@ -124,7 +127,7 @@ def files():
         if (path, name) not in seen and there(path):
             seen.add((path, name))
             found += followed(path, whole(path, name))
-    return {path for path, _ in seen} - set(PROMISES)
+    return {path for path, _ in seen} - {*PROMISES, CALLS}
 
 
 if __name__ == "__main__":

@@ -1,4 +1,4 @@
--- To be believed: `Cell`, `as_list`, `as_cell`, `seen`, `columns_of`, `table_of`, `cell_in` and `put_cell`.
+-- To be believed: `Cell`, `as_list`, `as_cell`, `seen`, `columns_of`, `table_of` and `cell_in`.
 -- Cells of four whole numbers: as the code holds them, and in lent tables, a column for each of the four.
 use Rattle.std.specs.Prelude.{List, [], ◌∷◌, ℕ, ℤ, pos}
 use Rattle.std.proofs.Math.ListN.{get_or}

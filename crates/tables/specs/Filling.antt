@@ -1,4 +1,3 @@
--- To be believed: `FillSays`.
 -- A loop that fills a table and stops at the lowest place with a property: what it says where it stops and where it ends.
 use Rattle.std.specs.Prelude.{◌≡◌, Bool, List, ℕ, ◌≤◌, ◌<◌, get_or}
 use Rattle.tables.specs.Some.{lowest}

@@ -1,4 +1,3 @@
--- To be believed: `Same`.
 -- States that agree in the reach.
 use Rattle.std.specs.Prelude.{◌≡◌}
 use Prim.Native.Nat.{ℕ, ◌<◌}

@@ -1,4 +1,3 @@
--- To be believed: `Ended` and `Cut`.
 -- Which blocks lie whole between two faces, and which cells are in none of those.
 use Rattle.std.specs.Prelude.{◌≡◌, true, false, ◌⊎◌, ℕ, ◌+◌, ◌-◌, ◌/◌, ◌≤◌, ◌<◌}
 use Rattle.rules.specs.Limits.{block_cells}

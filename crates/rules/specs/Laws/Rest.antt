@@ -1,4 +1,3 @@
--- To be believed: `NoInflow`.
 -- Calls that bring no water in.
 use Rattle.std.specs.Prelude.{◌≡◌}
 use Rattle.rules.specs.Reach.{Call}

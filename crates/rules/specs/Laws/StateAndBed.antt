@@ -1,4 +1,3 @@
--- To be believed: `StateFits`.
 -- The lengths of a state that passed the checks that need no call.
 use Rattle.std.specs.Prelude.{◌≡◌, ℕ, ◌*◌, ◌≤◌, ◌<◌}
 

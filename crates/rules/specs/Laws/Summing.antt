@@ -1,4 +1,3 @@
--- To be believed: `Has`.
 -- Places in a row that have a property.
 use Rattle.std.specs.Prelude.{◌≡◌, Bool}
 use Prim.Native.Nat.{ℕ, ◌≤◌, ◌<◌}
