@@ -1,4 +1,4 @@
--- To be believed: what the statements of proofs/Cases speak of.
+-- What the statements of proofs/Cases speak of.
 -- Calls small enough for the checker to work them, and a state with its sums. What each gives is stated there.
 use Rattle.std.specs.Prelude.{List, [], ◌∷◌, ℕ, suc, ℤ, pos, neg_ℤ}
 use Rattle.tables.specs.Rows.{row}
