@@ -12,7 +12,7 @@ mod show;
 use read::{fill, fill_friction, fill_state, given, lent, take_line};
 use show::line_of;
 use std::io;
-use std::io::{BufReader, Read};
+use std::io::Read;
 use step::{Answer, End, Given};
 
 fn called(line: &[u8], state: &[i32], next: &mut [i32], bed: &[i32], friction: &[u16]) -> Answer {
@@ -74,7 +74,7 @@ fn one(rt: &impl Print, input: &mut impl Read) -> io::Result<()> {
 }
 
 fn main(rt: HostRuntime) -> io::Result<()> {
-    let mut input = BufReader::new(rt.alloc(), rt.reader())?;
+    let mut input = rt.reader();
     // as many lines as the file has, and more
     for _ in 0u64..1000 {
         one(&rt, &mut input)?;

@@ -2,7 +2,7 @@
 //
 // A field of a line begins after a colon or a semicolon, and a number in it after a blank. A number
 // with a sign is kept as its 64 bits.
-ghost use Rattle.std.specs.Prelude.{◌*◌, ◌≤◌, IfOk, length};
+ghost use Rattle.std.specs.Prelude.{◌≡◌, ◌*◌, ◌≤◌, IfOk, length};
 
 use std::io;
 use std::io::Read;
@@ -16,9 +16,10 @@ fn taken(input: &mut impl Read) -> io::Result<u8> {
     Ok(b[0])
 }
 
-// The next line, without its end, and how long it is: 0 after the last.
+// The next line, without its end, and how long it is: 0 after the last. Where a read fails, the table has its length still.
 pub fn take_line(input: &mut impl Read, line: &mut [u8]) -> io::Result<usize>
-    ensures { IfOk result (λ n. n ≤ length line.new) }
+    ensures within { IfOk result (λ n. n ≤ length line.new) }
+    ensures kept { length line.new ≡ length line.old }
 {
     for n in 0..line.len() {
         let b = taken(input)?;
