@@ -1,20 +1,26 @@
--- To be believed: all but the two laws at the end.
+-- To be believed: all but the laws at the end.
 -- What a step says: one answer, and one content of the lent table.
-use Rattle.std.specs.Prelude.{◌≡◌, List, ℕ, ℤ}
-use Rattle.std.proofs.Common.{sym, ◌∙◌}
+use Rattle.std.specs.Prelude.{◌≡◌, refl, cond, List, ℕ, suc, zero, ◌<◌, eqb, ℤ, Result, Ok, Err}
+use Rattle.std.proofs.Common.{sym, ◌∙◌, arith}
 use Rattle.rules.specs.Lent.{Outcome, refused, accepted}
-use Rattle.reach.specs.declared.answer.Answer.{Answer}
-use Rattle.reach.specs.declared.answer.Answer.TheVariants.{Refused, Accepted}
+use Rattle.reach.specs.declared.answer.Refusal.{Refusal}
+use Rattle.reach.specs.declared.answer.Refusal.TheVariants as refusal
+use Rattle.reach.specs.declared.answer.Refused.{Refused}
+use Rattle.reach.specs.declared.answer.Volumes.{Volumes as Crossed}
+use Rattle.reach.specs.Refusals.{number_of}
+
+abbrev pub Answer : Type 0
+Answer = Result Crossed Refused
 
 -- ---- the scope document's number and values of each answer
 -- the number of a refusal and its place, both 0 for an accepted step;
 unfoldable pub code : Answer → ℕ
-code (Refused k p) = k
-code (Accepted w v) = 0
+code (Err e) = number_of e.refusal
+code (Ok v) = 0
 
 unfoldable pub placed : Answer → ℕ
-placed (Refused k p) = p
-placed (Accepted w v) = 0
+placed (Err e) = e.place
+placed (Ok v) = 0
 
 -- and W at face 0 and at face n, which an accepted step has and a refusal has not
 pub data Volumes : Type 0 where
@@ -22,14 +28,31 @@ pub data Volumes : Type 0 where
   both : ℤ → ℤ → Volumes
 
 unfoldable pub volumes : Answer → Volumes
-volumes (Refused k p) = absent
-volumes (Accepted w v) = both w v
+volumes (Err e) = absent
+volumes (Ok v) = both v.first v.last
 
 -- ---- what a call gives
+-- the refusal that has a number of the list, and any other number's
+unfoldable pub refusal_of : ℕ → Refusal
+refusal_of k =
+    cond (eqb k 1) refusal.Lengths
+    (cond (eqb k 2) refusal.Numbers
+    (cond (eqb k 3) refusal.Bed
+    (cond (eqb k 4) refusal.Friction
+    (cond (eqb k 5) refusal.State
+    (cond (eqb k 6) refusal.Speed
+    (cond (eqb k 7) refusal.TimeStep
+    (cond (eqb k 8) refusal.Stage refusal.Faces)))))))
+
 -- the answer of an outcome,
 unfoldable pub answer : Outcome → Answer
-answer (refused k p) = Refused k p
-answer (accepted t w v) = Accepted w v
+answer (refused k p) = Err (record { refusal = refusal_of k; place = p })
+answer (accepted t w v) = Ok (record { first = w; last = v })
+
+-- its number,
+unfoldable pub number_in : Outcome → ℕ
+number_in (refused k p) = k
+number_in (accepted t w v) = 0
 
 -- and what it leaves in the lent table
 unfoldable pub leaves : Outcome → List ℤ → List ℤ
@@ -38,6 +61,7 @@ leaves (accepted t w v) old = t
 
 pub record Gives (o : Outcome) (a : Answer) (old new : List ℤ) : Type 0 where
   pub says : a ≡ answer o
+  pub number : code a ≡ number_in o
   pub table : new ≡ leaves o old
 
 -- one answer and one content
@@ -46,3 +70,17 @@ one_answer p q = p.says ∙ sym q.says
 
 pub one_table : {o : Outcome} {a b : Answer} {old new new' : List ℤ} → Gives o a old new → Gives o b old new' → new ≡ new'
 one_table p q = p.table ∙ sym q.table
+
+-- a number of a step's list has its own refusal
+pub numbered : (k : ℕ) → 0 < k → k < 9 → number_of (refusal_of k) ≡ k
+unfolding refusal_of
+numbered zero a b = let z : ⊥ = omega arith in absurd z
+numbered (suc zero) a b = refl
+numbered (suc (suc zero)) a b = refl
+numbered (suc (suc (suc zero))) a b = refl
+numbered (suc (suc (suc (suc zero)))) a b = refl
+numbered (suc (suc (suc (suc (suc zero))))) a b = refl
+numbered (suc (suc (suc (suc (suc (suc zero)))))) a b = refl
+numbered (suc (suc (suc (suc (suc (suc (suc zero))))))) a b = refl
+numbered (suc (suc (suc (suc (suc (suc (suc (suc zero)))))))) a b = refl
+numbered (suc (suc (suc (suc (suc (suc (suc (suc (suc k))))))))) a b = let z : ⊥ = omega arith in absurd z

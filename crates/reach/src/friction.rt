@@ -1,8 +1,8 @@
 // The lent friction, a Manning value for each cell. Every call is answered: past its end the table counts as
 // nought.
 ghost use Rattle.std.specs.Prelude.{◌≡◌, get_or, length, pos};
-ghost use Rattle.tables.specs.Some.{lowest};
 ghost use Rattle.rules.specs.Refusals.{bad_rough};
+ghost use Rattle.reach.specs.Places.{first_place};
 
 use crate::limits::ROUGHEST;
 
@@ -16,16 +16,14 @@ pub fn rough_at(friction: &[u16], i: usize) -> i64
     0
 }
 
-// 4: the lowest friction value over 200, or their number.
-pub fn bad_friction(friction: &[u16]) -> usize
-    ensures { result ≡ lowest (λ i. bad_rough (pos (get_or friction.now i 0))) (length friction.now) }
+// 4: the lowest friction value over 200, where there is one.
+pub fn bad_friction(friction: &[u16]) -> Option<usize>
+    ensures { result ≡ first_place (λ i. bad_rough (pos (get_or friction.now i 0))) (length friction.now) }
 {
-    let mut i: usize = 0;
-    while i < friction.len() {
-        if ROUGHEST < friction[i] {
-            return i;
+    for (i, rough) in friction.iter().enumerate() {
+        if ROUGHEST < *rough {
+            return Some(i);
         }
-        i += 1;
     }
-    friction.len()
+    None
 }

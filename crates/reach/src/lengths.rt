@@ -8,11 +8,7 @@ use crate::limits::CELLS;
 pub fn cells_over(bed: &[i32]) -> usize
     ensures { result ≡ cells_over bed.now }
 {
-    let faces = bed.len();
-    if faces == 0 {
-        return 0;
-    }
-    faces - 1
+    bed.len().saturating_sub(1)
 }
 
 // 1: is there no such number of cells, or does a state of this length not fit them?

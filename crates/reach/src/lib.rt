@@ -5,10 +5,8 @@
 
 pub mod answer;
 pub mod bed;
-pub mod found;
 pub mod friction;
 pub mod lengths;
-pub mod lent;
 pub mod limits;
 pub mod size;
 

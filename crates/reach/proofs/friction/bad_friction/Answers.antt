@@ -1,12 +1,7 @@
-use mathlib.Core.Path.{◌≡◌, refl}
-use mathlib.Core.Bool.{true, false}
-use Prim.Native.Nat.{ℕ, ◌≤◌, ◌<◌, ◌-◌}
-use native.Mathlib.Omega.{arith}
-use borrow.Author.Tests.{lt-ltb, le-ltb}
-use lib.ListN.{get_or}
-use lib.IntN.{pos}
+use Rattle.std.proofs.Common.{◌≡◌, refl, true, false, get_or, pos, ℕ, ◌<◌, ◌≤◌, arith, lt-ltb, le-ltb}
 use Rattle.rules.specs.Refusals.{bad_rough}
-use Rattle.tables.proofs.Scan.{scan_none, scan_more, scan_lowest, scan_past}
+use Rattle.tables.proofs.Scan.{scan_none, scan_more}
+use Rattle.reach.specs.Places.{scan_place, scan_no_place}
 use Rattle.reach.proofs.friction.bad_friction.Goals as goal
 
 -- over 200 or not; no value is below nought
@@ -18,16 +13,13 @@ fine : (x : ℕ) → x ≤ 200 → bad_rough (pos x) ≡ false
 unfolding bad_rough
 fine x h = rw (le-ltb x 0 (omega arith), le-ltb 200 x h)
 
-pub loop-i-init : goal.loop-i-init
-loop-i-init c = scan_none _ _
-
-pub returns-then-friction-i-gt-ROUGHEST : goal.returns-then-friction-i-gt-ROUGHEST
-returns-then-friction-i-gt-ROUGHEST c = let e = c.before.before in let l = e.before in
-    scan_lowest l.loop-i.invariant e.loop-i-test.true (over (get_or l.args.friction.now l.loop-i.i 0) c.if-friction-i-gt-ROUGHEST.true) refl
+pub returns-then-rough-gt-ROUGHEST : goal.returns-then-rough-gt-ROUGHEST
+returns-then-rough-gt-ROUGHEST c =
+    scan_place c.loop-i.invariant (omega arith) (over (get_or c.args.friction.now c.loop-i.i 0) (omega arith)) refl
 
 pub loop-i-preserved : goal.loop-i-preserved
-loop-i-preserved c = let e = c.before.before in let l = e.before in
-    scan_more l.loop-i.invariant e.loop-i-test.true (fine (get_or l.args.friction.now l.loop-i.i 0) c.if-friction-i-gt-ROUGHEST.false) refl
+loop-i-preserved c =
+    scan_more c.loop-i.invariant (omega arith) (fine (get_or c.args.friction.now c.loop-i.i 0) (omega arith)) refl
 
 pub returns : goal.returns
-returns c = scan_past c.loop-i.invariant c.loop-i-test.false
+returns c = scan_no_place c.loop-i.invariant (omega arith)

@@ -1,9 +1,5 @@
 -- Below i no value of the friction is over 200.
-use mathlib.Core.Bool.{Bool}
-use mathlib.Core.List.{List}
-use Prim.Native.Nat.{ℕ, ◌-◌}
-use lib.ListN.{get_or, length}
-use lib.IntN.{pos}
+use Rattle.std.proofs.Common.{◌≡◌, Bool, List, get_or, length, pos, ℕ}
 use Rattle.rules.specs.Refusals.{bad_rough}
 use Rattle.tables.proofs.Scan.{Scanned}
 use Rattle.reach.proofs.friction.bad_friction.Given as goal
@@ -13,6 +9,3 @@ bad friction k = bad_rough (pos (get_or friction k 0))
 
 abbrev pub invariant-loop-i : goal.invariant-loop-i
 invariant-loop-i l = Scanned (bad l.friction) (length l.friction) l.i
-
-abbrev pub decreases-loop-i : goal.decreases-loop-i
-decreases-loop-i l = length l.friction - l.i
