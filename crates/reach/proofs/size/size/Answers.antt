@@ -20,6 +20,6 @@ lesser x r e = go (dec_le (nat_abs x) 9223372036854775807)
 
 pub returns : goal.returns
 returns c =
-    let m : c.unsigned_abs.result ≡ nat_abs c.args.x = simp (to_z-of_z, c.ranges.x) at c.unsigned_abs.ensures.value in
+    let m : c.unsigned_abs.result ≡ nat_abs c.args.x = c.unsigned_abs.ensures.value ∙ ap nat_abs (to_z-of_z c.ranges.x) in
     let least : c.min.result ≡ min (nat_abs c.args.x) 9223372036854775807 = rw m at c.min.ensures in
     as_whole c.min.result (omega (arith, least)) ∙ lesser c.args.x c.min.result least
