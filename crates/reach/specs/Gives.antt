@@ -1,7 +1,7 @@
 -- To be believed: all but the laws at the end.
 -- What a step says: one answer, and one content of the lent table.
 use Rattle.std.specs.Prelude.{◌≡◌, refl, cond, List, ℕ, suc, zero, ◌<◌, eqb, ℤ, Result, Ok, Err}
-use Rattle.std.proofs.Common.{sym, ◌∙◌, arith}
+use Rattle.std.proofs.Common.{sym, ◌∙◌, ap, arith}
 use Rattle.rules.specs.Lent.{Outcome, refused, accepted}
 use Rattle.reach.specs.declared.answer.Refusal.{Refusal}
 use Rattle.reach.specs.declared.answer.Refusal.TheVariants as refusal
@@ -71,7 +71,25 @@ one_answer p q = p.says ∙ sym q.says
 pub one_table : {o : Outcome} {a b : Answer} {old new new' : List ℤ} → Gives o a old new → Gives o b old new' → new ≡ new'
 one_table p q = p.table ∙ sym q.table
 
--- a number of a step's list has its own refusal
+-- a refusal has its own number,
+number_back : (k : Refusal) → refusal_of (number_of k) ≡ k
+unfolding refusal_of
+number_back refusal.Lengths = refl
+number_back refusal.Numbers = refl
+number_back refusal.Bed = refl
+number_back refusal.Friction = refl
+number_back refusal.State = refl
+number_back refusal.Speed = refl
+number_back refusal.TimeStep = refl
+number_back refusal.Stage = refl
+number_back refusal.Faces = refl
+
+pub one_refused : (d e : Refused) → number_of d.refusal ≡ number_of e.refusal → d.place ≡ e.place → d ≡ e
+one_refused d e p q =
+    let same : d.refusal ≡ e.refusal = sym (number_back d.refusal) ∙ ap refusal_of p ∙ number_back e.refusal in
+    λ i. record { refusal = same i; place = q i }
+
+-- and a number of a step's list its own refusal
 pub numbered : (k : ℕ) → 0 < k → k < 9 → number_of (refusal_of k) ≡ k
 unfolding refusal_of
 numbered zero a b = let z : ⊥ = omega arith in absurd z

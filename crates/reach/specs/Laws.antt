@@ -1,2 +1,3 @@
 -- What follows of the numbers of a reach.
 pub mod DryList
+pub mod Refusals

@@ -1,7 +1,7 @@
 // What a step answers, over a sloping bed or a stepped one: the water that crossed the two ends, or which of its checks
 // stopped it and where.
 ghost use Rattle.std.specs.Prelude.{◌≡◌};
-ghost use Rattle.reach.specs.Refusals.{number_of};
+ghost use Rattle.reach.specs.Refusals.{number_of, refused_at};
 
 // What is wrong with a call, in the order in which it is looked for. The numbers are those that a caller in C is told.
 #[derive(Clone, Copy, Debug, PartialEq, Eq)]
@@ -24,6 +24,21 @@ pub enum Refusal {
     Stage = 8,
     // two faces are out of order, or beyond the reach
     Faces = 10,
+}
+
+impl Refusal {
+    // What a search for the lowest place says to which this refusal applies: a refusal there, or none.
+    pub fn at(self, place: Option<usize>) -> Result<(), Refused>
+        ensures { result ≡ refused_at self place }
+    {
+        match place {
+            Some(place) => Err(Refused {
+                refusal: self,
+                place,
+            }),
+            None => Ok(()),
+        }
+    }
 }
 
 // The number of a refusal, as a caller in C is told it.

@@ -1,5 +1,5 @@
 -- To be believed. What the public function says, by the cases of its answer.
-use Rattle.std.specs.Prelude.{◌≡◌, List, ◌++◌, ℕ, ◌<◌, get_or, ℤ, pos}
+use Rattle.std.specs.Prelude.{◌≡◌, List, ◌++◌, ℕ, ◌<◌, get_or, ℤ, pos, Ok, Err}
 use Rattle.tables.specs.Cells.{cell_in, table_of}
 use Rattle.rules.specs.Reach.{Reach, Call, State}
 use Rattle.rules.specs.Step.{carry, next}
@@ -8,12 +8,12 @@ use Rattle.rules.specs.Found.{Found, at, found, found_of}
 use Rattle.reach.specs.declared.Reach.{Reach as ToldReach}
 use Rattle.reach.specs.declared.Call.{Call as ToldCall}
 use Rattle.reach.specs.declared.Given.{Given}
+use Rattle.reach.specs.Refusals.{number_of}
+use Rattle.reach.specs.Gives.{Answer}
 use Rattle.reach.specs.Told.{end_in, reach_in, call_on}
 use Rattle.reach.specs.Ranges.{UpTo}
 use Rattle.stage.specs.Ranges.{most_volume}
 use Rattle.stage.specs.Says.{ready_checks, both_checks}
-use Rattle.stage.specs.declared.worked.Worked.{Worked}
-use Rattle.stage.specs.declared.worked.Worked.TheVariants.{Refused, Done}
 
 -- a volume that crosses a face, of any reach
 abbrev pub Volume : ℤ → Type 0
@@ -33,12 +33,12 @@ pub record Went (r : Reach) (c : Call) (s : State) (k : Found) (w v : ℤ) (new 
   pub left_in : Volume w
   pub right_in : Volume v
 
-abbrev pub Says : Reach → Call → State → Found → Worked → List ℤ → List ℤ → Type 0
-Says r c s k (Refused m p) old new = Stopped k (at m p) old new
-Says r c s k (Done w v) old new = Went r c s k w v new
+abbrev pub Says : Reach → Call → State → Found → Answer → List ℤ → List ℤ → Type 0
+Says r c s k (Err e) old new = Stopped k (at (number_of e.refusal) e.place) old new
+Says r c s k (Ok v) old new = Went r c s k v.first v.last new
 
 -- the checks after 2, and the step on tables
-abbrev pub TablesSay : ToldReach → ToldCall → List ℤ → List ℕ → List ℤ → Worked → List ℤ → List ℤ → Type 0
+abbrev pub TablesSay : ToldReach → ToldCall → List ℤ → List ℕ → List ℤ → Answer → List ℤ → List ℤ → Type 0
 TablesSay reach call bed friction state w old new =
     let r : Reach = reach_in reach bed in let c : Call = call_on call (λ i. pos (get_or friction i 0)) in
     let s : State = cell_in reach.n state in
@@ -59,5 +59,5 @@ lent_by state room bed friction g = record {
   right = end_in g.right;
 }
 
-abbrev pub WorkedSays : Lent → Worked → List ℤ → List ℤ → Type 0
+abbrev pub WorkedSays : Lent → Answer → List ℤ → List ℤ → Type 0
 WorkedSays a w old new = Says (reach_of a) (call_of a) (state_of a) (found_of a) w old new

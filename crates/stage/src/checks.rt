@@ -1,11 +1,11 @@
 // The checks of what is lent, and of a finished state, each over the whole reach: one of places gives the
-// lowest to which it applies, or how many there are.
+// lowest to which it applies.
 ghost use Rattle.std.specs.Prelude.{◌≡◌, List, ℕ, ◌*◌, get_or, length, ℤ, pos};
-ghost use Rattle.tables.specs.Some.{lowest};
 ghost use Rattle.tables.specs.Cells.{as_cell, seen};
 ghost use Rattle.rules.specs.Refusals.{bad_end, bad_call, bad_bed, off_cell, fast_cell};
 ghost use Rattle.rules.specs.Lent.{misfit};
 ghost use Rattle.rules.specs.Reach.{bed_at};
+ghost use Rattle.reach.specs.Places.{first_place};
 ghost use Rattle.reach.specs.Told.{end_in, reach_in, call_on, bed_in};
 ghost use Rattle.reach.specs.Ranges.{DryDepth, AllUnfinished};
 ghost use Rattle.stage.specs.Ranges.{Room, Inside, Ranged};
@@ -90,35 +90,30 @@ fn bad_value(z: i64) -> bool
     size % 2 != 0
 }
 
-// 3: the lowest bed value that is out of range or odd, or their number.
-pub fn bad_bed(bed: &[i32]) -> usize
-    ensures { result ≡ lowest (λ i. bad_bed (get_or bed.now i (pos 0))) (length bed.now) }
+// 3: the lowest bed value that is out of range or odd.
+pub fn bad_bed(bed: &[i32]) -> Option<usize>
+    ensures { result ≡ first_place (λ i. bad_bed (get_or bed.now i (pos 0))) (length bed.now) }
 {
-    let mut i: usize = 0;
-    while i < bed.len() {
+    for i in 0..bed.len() {
         if bad_value(bed_at(bed, i)) {
-            return i;
+            return Some(i);
         }
-        i += 1;
     }
-    bed.len()
+    None
 }
 
-// 5 and 8: the lowest cell out of range, or n.
-pub fn off(t: &[Cell], bed: &[i32], reach: Reach) -> usize
+// 5 and 8: the lowest cell out of range.
+pub fn off(t: &[Cell], bed: &[i32], reach: Reach) -> Option<usize>
     requires room { Room reach t.now }
     requires all_unfinished { AllUnfinished bed.now reach.n (seen t.now) }
-    ensures { result ≡ lowest (λ i. off_cell (bed_at bed.now i) (seen t.now i)) reach.n }
+    ensures { result ≡ first_place (λ i. off_cell (bed_at bed.now i) (seen t.now i)) reach.n }
 {
-    let n = reach.n;
-    let mut i: usize = 0;
-    while i < n {
+    for i in 0..reach.n {
         if off_cell(under(bed, i), t[i]) {
-            return i;
+            return Some(i);
         }
-        i += 1;
     }
-    n
+    None
 }
 
 // Is the speed of a cell's mean discharge too large? A shallow cell has none.
@@ -131,20 +126,17 @@ fn fast_cell(b: Bed, x: Cell, dry: i64) -> bool
     past(FASTEST, speed_of(x[2], h[0], dry))
 }
 
-// 6, of friction: the lowest cell that is too fast, or n. Checked also where friction is 0.
-pub fn fast(t: &[Cell], bed: &[i32], reach: Reach, call: Call) -> usize
+// 6, of friction: the lowest cell that is too fast. Checked also where friction is 0.
+pub fn fast(t: &[Cell], bed: &[i32], reach: Reach, call: Call) -> Option<usize>
     requires room { Room reach t.now }
     requires ranged { Ranged bed.now reach.n (seen t.now) }
     requires dry_depth { DryDepth call.dry }
-    ensures { result ≡ lowest (λ i. fast_cell call.dry (bed_at bed.now i) (seen t.now i)) reach.n }
+    ensures { result ≡ first_place (λ i. fast_cell call.dry (bed_at bed.now i) (seen t.now i)) reach.n }
 {
-    let n = reach.n;
-    let mut i: usize = 0;
-    while i < n {
+    for i in 0..reach.n {
         if fast_cell(under(bed, i), t[i], call.dry) {
-            return i;
+            return Some(i);
         }
-        i += 1;
     }
-    n
+    None
 }

@@ -8,11 +8,17 @@ ghost use Rattle.stage.specs.Ranges.{Room, Smalls};
 ghost use Rattle.stage.specs.Says.{EndSays};
 
 use crate::checks::off;
-use reach::found::Found;
+use reach::answer::{Refusal, Refused};
 use reach::{Call, Cell, Reach};
 
-// The unfinished state u, finished, into b: an 8 with its place where that is out of range, else 0.
-pub fn end(u: &[Cell], bed: &[i32], reach: Reach, call: Call, b: &mut [Cell]) -> Found
+// The unfinished state u, finished, into b; an 8 where that is out of range.
+pub fn end(
+    u: &[Cell],
+    bed: &[i32],
+    reach: Reach,
+    call: Call,
+    b: &mut [Cell],
+) -> Result<(), Refused>
     requires n_le_most_cells { (reach.n ≤ most_cells) × (length bed.now ≡ reach.n + 1) × Room reach u.now × Room reach b.old }
     requires numbers { Numbers reach call }
     requires grounds { Grounds bed.now reach.n × Smalls reach.n (seen u.now) }
@@ -21,9 +27,5 @@ pub fn end(u: &[Cell], bed: &[i32], reach: Reach, call: Call, b: &mut [Cell]) ->
 {
     // true, as what a stage leaves is never too large to be finished
     let _done = finishing::finish(u, bed, reach, call, b);
-    let i = off(b, bed, reach);
-    if i < reach.n {
-        return Found { no: 8, place: i };
-    }
-    Found { no: 0, place: 0 }
+    Refusal::Stage.at(off(b, bed, reach))
 }

@@ -16,7 +16,6 @@ use crate::rows::{Flux, Side};
 use crate::sides::speed_of;
 use face::answer::Carried;
 use reach::End;
-use reach::lent::widened;
 use reach::limits::{FASTEST, INFLOW, past};
 use reach::size::size;
 use speeds::answer::Whole;
@@ -67,7 +66,7 @@ fn inflow_speed(end: End, x: Side, dry: i64) -> i64
     requires dry_depth { DryDepth dry }
     ensures { result ≡ rules.inflow_speed dry (end_in end) (side_in x) }
 {
-    speed_of(widened(end.q), x.h, dry)
+    speed_of(i64::from(end.q), x.h, dry)
 }
 
 // 6, of an end: has it an inflow that is too fast?
@@ -105,7 +104,7 @@ fn inflow(end: End, f: i64, x: Side, dry: i64) -> Flux
     Flux {
         f,
         k: x.h * x.h,
-        a: widened(end.q) * v / 4096,
+        a: i64::from(end.q) * v / 4096,
         s,
     }
 }
@@ -118,7 +117,7 @@ pub fn left_end(end: End, x: Side, dry: i64) -> Flux
     ensures { flux_in result ≡ rules.left_end face dry (end_in end) (side_in x) }
 {
     if end.kind == INFLOW {
-        return inflow(end, widened(end.q), x, dry);
+        return inflow(end, i64::from(end.q), x, dry);
     }
     crossing(outer(end.kind, x), x)
 }
@@ -130,7 +129,7 @@ pub fn right_end(end: End, x: Side, dry: i64) -> Flux
     ensures { flux_in result ≡ rules.right_end face dry (end_in end) (side_in x) }
 {
     if end.kind == INFLOW {
-        return inflow(end, -widened(end.q), x, dry);
+        return inflow(end, -i64::from(end.q), x, dry);
     }
     crossing(x, outer(end.kind, x))
 }

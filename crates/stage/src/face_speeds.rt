@@ -26,23 +26,29 @@ fn face_beside(x: Sides, i: usize) -> usize
     i + 1
 }
 
-// 6, of the faces: the lowest at which a side or an inflow is too fast, or n + 1; then the sides of all cells are in d.
-pub fn face_speeds(t: &[Cell], bed: &[i32], reach: Reach, call: Call, d: &mut [Sides]) -> usize
+// 6, of the faces: the lowest at which a side or an inflow is too fast; where there is none the sides of all cells are in d.
+pub fn face_speeds(
+    t: &[Cell],
+    bed: &[i32],
+    reach: Reach,
+    call: Call,
+    d: &mut [Sides],
+) -> Option<usize>
     requires n_nonzero { (0 < reach.n) × (reach.n ≤ most_cells) × Room reach t.now × Room reach d.old }
     requires numbers { Numbers reach call }
     requires ranged { Ranged bed.now reach.n (seen t.now) }
     ensures { FaceSpeedsSay reach call bed.now (seen t.now) result d.new }
 {
     let n = reach.n;
-    let i = sides(t, bed, reach, call, d);
+    let fast = sides(t, bed, reach, call, d);
     if fast_inflow(call.left, left_side(d[0]), call.dry) {
-        return 0;
+        return Some(0);
     }
-    if i < n {
-        return face_beside(d[i], i);
+    if let Some(i) = fast {
+        return Some(face_beside(d[i], i));
     }
     if fast_inflow(call.right, right_side(d[n - 1]), call.dry) {
-        return n;
+        return Some(n);
     }
-    n + 1
+    None
 }

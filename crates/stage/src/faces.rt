@@ -1,7 +1,7 @@
 // What crosses each face of the reach: worked once a stage, and kept with its volume.
 ghost use Rattle.std.specs.Prelude.{◌≡◌, [], suc, ◌≤◌, ◌<◌};
-ghost use Rattle.tables.specs.Filling.{FillSays};
 ghost use Rattle.rules.specs.Laws.Sizes.{Sized};
+ghost use Rattle.reach.specs.Places.{FillStops};
 ghost use Rattle.reach.specs.Ranges.{Numbers};
 ghost use Rattle.stage.specs.Rows.{Sounds, SlowEnds, flux_in, face_row, long_flux, cross_in, long_at, face_row_at};
 ghost use Rattle.stage.specs.Ranges.{Room, FaceRoom};
@@ -45,23 +45,20 @@ fn face_row(x: Flux, reach: Reach, call: Call) -> FaceRow
     [x.f, x.k, x.a, x.f * call.dt / reach.dx]
 }
 
-// 7: the rows of the n + 1 faces into f, up to the lowest at which the step is too long: that face, or n + 1.
-pub fn faces(d: &[Sides], reach: Reach, call: Call, f: &mut [FaceRow]) -> usize
+// 7: the rows of the n + 1 faces into f, up to the lowest at which the step is too long, which it gives.
+pub fn faces(d: &[Sides], reach: Reach, call: Call, f: &mut [FaceRow]) -> Option<usize>
     requires n_nonzero { (0 < reach.n) × Room reach d.now × FaceRoom reach f.old }
     requires numbers { Numbers reach call }
     requires sounds { Sounds d.now reach.n × SlowEnds reach call d.now }
-    ensures { FillSays [] (suc reach.n)
+    ensures { FillStops [] (suc reach.n)
         (long_at reach call d.now) (face_row_at reach call d.now) result f.new }
 {
-    let n = reach.n;
-    let mut i: usize = 0;
-    while i <= n {
+    for i in 0..=reach.n {
         let x = face_at(d, reach, call, i);
         f[i] = face_row(x, reach, call);
         if too_long(x, reach, call) {
-            return i;
+            return Some(i);
         }
-        i += 1;
     }
-    n + 1
+    None
 }

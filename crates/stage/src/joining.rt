@@ -56,12 +56,9 @@ pub fn join(x: &[Cell], u: &mut [Cell], f: &[FaceRow], g: &[FaceRow], reach: Rea
     ensures { JoinSays reach.n (seen x.now) (seen u.old)
         f.now g.now u.new }
 {
-    let n = reach.n;
-    let mut i: usize = 0;
-    while i < n {
+    for i in 0..reach.n {
         let wl = end_volume(f, g, i);
         let wr = end_volume(f, g, i + 1);
         u[i] = joined_cell(x[i], u[i], wl, wr);
-        i += 1;
     }
 }

@@ -44,9 +44,7 @@ pub fn load(state: &[i32], reach: Reach, t: &mut [Cell])
     ensures { LoadSays reach.n state.now t.old t.new }
 {
     let n = reach.n;
-    let mut i: usize = 0;
-    while i < n {
+    for i in 0..n {
         t[i] = cell_of(state, n, i);
-        i += 1;
     }
 }

@@ -1,10 +1,10 @@
 // The two Gauss points of each cell: their speeds, and the momentum that they carry.
 ghost use Rattle.std.specs.Prelude.{◌≡◌, pos, ◌+ℤ◌, ◌-ℤ◌, ◌*ℤ◌};
 ghost use Rattle.std.specs.Int.Signed.{quot_z};
-ghost use Rattle.tables.specs.Filling.{FillSays};
 ghost use Rattle.tables.specs.Cells.{as_cell, seen};
 ghost use Rattle.rules.specs.Limits.{fullest};
 ghost use Rattle.rules.specs.Stage.{share};
+ghost use Rattle.reach.specs.Places.{FillStops};
 ghost use Rattle.reach.specs.Told.{bed_in};
 ghost use Rattle.reach.specs.Ranges.{UpTo, DryDepth};
 ghost use Rattle.stage.specs.Ranges.{Room, Inside, Ranged, Around, thin_fastest};
@@ -54,24 +54,21 @@ fn points_of(b: Bed, x: Cell, dry: i64) -> [i64; 3]
     pair_of(h[0], share_of(h[1]), x[2], share_of(x[3]), dry)
 }
 
-// The momentum of the cells' Gauss points into g, up to the lowest cell with a point that is too fast: that
-// cell, or n.
-pub fn points(t: &[Cell], bed: &[i32], reach: Reach, call: Call, g: &mut [i64]) -> usize
+// The momentum of the cells' Gauss points into g, up to the lowest cell with a point that is too fast, which it
+// gives.
+pub fn points(t: &[Cell], bed: &[i32], reach: Reach, call: Call, g: &mut [i64]) -> Option<usize>
     requires room { Room reach t.now × Room reach g.old }
     requires ranged { Ranged bed.now reach.n (seen t.now) }
     requires dry_depth { DryDepth call.dry }
-    ensures { FillSays (pos 0) reach.n (fast_points_at call.dry bed.now (seen t.now))
+    ensures { FillStops (pos 0) reach.n (fast_points_at call.dry bed.now (seen t.now))
         (momentum_at call.dry bed.now (seen t.now)) result g.new }
 {
-    let n = reach.n;
-    let mut i: usize = 0;
-    while i < n {
+    for i in 0..reach.n {
         let p = points_of(under(bed, i), t[i], call.dry);
         g[i] = p[2];
         if either_fast(p[0], p[1]) {
-            return i;
+            return Some(i);
         }
-        i += 1;
     }
-    n
+    None
 }

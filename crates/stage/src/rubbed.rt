@@ -97,10 +97,7 @@ pub fn rub(t: &mut [Cell], bed: &[i32], friction: &[u16], reach: Reach, call: Ca
     ensures { Filled [] t.old t.new reach.n
         (λ i. as_list (rubbed_at call friction.now bed.now (seen t.old) i)) }
 {
-    let n = reach.n;
-    let mut i: usize = 0;
-    while i < n {
+    for i in 0..reach.n {
         t[i] = rubbed_cell(call, rough_at(friction, i), under(bed, i), t[i]);
-        i += 1;
     }
 }

@@ -1,10 +1,10 @@
 // The sides that each cell shows to its two faces: a depth, and the speed of the face discharge at it.
 ghost use Rattle.std.specs.Prelude.{◌≡◌, [], ◌+ℤ◌, ◌-ℤ◌};
-ghost use Rattle.tables.specs.Filling.{FillSays};
 ghost use Rattle.tables.specs.Cells.{as_cell, seen};
 ghost use Rattle.rules.specs.Limits.{fullest};
 ghost use Rattle.rules.specs.Face.{speed};
 ghost use Rattle.rules.specs.Reach.{side_l, side_r};
+ghost use Rattle.reach.specs.Places.{FillStops};
 ghost use Rattle.reach.specs.Told.{bed_in};
 ghost use Rattle.reach.specs.Ranges.{UpTo, DryDepth};
 ghost use Rattle.stage.specs.Ranges.{DepthIn, Room, Inside, Ranged, Around};
@@ -53,23 +53,20 @@ fn sides_of(b: Bed, x: Cell, dry: i64) -> Sides
     places_of(h[0], h[1], x[2], x[3], dry)
 }
 
-// The sides of the cells of t into d, up to the lowest cell with a side that is too fast: that cell, or n.
-pub fn sides(t: &[Cell], bed: &[i32], reach: Reach, call: Call, d: &mut [Sides]) -> usize
+// The sides of the cells of t into d, up to the lowest cell with a side that is too fast, which it gives.
+pub fn sides(t: &[Cell], bed: &[i32], reach: Reach, call: Call, d: &mut [Sides]) -> Option<usize>
     requires room { Room reach t.now × Room reach d.old }
     requires ranged { Ranged bed.now reach.n (seen t.now) }
     requires dry_depth { DryDepth call.dry }
-    ensures { FillSays [] reach.n (fast_sides call.dry bed.now (seen t.now))
+    ensures { FillStops [] reach.n (fast_sides call.dry bed.now (seen t.now))
         (sides_at call.dry bed.now (seen t.now)) result d.new }
 {
-    let n = reach.n;
-    let mut i: usize = 0;
-    while i < n {
+    for i in 0..reach.n {
         let s = sides_of(under(bed, i), t[i], call.dry);
         d[i] = s;
         if either_fast(s[1], s[3]) {
-            return i;
+            return Some(i);
         }
-        i += 1;
     }
-    n
+    None
 }

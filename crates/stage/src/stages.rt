@@ -12,11 +12,11 @@ use crate::faces::faces;
 use crate::points::points;
 use crate::rows::FaceRow;
 use crate::update::update;
-use reach::found::Found;
+use reach::answer::{Refusal, Refused};
 use reach::{Call, Cell, Reach};
 
-// A stage from the state t: a 6 or a 7 with its place where it may not go on, else 0, with the rows of its
-// faces in f and the unfinished state in u. The momenta of its cells go into g. Their sides stand in u
+// A stage from the state t: a 6 or a 7 where it may not go on, else the rows of its faces are in f and the
+// unfinished state in u. The momenta of its cells go into g. Their sides stand in u
 // until the faces are worked, so that each call clears a table less.
 pub fn stage(
     t: &[Cell],
@@ -26,7 +26,7 @@ pub fn stage(
     g: &mut [i64],
     f: &mut [FaceRow],
     u: &mut [Cell],
-) -> Found
+) -> Result<(), Refused>
     requires n_nonzero { (0 < reach.n) × (reach.n ≤ most_cells) × Room reach t.now × Room reach g.old }
     requires face_room { FaceRoom reach f.old × Room reach u.old }
     requires numbers { Numbers reach call }
@@ -35,19 +35,9 @@ pub fn stage(
         StageSays (reach_in reach bed.now) (call_on call ρ) (seen t.now) (found_in result)
         f.new u.new }
 {
-    let n = reach.n;
-    let fast = face_speeds(t, bed, reach, call, u);
-    if fast <= n {
-        return Found { no: 6, place: fast };
-    }
-    let cell = points(t, bed, reach, call, g);
-    if cell < n {
-        return Found { no: 6, place: cell };
-    }
-    let long = faces(u, reach, call, f);
-    if long <= n {
-        return Found { no: 7, place: long };
-    }
+    Refusal::Speed.at(face_speeds(t, bed, reach, call, u))?;
+    Refusal::Speed.at(points(t, bed, reach, call, g))?;
+    Refusal::TimeStep.at(faces(u, reach, call, f))?;
     update(t, bed, f, g, reach, call, u);
-    Found { no: 0, place: 0 }
+    Ok(())
 }

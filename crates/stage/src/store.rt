@@ -31,9 +31,7 @@ pub fn store(y: &[Cell], n: usize, next: &mut [i32])
     requires { (n ≤ length y.now) × (n ≤ most_cells) × (length next.old ≡ 4 * n) × AllFit n (seen y.now) }
     ensures { next.new ≡ table_of n (seen y.now) }
 {
-    let mut i: usize = 0;
-    while i < n {
+    for i in 0..n {
         put_cell(next, n, i, y[i]);
-        i += 1;
     }
 }

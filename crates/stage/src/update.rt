@@ -143,10 +143,7 @@ pub fn update(
     ensures { Holds u.new reach.n
         (update_at reach call bed.now (seen t.now) f.now g.now) }
 {
-    let n = reach.n;
-    let mut i: usize = 0;
-    while i < n {
+    for i in 0..reach.n {
         u[i] = updated(under(bed, i), t[i], f[i], f[i + 1], g[i], reach, call);
-        i += 1;
     }
 }

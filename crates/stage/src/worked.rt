@@ -16,9 +16,8 @@ use crate::rows::FaceRow;
 use crate::rubbed::rub;
 use crate::stages::stage;
 use crate::store::store;
-use reach::found::Found;
+use reach::answer::{Answer, Refusal, Refused, Volumes};
 use reach::friction::bad_friction;
-use reach::lent::widened;
 use reach::limits::{CELLS, FACES};
 use reach::{Call, Cell, Given, Reach};
 
@@ -28,39 +27,23 @@ const SHORT_CELLS: usize = 128;
 
 const SHORT_FACES: usize = SHORT_CELLS + 1;
 
-#[derive(Clone, Copy)]
-pub enum Worked {
-    // the number of the first check that applies, and the lowest place to which it does
-    Refused(u32, usize),
-    // W at face 0 and at face n
-    Done(i64, i64),
-}
-
-// Checks 3 to 5 and the friction speeds of the lent state in t, in their order: what they found.
-fn ready(t: &[Cell], bed: &[i32], friction: &[u16], reach: Reach, call: Call) -> Found
+// Checks 3 to 5 and the friction speeds of the lent state in t, in their order.
+fn ready(
+    t: &[Cell],
+    bed: &[i32],
+    friction: &[u16],
+    reach: Reach,
+    call: Call,
+) -> Result<(), Refused>
     requires room { Room reach t.now × (length bed.now ≡ reach.n + 1) × (length friction.now ≡ reach.n) }
     requires wides { Wides reach.n (seen t.now) × DryDepth call.dry }
     ensures { found_in result
         ≡ found (ready_checks call.dry reach.n bed.now friction.now (seen t.now)) }
 {
-    let n = reach.n;
-    let z = bad_bed(bed);
-    if z <= n {
-        return Found { no: 3, place: z };
-    }
-    let f = bad_friction(friction);
-    if f < n {
-        return Found { no: 4, place: f };
-    }
-    let i = off(t, bed, reach);
-    if i < n {
-        return Found { no: 5, place: i };
-    }
-    let j = fast(t, bed, reach, call);
-    if j < n {
-        return Found { no: 6, place: j };
-    }
-    Found { no: 0, place: 0 }
+    Refusal::Bed.at(bad_bed(bed))?;
+    Refusal::Friction.at(bad_friction(friction))?;
+    Refusal::State.at(off(t, bed, reach))?;
+    Refusal::Speed.at(fast(t, bed, reach, call))
 }
 
 // Stage one from the state a after friction, finished, into b, with its faces in f. Of the tables that
@@ -74,16 +57,13 @@ fn stage_one(
     f: &mut [FaceRow],
     u: &mut [Cell],
     b: &mut [Cell],
-) -> Found
+) -> Result<(), Refused>
     requires in_order { InOrder reach call bed.now }
     requires room { Room reach a.now × Room reach g.old × FaceRoom reach f.old × Room reach u.old × Room reach b.old }
     requires ranged { Ranged bed.now reach.n (seen a.now) }
     ensures { OneSays reach call bed.now a.now (found_in result) f.new b.new }
 {
-    let k = stage(a, bed, reach, call, g, f, u);
-    if k.no != 0 {
-        return k;
-    }
+    stage(a, bed, reach, call, g, f, u)?;
     end(u, bed, reach, call, b)
 }
 
@@ -98,7 +78,7 @@ fn stage_two(
     h: &mut [FaceRow],
     u: &mut [Cell],
     b: &mut [Cell],
-) -> Found
+) -> Result<(), Refused>
     requires in_order { InOrder reach call bed.now }
     requires room { Room reach a.now × Room reach g.old × Room reach u.old × Room reach b.old }
     requires face_room { FaceRoom reach f.now × FaceRoom reach h.old }
@@ -107,10 +87,7 @@ fn stage_two(
     ensures { TwoSays reach call bed.now a.now f.now b.old
         (found_in result) h.new b.new }
 {
-    let k = stage(b, bed, reach, call, g, h, u);
-    if k.no != 0 {
-        return k;
-    }
+    stage(b, bed, reach, call, g, h, u)?;
     join(a, u, f, h, reach);
     end(u, bed, reach, call, b)
 }
@@ -126,7 +103,7 @@ fn both_stages(
     h: &mut [FaceRow],
     u: &mut [Cell],
     b: &mut [Cell],
-) -> Found
+) -> Result<(), Refused>
     requires in_order { InOrder reach call bed.now }
     requires room { Room reach a.now × Room reach g.old × Room reach u.old × Room reach b.old }
     requires face_room { FaceRoom reach f.old × FaceRoom reach h.old }
@@ -134,10 +111,7 @@ fn both_stages(
     ensures { BothSay reach call bed.now a.now (found_in result)
         f.new h.new b.new }
 {
-    let k = stage_one(a, bed, reach, call, g, f, u, b);
-    if k.no != 0 {
-        return k;
-    }
+    stage_one(a, bed, reach, call, g, f, u, b)?;
     stage_two(a, f, bed, reach, call, g, h, u, b)
 }
 
@@ -156,7 +130,7 @@ fn on_tables(
     h: &mut [FaceRow],
     u: &mut [Cell],
     b: &mut [Cell],
-) -> Worked
+) -> Answer
     requires in_order { InOrder reach call bed.now × (length state.now ≡ 4 * reach.n)
         × (length next.old ≡ 4 * reach.n) × (length friction.now ≡ reach.n) }
     requires room { Room reach a.old × Room reach g.old × Room reach u.old × Room reach b.old }
@@ -165,69 +139,39 @@ fn on_tables(
         result next.old next.new }
 {
     load(state, reach, a);
-    let k = ready(a, bed, friction, reach, call);
-    if k.no != 0 {
-        return Worked::Refused(k.no, k.place);
-    }
+    ready(a, bed, friction, reach, call)?;
     rub(a, bed, friction, reach, call);
-    let m = both_stages(a, bed, reach, call, g, f, h, u, b);
-    if m.no != 0 {
-        return Worked::Refused(m.no, m.place);
-    }
+    both_stages(a, bed, reach, call, g, f, h, u, b)?;
     store(b, reach.n, next);
-    Worked::Done(end_volume(f, h, 0), end_volume(f, h, reach.n))
+    Ok(Volumes {
+        first: end_volume(f, h, 0),
+        last: end_volume(f, h, reach.n),
+    })
 }
 
-// The same on tables made for a short reach; a longer one is handed on. So `long_step` is called from two
-// places, and the compiler, which merges what is called from one place alone into its caller, tables and
-// all, keeps the long tables off the stack of a short reach.
-fn short_step(
+// The same on tables made for a reach of at most N cells and F faces. The compiler would merge it into its caller, long
+// tables and all, and is told not to: that keeps them off the stack of a short reach.
+#[inline(never)]
+fn on_own_tables<const N: usize, const F: usize>(
     state: &[i32],
     next: &mut [i32],
     bed: &[i32],
     friction: &[u16],
     reach: Reach,
     call: Call,
-) -> Worked
-    requires { InOrder reach call bed.now × (length state.now ≡ 4 * reach.n)
+) -> Answer
+    requires in_order { InOrder reach call bed.now × (length state.now ≡ 4 * reach.n)
         × (length next.old ≡ 4 * reach.n) × (length friction.now ≡ reach.n) }
+    requires room { (reach.n ≤ N) × (reach.n < F) }
     ensures { TablesSay reach call bed.now friction.now state.now
         result next.old next.new }
 {
-    if 4 * SHORT_CELLS < state.len() {
-        return long_step(state, next, bed, friction, reach, call);
-    }
-    let mut a = [[0i64; 4]; SHORT_CELLS];
-    let mut g = [0i64; SHORT_CELLS];
-    let mut f = [[0i64; 4]; SHORT_FACES];
-    let mut h = [[0i64; 4]; SHORT_FACES];
-    let mut u = [[0i64; 4]; SHORT_CELLS];
-    let mut b = [[0i64; 4]; SHORT_CELLS];
-    on_tables(
-        state, next, bed, friction, reach, call, &mut a, &mut g, &mut f, &mut h, &mut u, &mut b,
-    )
-}
-
-// And on tables made for the longest.
-fn long_step(
-    state: &[i32],
-    next: &mut [i32],
-    bed: &[i32],
-    friction: &[u16],
-    reach: Reach,
-    call: Call,
-) -> Worked
-    requires { InOrder reach call bed.now × (length state.now ≡ 4 * reach.n)
-        × (length next.old ≡ 4 * reach.n) × (length friction.now ≡ reach.n) }
-    ensures { TablesSay reach call bed.now friction.now state.now
-        result next.old next.new }
-{
-    let mut a = [[0i64; 4]; CELLS];
-    let mut g = [0i64; CELLS];
-    let mut f = [[0i64; 4]; FACES];
-    let mut h = [[0i64; 4]; FACES];
-    let mut u = [[0i64; 4]; CELLS];
-    let mut b = [[0i64; 4]; CELLS];
+    let mut a = [[0i64; 4]; N];
+    let mut g = [0i64; N];
+    let mut f = [[0i64; 4]; F];
+    let mut h = [[0i64; 4]; F];
+    let mut u = [[0i64; 4]; N];
+    let mut b = [[0i64; 4]; N];
     on_tables(
         state, next, bed, friction, reach, call, &mut a, &mut g, &mut f, &mut h, &mut u, &mut b,
     )
@@ -235,33 +179,39 @@ fn long_step(
 
 // One step from the lent state, bed and friction: the refusal's number and place, or the two end volumes and
 // the new state in `next`. Only an accepted step writes there.
-pub fn work(state: &[i32], next: &mut [i32], bed: &[i32], friction: &[u16], given: Given) -> Worked
+pub fn work(state: &[i32], next: &mut [i32], bed: &[i32], friction: &[u16], given: Given) -> Answer
     ensures { WorkedSays
         (lent_by state.now (length next.old) bed.now friction.now given)
         result next.old next.new }
 {
     let n = friction.len();
     if bad_lengths(state.len(), next.len(), bed.len(), n) {
-        return Worked::Refused(1, 0);
+        return Err(Refused {
+            refusal: Refusal::Lengths,
+            place: 0,
+        });
     }
     let reach = Reach {
         n,
-        dx: widened(given.dx),
+        dx: i64::from(given.dx),
     };
-    let left = given.left;
-    let right = given.right;
     let call = Call {
-        dt: widened(given.dt),
-        jump: widened(given.jump),
-        dry: widened(given.dry),
-        left,
-        right,
+        dt: i64::from(given.dt),
+        jump: i64::from(given.jump),
+        dry: i64::from(given.dry),
+        left: given.left,
+        right: given.right,
     };
     if bad_numbers(reach, call) {
-        return Worked::Refused(2, 0);
+        return Err(Refused {
+            refusal: Refusal::Numbers,
+            place: 0,
+        });
     }
     if n <= SHORT_CELLS {
-        return short_step(state, next, bed, friction, reach, call);
+        return on_own_tables::<SHORT_CELLS, SHORT_FACES>(
+            state, next, bed, friction, reach, call,
+        );
     }
-    long_step(state, next, bed, friction, reach, call)
+    on_own_tables::<CELLS, FACES>(state, next, bed, friction, reach, call)
 }

@@ -1,6 +1,6 @@
 -- The step on tables: the lent state is loaded, checked and rubbed, and both stages follow.
 -- Assumes nothing.
-use Rattle.std.specs.Prelude.{false, ◌≡◌, List, [], ◌++◌, ℕ, suc, ◌<◌, get_or, ℤ, pos, ◌≤ℤ◌}
+use Rattle.std.specs.Prelude.{false, ◌≡◌, List, [], ◌++◌, ℕ, suc, ◌<◌, get_or, ℤ, pos, ◌≤ℤ◌, Result, Ok, Err}
 use Rattle.std.proofs.Common.{sym, ◌∙◌, arith}
 use Rattle.std.proofs.Math.Path.{ap, subst}
 use Rattle.whole.specs.Parts.{b_up}
@@ -18,13 +18,14 @@ use Rattle.rules.proofs.Laws.Verdicts.{stopped, clear_found, clear_at, went_on}
 use Rattle.rules.proofs.Laws.Alike.{same_found}
 use Rattle.reach.specs.declared.Reach.{Reach as ToldReach}
 use Rattle.reach.specs.declared.Call.{Call as ToldCall}
-use Rattle.reach.specs.Told.{reach_in, call_on}
+use Rattle.reach.specs.declared.answer.Refused.{Refused}
+use Rattle.reach.specs.Told.{reach_in, call_on, found_in}
+use Rattle.reach.specs.Laws.Refusals.{refused_some}
 use Rattle.stage.specs.Rows.{volume_at, rubbed_at}
 use Rattle.stage.specs.Ranges.{Inside, Ranged, Slows}
 use Rattle.stage.specs.Says.{ready_checks, both_checks, Shows, StepSays}
 use Rattle.stage.specs.Stored.{Fits, AllFit}
 use Rattle.stage.specs.Worked.{Volume, TablesSay}
-use Rattle.stage.specs.declared.worked.Worked.TheVariants.{Refused, Done}
 use Rattle.stage.specs.Laws.CellSizes.{cell_sizes, volume_size}
 use Rattle.stage.specs.Laws.FrictionRange.{rubbed_inside}
 use Rattle.stage.specs.Laws.LentChecks.{lent_ranged, lent_slow, ready_same}
@@ -34,14 +35,18 @@ use Rattle.stage.specs.Laws.TwoStages.{volume_is}
 abbrev end : ℕ
 end = 7
 
--- the state lent for a step, as the table a has it, and what the checks before the stages found, k
+-- what checks say, of which none or the first that applies is told
+abbrev pub Checked : Type 0
+Checked = Result (Unit {0}) Refused
+
+-- the state lent for a step, as the table a has it, and what the checks before the stages said, k
 pub record Loaded (reach : ToldReach) (call : ToldCall) (bed : List ℤ) (friction : List ℕ) (state : List ℤ) (a : List (List ℤ))
-    (k : Found) : Type 0 where
+    (k : Checked) : Type 0 where
   pub cells : Holds a reach.n (cell_in reach.n state)
-  pub found : k ≡ found (ready_checks call.dry reach.n bed friction (seen a))
+  pub found : found_in k ≡ found (ready_checks call.dry reach.n bed friction (seen a))
 
 module _
-    {reach : ToldReach} {call : ToldCall} {bed : List ℤ} {friction : List ℕ} {state : List ℤ} {a : List (List ℤ)} {k : Found}
+    {reach : ToldReach} {call : ToldCall} {bed : List ℤ} {friction : List ℕ} {state : List ℤ} {a : List (List ℤ)} {k : Checked}
     (lent : Loaded reach call bed friction state a k) where
   abbrev n : ℕ
   n = reach.n
@@ -61,17 +66,17 @@ module _
   abbrev ready : List Check
   ready = ready_checks call.dry n bed friction s
 
-  found_ready : k ≡ found ready
+  found_ready : found_in k ≡ found ready
   found_ready = lent.found ∙ same_found (ready_same call.dry n bed friction (seen a) s (λ i l. ap as_cell (lent.cells i l)))
 
-  pub ready_stops : (k.no ≡ 0 → ⊥) → (old : List ℤ) → TablesSay reach call bed friction state (Refused k.no k.place) old old
-  ready_stops z old = record {
-    found = stopped ready (both_checks r c s) k found_ready z;
-    some = omega (arith, z);
+  pub ready_stops : (e : Refused) → k ≡ Err e → (old : List ℤ) → TablesSay reach call bed friction state (Err e) old old
+  ready_stops e is old = let some = refused_some e.refusal in record {
+    found = stopped ready (both_checks r c s) (found_in (Err e)) (ap found_in (sym is) ∙ found_ready) (λ z. let y : ⊥ = omega (arith, some, z) in y);
+    some = some;
     kept = λ i. old;
   }
 
-  module _ (z : k.no ≡ 0) where
+  module _ (z : (found_in k).no ≡ 0) where
     passed : Clear (ready_checks call.dry n bed friction (seen a))
     passed = clear_found (ready_checks call.dry n bed friction (seen a)) tt lent.found z
 
@@ -93,14 +98,14 @@ module _
           (rubbed_inside call.dt call.dry (rough i) (bed_at bed i) (seen a i) p m (loaded_ranged i l))
 
     -- ---- both stages have answered m
-    module _ (o : 0 < n) {m : Found} {f x b : List (List ℤ)} (both : StepSays r c s m f x b) where
-      found_both : m ≡ found (ready ++ both_checks r c s)
+    module _ (o : 0 < n) {m : Checked} {f x b : List (List ℤ)} (both : StepSays r c s (found_in m) f x b) where
+      found_both : found_in m ≡ found (ready ++ both_checks r c s)
       found_both = both.found ∙ went_on ready (both_checks r c s) tt found_ready z
 
-      pub both_stops : (m.no ≡ 0 → ⊥) → (old : List ℤ) → TablesSay reach call bed friction state (Refused m.no m.place) old old
-      both_stops y old = record { found = found_both; some = omega (arith, y); kept = λ i. old }
+      pub both_stops : (e : Refused) → m ≡ Err e → (old : List ℤ) → TablesSay reach call bed friction state (Err e) old old
+      both_stops e is old = record { found = ap found_in (sym is) ∙ found_both; some = refused_some e.refusal; kept = λ i. old }
 
-      module _ (y : m.no ≡ 0) where
+      module _ (y : (found_in m).no ≡ 0) where
         volume_in : (i : ℕ) → i < suc n → Volume (volume_at f x i)
         volume_in i l = let d = both.done y in volume_size (d.one.sized i l).vol (d.two.sized i l).vol
 
@@ -119,7 +124,7 @@ module _
             subst Fits (sym (shown i l)) (record { e0 = k.e0; e1 = b_up 1310720 k.e1 tt; q0 = k.q0; q1 = k.q1 })
 
         pub both_done : (old : List ℤ) {new : List ℤ} {w v : ℤ} → new ≡ table_of n (seen b) → w ≡ volume_at f x 0 → v ≡ volume_at f x n
-            → TablesSay reach call bed friction state (Done w v) old new
+            → TablesSay reach call bed friction state (Ok (record { first = w; last = v })) old new
         both_done old e p q = let d = both.done y in record {
           none = ap (λ (k : Found). k.no) (sym found_both) ∙ y;
           left = p ∙ volume_is d 0 (omega arith);
