@@ -1,6 +1,6 @@
 -- What the functions of a step answer: the checks in their order, and what the tables then hold.
-use Rattle.std.specs.Prelude.{◌≡◌, false, List, [], ◌∷◌, ◌++◌, ℕ, suc, ◌<◌, get_or, ℤ, pos}
-use Rattle.tables.specs.Some.{some, lowest}
+use Rattle.std.specs.Prelude.{◌≡◌, false, List, [], ◌∷◌, ◌++◌, ℕ, suc, ◌<◌, get_or, ℤ, pos, Option, None}
+use Rattle.tables.specs.Some.{some}
 use Rattle.tables.specs.Rows.{Written, Filled}
 use Rattle.tables.specs.Cells.{as_list, cell_in, seen, Holds}
 use Rattle.rules.specs.Reach.{Reach, Call, State, bed_at}
@@ -12,6 +12,7 @@ use Rattle.rules.specs.Found.{Found, found}
 use Rattle.rules.specs.Laws.Agree.{Same}
 use Rattle.reach.specs.declared.Reach.{Reach as ToldReach}
 use Rattle.reach.specs.declared.Call.{Call as ToldCall}
+use Rattle.reach.specs.Places.{first_place}
 use Rattle.reach.specs.Told.{reach_in, call_on}
 use Rattle.reach.specs.Ranges.{Wides}
 use Rattle.stage.specs.Ranges.{Smalls, Ranged, FaceRows}
@@ -51,17 +52,17 @@ pub record FacesOf (r : Reach) (c : Call) (s : State) (f : List (List ℤ)) : Ty
   pub rows : Written [] f (suc r.n) (λ i. face_row r.dx c.dt (face_at r c s i))
   pub sized : FaceRows f r.n
 
--- the check of the face speeds of a stage from s: the lowest face that it refuses, or n + 1; and then what the others ask, with the sides
--- in d
+-- the check of the face speeds of a stage from s: the lowest face that it refuses; where there is none what the others ask, with the
+-- sides in d
 pub record SlowFaces (reach : ToldReach) (call : ToldCall) (bed : List ℤ) (s : State) (d : List (List ℤ)) : Type 0 where
   pub least : 0 < reach.n
   pub sides : Written [] d reach.n (sides_at call.dry bed s)
   pub slow_sides : some (fast_sides call.dry bed s) reach.n ≡ false
   pub slow_ends : SlowEnds reach call d
 
-pub record FaceSpeedsSay (reach : ToldReach) (call : ToldCall) (bed : List ℤ) (s : State) (k : ℕ) (d : List (List ℤ)) : Type 0 where
-  pub stops : (ρ : ℕ → ℤ) → k ≡ lowest (fast_face (reach_in reach bed) (call_on call ρ) s) (suc reach.n)
-  pub slow : reach.n < k → SlowFaces reach call bed s d
+pub record FaceSpeedsSay (reach : ToldReach) (call : ToldCall) (bed : List ℤ) (s : State) (k : Option ℕ) (d : List (List ℤ)) : Type 0 where
+  pub stops : (ρ : ℕ → ℤ) → k ≡ first_place (fast_face (reach_in reach bed) (call_on call ρ) s) (suc reach.n)
+  pub slow : k ≡ None → SlowFaces reach call bed s d
 
 -- a stage from s: 6, 7 or 0, and where it is 0 the rows of its faces in f and the unfinished state in u
 pub record StageDone (r : Reach) (c : Call) (s : State) (f u : List (List ℤ)) : Type 0 where

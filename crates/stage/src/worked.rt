@@ -1,5 +1,5 @@
 // The whole step, worked on tables of this crate's own and stored in the lent one at its end.
-ghost use Rattle.std.specs.Prelude.{◌≡◌, ◌+◌, ◌*◌, length};
+ghost use Rattle.std.specs.Prelude.{◌≡◌, ◌+◌, ◌*◌, ◌≤◌, ◌<◌, length};
 ghost use Rattle.tables.specs.Cells.{seen};
 ghost use Rattle.rules.specs.Found.{found};
 ghost use Rattle.reach.specs.Told.{found_in};

@@ -1,20 +1,23 @@
 -- The end of a stage: its finished cells, and their range, which can be checked because they are not too wide.
 -- Assumes nothing.
-use Rattle.std.specs.Prelude.{◌≡◌, Bool, true, ℕ, ◌≤◌, ◌<◌, ℤ}
+use Rattle.std.specs.Prelude.{◌≡◌, Bool, true, ℕ, ◌<◌, ℤ, Option, None, Some}
 use Rattle.std.proofs.Common.{sym, ◌∙◌}
 use Rattle.std.proofs.Math.Path.{ap, subst}
 use mathlib.Core.List.{List}
-use Rattle.tables.specs.Some.{lowest}
-use Rattle.tables.proofs.Some.{some_none, lowest_same}
+use Rattle.tables.proofs.Some.{some_none, some_same, lowest_same}
 use Rattle.tables.specs.Cells.{as_cell, seen, Holds}
 use Rattle.rules.specs.Reach.{Reach, Call, State, bed_at}
 use Rattle.rules.specs.Finishing.{finish}
 use Rattle.rules.specs.Refusals.{off_cell, off}
-use Rattle.rules.specs.Found.{Found, at, none}
-use Rattle.rules.proofs.Laws.Verdicts.{clear_found, check_at, clear_at, stops_at, passes, none_stops}
+use Rattle.rules.specs.Found.{Found}
+use Rattle.rules.specs.Found as rules
+use Rattle.rules.proofs.Laws.Verdicts.{clear_found, clear_at, stops_at, none_stops}
 use Rattle.reach.specs.declared.Reach.{Reach as ToldReach}
 use Rattle.reach.specs.declared.Call.{Call as ToldCall}
-use Rattle.reach.specs.Told.{reach_in, call_on}
+use Rattle.reach.specs.declared.answer.Refusal.TheVariants.{Stage}
+use Rattle.reach.specs.Refusals.{refused_at}
+use Rattle.reach.specs.Places.{first_place, found_says, none_says}
+use Rattle.reach.specs.Told.{reach_in, call_on, found_in}
 use Rattle.reach.specs.Ranges.{Grounds, Wide, AllUnfinished}
 use Rattle.finishing.specs.FinishSays.{FinishSays}
 use Rattle.stage.specs.Ranges.{Smalls, Ranged}
@@ -45,19 +48,23 @@ module _ {reach : ToldReach} {call : ToldCall} {bed : List ℤ} {u : List (List 
     wide = subst (λ (m : List ℤ). Wide (as_cell m)) (sym (filled i l)) (finish_wide r c (seen u) i (bed_at bed i) (g i l) (w i l));
   }
 
-  -- an 8 at the lowest cell out of range, or 0
-  module _ (p : ℕ) (e : p ≡ lowest (λ i. off_cell (bed_at bed i) (seen b i)) reach.n) where
-    range_is : p ≡ lowest (off r (finish r c (seen u))) reach.n
-    unfolding off
-    range_is = e ∙ lowest_same (λ i. off_cell (bed_at bed i) (seen b i)) (off r (finish r c (seen u))) reach.n
-        (λ i l. ap (λ (m : List ℤ). off_cell (bed_at bed i) (as_cell m)) (filled i l))
+  -- an 8 at the lowest cell out of range, where there is one
+  off_same : (i : ℕ) → i < reach.n → off_cell (bed_at bed i) (seen b i) ≡ off r (finish r c (seen u)) i
+  unfolding off
+  off_same i l = ap (λ (m : List ℤ). off_cell (bed_at bed i) (as_cell m)) (filled i l)
 
-    pub end_stops : p < reach.n → EndSays r c (seen u) (at 8 p) b
-    end_stops l = record { found = stops_at (range_check r (finish r c (seen u))) 0 p tt range_is l; cells = filled }
-
-    pub end_passes : reach.n ≤ p → EndSays r c (seen u) none b
-    end_passes l = let check = range_check r (finish r c (seen u)) in
-        record { found = none_stops check (passes (check_at check 0) p range_is l, tt); cells = filled }
+  pub end_says : (p : Option ℕ) → p ≡ first_place (λ i. off_cell (bed_at bed i) (seen b i)) reach.n
+      → EndSays r c (seen u) (found_in (refused_at Stage p)) b
+  end_says p e = record { found = found p e; cells = filled }
+    where
+      found : (p : Option ℕ) → p ≡ first_place (λ i. off_cell (bed_at bed i) (seen b i)) reach.n
+          → found_in (refused_at Stage p) ≡ rules.found (range_check r (finish r c (seen u)))
+      found (Some i) e =
+          let at_cell = found_says _ reach.n i (sym e) in
+          stops_at (range_check r (finish r c (seen u))) 0 i tt (at_cell.1 ∙ lowest_same _ (off r (finish r c (seen u))) reach.n off_same) at_cell.2
+      found None e =
+          none_stops (range_check r (finish r c (seen u)))
+              (sym (some_same _ (off r (finish r c (seen u))) reach.n off_same) ∙ none_says _ reach.n (sym e), tt)
 
 -- an end that passed leaves its cells in range
 pub end_ranged : (reach : ToldReach) (call : ToldCall) (bed : List ℤ) (ρ : ℕ → ℤ) {v : State} {k : Found} {b : List (List ℤ)}

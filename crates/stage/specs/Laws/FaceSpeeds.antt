@@ -1,12 +1,12 @@
 -- The check of the face speeds, which looks at the cells one after another and at the two ends: the face that it answers is the lowest
 -- that is too fast.
 -- Assumes nothing.
-use Rattle.std.specs.Prelude.{◌≡◌, Bool, true, false, cond, List, [], ℕ, suc, ◌-◌, ◌≤◌, ◌<◌, get_or, ℤ, pos}
+use Rattle.std.specs.Prelude.{◌≡◌, Bool, true, false, cond, List, [], ℕ, suc, ◌-◌, ◌≤◌, ◌<◌, get_or, ℤ, pos, None, Some}
 use Rattle.std.proofs.Common.{sym, ◌∙◌, ap, arith}
 use Rattle.std.proofs.Math.Path.{subst}
 use Rattle.whole.specs.Flags.{by}
 use Rattle.tables.specs.Some.{IsLowest}
-use Rattle.tables.proofs.Some.{lowest_is, is_lowest, lowest_none, lowest_below, lowest_past, below_lowest}
+use Rattle.tables.proofs.Some.{lowest_is, lowest_below, lowest_past, below_lowest}
 use Rattle.tables.specs.Rows.{Written}
 use Rattle.tables.specs.Filling.{FillSays}
 use Rattle.tables.proofs.Filling.{all_filled}
@@ -17,6 +17,7 @@ use Rattle.rules.specs.Refusals.{fast_side, fast_inflow, fast_face}
 use Rattle.rules.proofs.Laws.FastFaces.{inflow_left, inflow_right, SlowBelow, left_inflow, left_side, right_side, right_inflow, no_face}
 use Rattle.reach.specs.declared.Reach.{Reach}
 use Rattle.reach.specs.declared.Call.{Call}
+use Rattle.reach.specs.Places.{lowest_place, none_found, never}
 use Rattle.reach.specs.Told.{reach_in, call_on}
 use Rattle.stage.specs.Rows.{left_in, right_in, sides_at, fast_sides, fast_left, fast_right, fast_ends}
 use Rattle.stage.specs.Ranges.{DepthIn, Ranged}
@@ -53,10 +54,10 @@ module _
       (below_lowest (fast_sides call.dry bed s) n k (subst (λ (m : ℕ). k < m) filled.stops l))
 
   -- ---- the inflow at the left end is too fast
-  pub says_left_inflow : fast_left reach call d ≡ true → FaceSpeedsSay reach call bed s 0 d
+  pub says_left_inflow : fast_left reach call d ≡ true → FaceSpeedsSay reach call bed s (Some 0) d
   says_left_inflow e = record {
-    stops = λ ρ. is_lowest (fast_face r (c ρ) s) (suc n) 0 (left_inflow r (c ρ) s (sym (left_inner ρ) ∙ e));
-    slow = λ l. let z : ⊥ = omega arith in absurd z;
+    stops = λ ρ. lowest_place (fast_face r (c ρ) s) (suc n) 0 (left_inflow r (c ρ) s (sym (left_inner ρ) ∙ e));
+    slow = λ none. never (sym none);
   }
 
   module _ (e : fast_left reach call d ≡ false) where
@@ -81,10 +82,10 @@ module _
           (λ b. rw b (left_side r (c ρ) s (slow_left ρ) i l (slow_below ρ) (sym left_is ∙ b)))
           (λ b. rw b (right_side r (c ρ) s (slow_left ρ) i l (slow_below ρ) (sym left_is ∙ b) (rw (sym left_is ∙ b) at one_fast)))
 
-      pub says_side : {k : ℕ} → k ≡ cond left i (suc i) → FaceSpeedsSay reach call bed s k d
+      pub says_side : {k : ℕ} → k ≡ cond left i (suc i) → FaceSpeedsSay reach call bed s (Some k) d
       says_side q = record {
-        stops = λ ρ. q ∙ is_lowest (fast_face r (c ρ) s) (suc n) (cond left i (suc i)) (fast_face_lem ρ);
-        slow = λ m. let b = (fast_face_lem (λ j. pos 0)).below in let z : ⊥ = omega (arith, q) in absurd z;
+        stops = λ ρ. ap Some q ∙ lowest_place (fast_face r (c ρ) s) (suc n) (cond left i (suc i)) (fast_face_lem ρ);
+        slow = λ none. never (sym none);
       }
 
     -- ---- no side is, and the inflow at the right end is or is not
@@ -106,17 +107,17 @@ module _
       slow_all : (ρ : ℕ → ℤ) → SlowBelow r (c ρ) s n
       slow_all ρ k m = slow_below ρ k (omega arith)
 
-      pub says_right_inflow : fast_right reach call d ≡ true → FaceSpeedsSay reach call bed s n d
+      pub says_right_inflow : fast_right reach call d ≡ true → FaceSpeedsSay reach call bed s (Some n) d
       says_right_inflow f = record {
-        stops = λ ρ. is_lowest (fast_face r (c ρ) s) (suc n) n
+        stops = λ ρ. lowest_place (fast_face r (c ρ) s) (suc n) n
             (right_inflow r (c ρ) s (slow_left ρ) o (slow_all ρ) (sym (right_inner ρ) ∙ f));
-        slow = λ m. let z : ⊥ = omega arith in absurd z;
+        slow = λ none. never (sym none);
       }
 
-      pub says_slow : fast_right reach call d ≡ false → FaceSpeedsSay reach call bed s (suc n) d
+      pub says_slow : fast_right reach call d ≡ false → FaceSpeedsSay reach call bed s None d
       unfolding fast_ends
       says_slow f = record {
-        stops = λ ρ. lowest_none (fast_face r (c ρ) s) (suc n)
+        stops = λ ρ. none_found (fast_face r (c ρ) s) (suc n)
             (no_face r (c ρ) s (slow_left ρ) o (slow_all ρ) (sym (right_inner ρ) ∙ f));
         slow = λ m. record {
           least = o;

@@ -1,10 +1,10 @@
 -- A stage: what it answers by the check that stopped it, and that its faces and its cells are the rule's.
 -- Assumes nothing.
-use Rattle.std.specs.Prelude.{◌≡◌, false, List, [], ℕ, suc, ◌≤◌, ◌<◌, get_or, ℤ, pos}
+use Rattle.std.specs.Prelude.{◌≡◌, false, List, [], ℕ, suc, ◌≤◌, ◌<◌, get_or, ℤ, pos, Option, None, Some}
 use Rattle.std.proofs.Common.{sym, ◌∙◌, subst, arith}
 use Rattle.std.proofs.Math.Path.{ap}
-use Rattle.tables.specs.Some.{some, lowest}
-use Rattle.tables.proofs.Some.{some_none, lowest_same}
+use Rattle.tables.specs.Some.{some}
+use Rattle.tables.proofs.Some.{some_none, some_same, lowest_same}
 use Rattle.tables.specs.Rows.{Written}
 use Rattle.tables.specs.Cells.{as_list, Holds}
 use Rattle.rules.specs.Reach as rules
@@ -13,9 +13,10 @@ use Rattle.rules.specs.Shown.{cross_at}
 use Rattle.rules.specs.Stage.{face_right, face_at, stage}
 use Rattle.rules.specs.Refusals.{fast_face, fast_gauss, too_long, Check, stage_checks}
 use Rattle.rules.specs.Found.{at, found, none}
-use Rattle.rules.proofs.Laws.Verdicts.{check_at, stops_at, passes, none_stops}
+use Rattle.rules.proofs.Laws.Verdicts.{stops_at, none_stops}
 use Rattle.reach.specs.declared.Reach.{Reach}
 use Rattle.reach.specs.declared.Call.{Call}
+use Rattle.reach.specs.Places.{first_place, found_says, none_says}
 use Rattle.reach.specs.Told.{reach_in, call_on}
 use Rattle.reach.specs.Ranges.{UpTo, Numbers}
 use Rattle.stage.specs.Rows.{Sounds, fast_points_at, momentum_at}
@@ -29,24 +30,24 @@ use Rattle.stage.specs.Laws.RowsAreRules.{cross_at_lem, update_is}
 use Rattle.stage.specs.Laws.StateSizes.{sounds, gauss_size}
 
 -- ---- a stage from s whose faces have answered k, with its sides in d
-module _ {reach : Reach} {call : Call} {bed : List ℤ} {s : State} {k : ℕ} {d : List (List ℤ)}
+module _ {reach : Reach} {call : Call} {bed : List ℤ} {s : State} {k : Option ℕ} {d : List (List ℤ)}
     (says : FaceSpeedsSay reach call bed s k d) (ρ : ℕ → ℤ) where
   abbrev checks : List Check
   checks = stage_checks (reach_in reach bed) (call_on call ρ) s
 
-  pub says_fast : k ≤ reach.n → at 6 k ≡ found checks
+  pub says_fast : (i : ℕ) → k ≡ Some i → at 6 i ≡ found checks
   unfolding stage_checks
-  says_fast l = stops_at checks 0 k tt (says.stops ρ) (omega arith)
+  says_fast i e = let fast = found_says _ (suc reach.n) i (sym (says.stops ρ) ∙ e) in stops_at checks 0 i tt fast.1 fast.2
 
-  module _ (l : reach.n < k) where
+  module _ (slow : k ≡ None) where
     pub faces_pass : some (fast_face (reach_in reach bed) (call_on call ρ) s) (suc reach.n) ≡ false
-    unfolding stage_checks
-    faces_pass = passes (check_at checks 0) k (says.stops ρ) (omega arith)
+    faces_pass = none_says _ (suc reach.n) (sym (says.stops ρ) ∙ slow)
 
     -- and whose Gauss points have answered p
-    pub says_points : (p : ℕ) → p ≡ lowest (fast_points_at call.dry bed s) reach.n → p < reach.n → at 6 p ≡ found checks
+    pub says_points : {p : Option ℕ} → p ≡ first_place (fast_points_at call.dry bed s) reach.n → (i : ℕ) → p ≡ Some i
+        → at 6 i ≡ found checks
     unfolding stage_checks fast_gauss
-    says_points p e m = stops_at checks 1 p (faces_pass, tt) e m
+    says_points e i is = let fast = found_says _ reach.n i (sym e ∙ is) in stops_at checks 1 i (faces_pass, tt) fast.1 fast.2
 
 -- the sides of slow faces are sound
 pub sides_sound : {reach : Reach} {call : Call} {bed : List ℤ} {s : State} {d : List (List ℤ)}
@@ -82,20 +83,24 @@ module _ {reach : Reach} {call : Call} {bed : List ℤ} {s : State} {d : List (L
     face_is : (i : ℕ) → i < suc n → cross_in reach call d i ≡ face_at r c s i
     face_is = cross_at_lem reach call bed ρ s p.faces.least d p.faces.sides
 
-    -- its last check, by the lowest face k at which the step is too long
-    module _ (k : ℕ) (e : k ≡ lowest (long_at reach call d) (suc n)) where
-      long_is : k ≡ lowest (too_long r c s) (suc n)
+    -- its last check, by the lowest face at which the step is too long, where there is one
+    module _ {k : Option ℕ} (e : k ≡ first_place (long_at reach call d) (suc n)) where
+      long_same : (i : ℕ) → i < suc n → long_at reach call d i ≡ too_long r c s i
       unfolding too_long long_flux
-      long_is = e ∙ lowest_same (long_at reach call d) (too_long r c s) (suc n) (λ i l. ap (long_flux reach.dx call.dt) (face_is i l))
+      long_same i l = ap (long_flux reach.dx call.dt) (face_is i l)
 
-      pub says_long : k ≤ n → at 7 k ≡ found (stage_checks r c s)
+      pub says_long : (i : ℕ) → k ≡ Some i → at 7 i ≡ found (stage_checks r c s)
       unfolding stage_checks fast_gauss
-      says_long l = stops_at (stage_checks r c s) 2 k (p.slow_faces ρ, (p.slow_points, tt)) long_is (omega arith)
+      says_long i is =
+          let long = found_says _ (suc n) i (sym e ∙ is) in
+          stops_at (stage_checks r c s) 2 i (p.slow_faces ρ, (p.slow_points, tt)) (long.1 ∙ lowest_same _ (too_long r c s) (suc n) long_same) long.2
 
-      pub says_none : n < k → none ≡ found (stage_checks r c s)
+      pub says_none : k ≡ None → none ≡ found (stage_checks r c s)
       unfolding stage_checks fast_gauss
-      says_none l = let check = stage_checks r c s in
-          none_stops check (p.slow_faces ρ, (p.slow_points, (passes (check_at check 2) k long_is (omega arith), tt)))
+      says_none is =
+          let short = none_says _ (suc n) (sym e ∙ is) in
+          none_stops (stage_checks r c s)
+              (p.slow_faces ρ, (p.slow_points, (sym (some_same _ (too_long r c s) (suc n) long_same) ∙ short, tt)))
 
     -- ---- what it leaves
     module _ (inside : Ranged bed n s) (num : Numbers reach call) (x : List (List ℤ)) (g : List ℤ)

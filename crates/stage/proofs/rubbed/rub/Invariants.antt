@@ -1,13 +1,9 @@
 -- Each turn rubs a cell, which is still the one that was lent.
 use mathlib.Core.List.{[]}
-use Prim.Native.Nat.{◌≤◌, ◌-◌}
 use Rattle.tables.specs.Rows.{Filled}
 use Rattle.tables.specs.Cells.{as_list, seen}
 use Rattle.stage.specs.Rows.{rubbed_at}
 use Rattle.stage.proofs.rubbed.rub.Given as goal
 
 abbrev pub invariant-loop-i : goal.invariant-loop-i
-invariant-loop-i l = (l.i ≤ l.n) × Filled [] l.initial.t l.t l.i (λ k. as_list (rubbed_at l.call l.friction l.bed (seen l.initial.t) k))
-
-abbrev pub decreases-loop-i : goal.decreases-loop-i
-decreases-loop-i l = l.n - l.i
+invariant-loop-i l = Filled [] l.initial.t l.t l.i (λ k. as_list (rubbed_at l.call l.friction l.bed (seen l.initial.t) k))

@@ -1,13 +1,9 @@
 -- Below i every cell is the rule's.
 use mathlib.Core.List.{[]}
-use Prim.Native.Nat.{◌-◌, ◌≤◌}
 use Rattle.tables.specs.Rows.{Filled}
 use Rattle.tables.specs.Cells.{as_list, seen}
 use Rattle.stage.specs.Rows.{update_at}
 use Rattle.stage.proofs.update.update.Given as goal
 
 abbrev pub invariant-loop-i : goal.invariant-loop-i
-invariant-loop-i l = (l.i ≤ l.n) × Filled [] l.initial.u l.u l.i (λ k. as_list (update_at l.reach l.call l.bed (seen l.t) l.f l.g k))
-
-abbrev pub decreases-loop-i : goal.decreases-loop-i
-decreases-loop-i l = l.n - l.i
+invariant-loop-i l = Filled [] l.initial.u l.u l.i (λ k. as_list (update_at l.reach l.call l.bed (seen l.t) l.f l.g k))

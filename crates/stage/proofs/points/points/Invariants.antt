@@ -1,0 +1,10 @@
+-- Below i no point is too fast, and each cell's momentum is the rule's.
+use Rattle.std.proofs.Common.{pos}
+use Rattle.tables.proofs.Filling.{Filling}
+use Rattle.tables.specs.Cells.{seen}
+use Rattle.stage.specs.Rows.{fast_points_at, momentum_at}
+use Rattle.stage.proofs.points.points.Given as goal
+
+abbrev pub invariant-loop-i : goal.invariant-loop-i
+invariant-loop-i l =
+    Filling (pos 0) l.fn.reach.n (fast_points_at l.call.dry l.bed (seen l.t)) (momentum_at l.call.dry l.bed (seen l.t)) l.initial.g l.g l.i

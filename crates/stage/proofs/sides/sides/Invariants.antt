@@ -1,0 +1,10 @@
+-- Below i no side is too fast, and each cell's row is the rule's.
+use Rattle.std.proofs.Common.{[]}
+use Rattle.tables.proofs.Filling.{Filling}
+use Rattle.tables.specs.Cells.{seen}
+use Rattle.stage.specs.Rows.{sides_at, fast_sides}
+use Rattle.stage.proofs.sides.sides.Given as goal
+
+abbrev pub invariant-loop-i : goal.invariant-loop-i
+invariant-loop-i l =
+    Filling [] l.fn.reach.n (fast_sides l.call.dry l.bed (seen l.t)) (sides_at l.call.dry l.bed (seen l.t)) l.initial.d l.d l.i
