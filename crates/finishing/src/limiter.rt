@@ -18,25 +18,13 @@ use reach::{Call, Cell, Reach};
 fn nearest(a: i64, b: i64) -> i64
     ensures { result ≡ rules.minmod a b }
 {
-    if 0 < a {
-        if 0 < b {
-            if a <= b {
-                return a;
-            }
-            return b;
-        }
-        return 0;
+    if 0 < a && 0 < b {
+        a.min(b)
+    } else if a < 0 && b < 0 {
+        a.max(b)
+    } else {
+        0
     }
-    if a < 0 {
-        if b < 0 {
-            if a <= b {
-                return b;
-            }
-            return a;
-        }
-        return 0;
-    }
-    0
 }
 
 // Do the levels that two neighbours show at their face differ by more than the jump?
@@ -66,10 +54,7 @@ fn marked(u: &[Cell], reach: Reach, call: Call, i: usize) -> bool
     if i == 0 {
         return parted(u, reach, call, i);
     }
-    if parted(u, reach, call, i - 1) {
-        return true;
-    }
-    parted(u, reach, call, i)
+    parted(u, reach, call, i - 1) || parted(u, reach, call, i)
 }
 
 // A slope against the step from the mean of cell i to that of the next: m is 0 for levels, 2 for
@@ -120,10 +105,7 @@ fn is_limited(u: &[Cell], bed: &[i32], reach: Reach, call: Call, i: usize) -> bo
     requires { InReach reach.n bed.now u.now i }
     ensures { (ρ : ℕ → ℤ) → result ≡ rules.is_limited (reach_in reach bed.now) (call_on call ρ) (seen u.now) i }
 {
-    if !marked(u, reach, call, i) {
-        return false;
-    }
-    !is_spared(u, bed, reach, call, i)
+    marked(u, reach, call, i) && !is_spared(u, bed, reach, call, i)
 }
 
 // Cell i after the limiter.

@@ -24,13 +24,9 @@ fn either_past(most: i64, x: i64, y: i64) -> bool
 fn too_large(b: Bed, x: Cell) -> bool
     ensures { result ≡ too_large (bed_in b) (as_cell x) }
 {
-    if either_past(HIGHEST_BED, b.zl as i64, b.zr as i64) {
-        return true;
-    }
-    if either_past(WIDEST, x[0], x[1]) {
-        return true;
-    }
-    either_past(WIDEST, x[2], x[3])
+    either_past(HIGHEST_BED, i64::from(b.zl), i64::from(b.zr))
+        || either_past(WIDEST, x[0], x[1])
+        || either_past(WIDEST, x[2], x[3])
 }
 
 // Is some cell of the table too large, or its bed?
@@ -38,12 +34,10 @@ fn large_table(u: &[Cell], bed: &[i32], n: usize) -> bool
     requires { n ≤ length u.now }
     ensures { result ≡ some (λ i. too_large (bed_at bed.now i) (seen u.now i)) n }
 {
-    let mut i: usize = 0;
-    while i < n {
+    for i in 0..n {
         if too_large(under(bed, i), u[i]) {
             return true;
         }
-        i += 1;
     }
     false
 }
@@ -53,23 +47,11 @@ pub fn is_unfit(u: &[Cell], bed: &[i32], reach: Reach, call: Call, room: usize) 
     ensures { result ≡ unfit reach call bed.now u.now room }
 {
     let n = reach.n;
-    if u.len() < n {
-        return true;
-    }
-    if room < n {
-        return true;
-    }
-    if CELLS < n {
-        return true;
-    }
-    if bed.len() != n + 1 {
-        return true;
-    }
-    if outside(0, LARGEST_JUMP, call.jump) {
-        return true;
-    }
-    if bad_dry(call.dry) {
-        return true;
-    }
-    large_table(u, bed, n)
+    u.len() < n
+        || room < n
+        || CELLS < n
+        || bed.len() != n + 1
+        || outside(0, LARGEST_JUMP, call.jump)
+        || bad_dry(call.dry)
+        || large_table(u, bed, n)
 }

@@ -46,11 +46,7 @@ pub fn is_spared(u: &[Cell], bed: &[i32], reach: Reach, call: Call, i: usize) ->
     requires { InReach reach.n bed.now u.now i }
     ensures { result ≡ rules.spared call.dry (reach_in reach bed.now) (seen u.now) i }
 {
-    if shallow_at(u, bed, reach, call, i) {
-        return true;
-    }
-    if shallow_left(u, bed, reach, call, i) {
-        return true;
-    }
-    shallow_right(u, bed, reach, call, i)
+    shallow_at(u, bed, reach, call, i)
+        || shallow_left(u, bed, reach, call, i)
+        || shallow_right(u, bed, reach, call, i)
 }

@@ -27,10 +27,7 @@ pub fn fill(u: &[Cell], bed: &[i32], reach: Reach, call: Call, t: &mut [Cell])
     ensures { (ρ : ℕ → ℤ) →
         Filled [] t.old t.new reach.n (finished_cell reach call bed.now u.now ρ) }
 {
-    let n = reach.n;
-    let mut i: usize = 0;
-    while i < n {
+    for i in 0..reach.n {
         t[i] = finished(u, bed, reach, call, i);
-        i += 1;
     }
 }
