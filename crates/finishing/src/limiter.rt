@@ -40,10 +40,7 @@ fn parted(u: &[Cell], reach: Reach, call: Call, i: usize) -> bool
     requires { InTable reach.n u.now i }
     ensures { (bed : List ℤ) (ρ : ℕ → ℤ) → result ≡ rules.parted (reach_in reach bed) (call_on call ρ) (seen u.now) i }
 {
-    if i + 1 == reach.n {
-        return false;
-    }
-    jumps(u[i], u[i + 1], call)
+    i + 1 != reach.n && jumps(u[i], u[i + 1], call)
 }
 
 // Is cell i marked: is one of its inner faces parted?

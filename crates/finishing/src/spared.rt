@@ -24,10 +24,7 @@ fn shallow_left(u: &[Cell], bed: &[i32], reach: Reach, call: Call, i: usize) -> 
     requires { InReach reach.n bed.now u.now i }
     ensures { result ≡ rules.shallow_left call.dry (reach_in reach bed.now) (seen u.now) i }
 {
-    if i == 0 {
-        return false;
-    }
-    shallow_at(u, bed, reach, call, i - 1)
+    i != 0 && shallow_at(u, bed, reach, call, i - 1)
 }
 
 // Is the cell right of it? The last has none.
@@ -35,10 +32,7 @@ fn shallow_right(u: &[Cell], bed: &[i32], reach: Reach, call: Call, i: usize) ->
     requires { InReach reach.n bed.now u.now i }
     ensures { result ≡ rules.shallow_right call.dry (reach_in reach bed.now) (seen u.now) i }
 {
-    if i + 1 == reach.n {
-        return false;
-    }
-    shallow_at(u, bed, reach, call, i + 1)
+    i + 1 != reach.n && shallow_at(u, bed, reach, call, i + 1)
 }
 
 // Is cell i spared: is it shallow, or a neighbour that it has?
