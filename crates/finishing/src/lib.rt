@@ -7,12 +7,12 @@ mod limiter;
 mod range;
 mod spared;
 mod table;
+mod unfinished;
 pub mod unfit;
 
 ghost use Rattle.finishing.specs.FinishSays.{FinishSays};
 
-use crate::range::is_unfit;
-use crate::table::fill;
+use crate::unfinished::UnfinishedTable;
 use crate::unfit::Unfit;
 use reach::{Call, Cell, Reach};
 
@@ -29,9 +29,15 @@ pub fn finish(
 ) -> Result<(), Unfit>
     ensures { FinishSays reach call bed.now u.now result t.old t.new }
 {
-    if is_unfit(u, bed, reach, call, t.len()) {
+    let unfinished = UnfinishedTable {
+        cells: u,
+        bed,
+        reach,
+        call,
+    };
+    if unfinished.is_unfit(t.len()) {
         return Err(Unfit);
     }
-    fill(u, bed, reach, call, t);
+    unfinished.fill(t);
     Ok(())
 }
