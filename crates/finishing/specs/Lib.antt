@@ -4,6 +4,7 @@ pub mod Unfit
 pub mod FinishedCell
 pub mod FinishSays
 pub mod InTable
+pub mod UnfinishedTable
 pub mod NumberOf
 pub mod Depths
 pub mod Laws

@@ -1,14 +1,16 @@
 // Is what is to be finished too large to be worked on? No stage leaves a table so.
 ghost use Rattle.std.specs.Prelude.{◌≡◌, ◌≤◌, length};
 ghost use Rattle.tables.specs.Some.{some};
-ghost use Rattle.tables.specs.Cells.{as_cell, seen};
+ghost use Rattle.tables.specs.Cells.{as_cell};
 ghost use Rattle.rules.specs.Reach.{bed_at};
 ghost use Rattle.reach.specs.Told.{bed_in};
 ghost use Rattle.finishing.specs.Unfit.{either_past, too_large, unfit};
+ghost use Rattle.finishing.specs.UnfinishedTable.{state_of};
 
+use crate::unfinished::UnfinishedTable;
+use reach::Cell;
 use reach::bed::{Bed, under};
 use reach::limits::{CELLS, HIGHEST_BED, LARGEST_JUMP, bad_dry, outside, past};
-use reach::{Call, Cell, Reach};
 
 // 2^46, `widest` in contracts: sums of a few such numbers fit in 64 bits with much to spare.
 const WIDEST: i64 = 70368744177664;
@@ -24,52 +26,37 @@ fn either_past(most: i64, x: i64, y: i64) -> bool
 fn too_large(b: Bed, x: Cell) -> bool
     ensures { result ≡ too_large (bed_in b) (as_cell x) }
 {
-    if either_past(HIGHEST_BED, b.zl as i64, b.zr as i64) {
-        return true;
-    }
-    if either_past(WIDEST, x[0], x[1]) {
-        return true;
-    }
-    either_past(WIDEST, x[2], x[3])
+    either_past(HIGHEST_BED, i64::from(b.zl), i64::from(b.zr))
+        || either_past(WIDEST, x[0], x[1])
+        || either_past(WIDEST, x[2], x[3])
 }
 
-// Is some cell of the table too large, or its bed?
-fn large_table(u: &[Cell], bed: &[i32], n: usize) -> bool
-    requires { n ≤ length u.now }
-    ensures { result ≡ some (λ i. too_large (bed_at bed.now i) (seen u.now i)) n }
-{
-    let mut i: usize = 0;
-    while i < n {
-        if too_large(under(bed, i), u[i]) {
-            return true;
+impl<'a> UnfinishedTable<'a> {
+    // Is some cell of the table too large, or its bed?
+    fn has_too_large(self) -> bool
+        requires { self.reach.n ≤ length self.cells.now }
+        ensures { let u = self.entry in
+            result ≡ some (λ i. too_large (bed_at u.bed.now i) (state_of u i)) u.reach.n }
+    {
+        for i in 0..self.reach.n {
+            if too_large(under(self.bed, i), self.cells[i]) {
+                return true;
+            }
         }
-        i += 1;
+        false
     }
-    false
-}
 
-// Can the table not be finished: the lengths, the jump, the dry depth, or a number in it?
-pub fn is_unfit(u: &[Cell], bed: &[i32], reach: Reach, call: Call, room: usize) -> bool
-    ensures { result ≡ unfit reach call bed.now u.now room }
-{
-    let n = reach.n;
-    if u.len() < n {
-        return true;
+    // Can the table not be finished: the lengths, the jump, the dry depth, or a number in it?
+    pub fn is_unfit(self, room: usize) -> bool
+        ensures { let u = self.entry in result ≡ unfit u.reach u.call u.bed.now u.cells.now room }
+    {
+        let n = self.reach.n;
+        self.cells.len() < n
+            || room < n
+            || CELLS < n
+            || self.bed.len() != n + 1
+            || outside(0, LARGEST_JUMP, self.call.jump)
+            || bad_dry(self.call.dry)
+            || self.has_too_large()
     }
-    if room < n {
-        return true;
-    }
-    if CELLS < n {
-        return true;
-    }
-    if bed.len() != n + 1 {
-        return true;
-    }
-    if outside(0, LARGEST_JUMP, call.jump) {
-        return true;
-    }
-    if bad_dry(call.dry) {
-        return true;
-    }
-    large_table(u, bed, n)
 }

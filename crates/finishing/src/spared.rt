@@ -2,55 +2,43 @@
 // level of such a cell is only its bed, and a slope set against it would be set against the ground.
 // Every depth is read from the unfinished table.
 ghost use Rattle.std.specs.Prelude.{◌≡◌};
-ghost use Rattle.tables.specs.Cells.{seen};
 ghost use Rattle.rules.specs.Finishing as rules;
-ghost use Rattle.reach.specs.Told.{reach_in};
-ghost use Rattle.finishing.specs.InTable.{InReach};
+ghost use Rattle.finishing.specs.UnfinishedTable.{reach_of, state_of, HasCell};
 
 use crate::cell::is_shallow;
+use crate::unfinished::UnfinishedTable;
 use reach::bed::under;
-use reach::{Call, Cell, Reach};
 
-// Is cell i shallow?
-fn shallow_at(u: &[Cell], bed: &[i32], reach: Reach, call: Call, i: usize) -> bool
-    requires { InReach reach.n bed.now u.now i }
-    ensures { result ≡ rules.shallow_at call.dry (reach_in reach bed.now) (seen u.now) i }
-{
-    is_shallow(under(bed, i), u[i], call.dry)
-}
+impl<'a> UnfinishedTable<'a> {
+    // Is cell i shallow?
+    fn shallow_at(self, i: usize) -> bool
+        requires { HasCell self i }
+        ensures { result ≡ rules.shallow_at self.entry.call.dry (reach_of self.entry) (state_of self.entry) i }
+    {
+        is_shallow(under(self.bed, i), self.cells[i], self.call.dry)
+    }
 
-// Is the cell left of it? The first has none.
-fn shallow_left(u: &[Cell], bed: &[i32], reach: Reach, call: Call, i: usize) -> bool
-    requires { InReach reach.n bed.now u.now i }
-    ensures { result ≡ rules.shallow_left call.dry (reach_in reach bed.now) (seen u.now) i }
-{
-    if i == 0 {
-        return false;
+    // Is the cell left of it? The first has none.
+    fn shallow_left(self, i: usize) -> bool
+        requires { HasCell self i }
+        ensures { result ≡ rules.shallow_left self.entry.call.dry (reach_of self.entry) (state_of self.entry) i }
+    {
+        i != 0 && self.shallow_at(i - 1)
     }
-    shallow_at(u, bed, reach, call, i - 1)
-}
 
-// Is the cell right of it? The last has none.
-fn shallow_right(u: &[Cell], bed: &[i32], reach: Reach, call: Call, i: usize) -> bool
-    requires { InReach reach.n bed.now u.now i }
-    ensures { result ≡ rules.shallow_right call.dry (reach_in reach bed.now) (seen u.now) i }
-{
-    if i + 1 == reach.n {
-        return false;
+    // Is the cell right of it? The last has none.
+    fn shallow_right(self, i: usize) -> bool
+        requires { HasCell self i }
+        ensures { result ≡ rules.shallow_right self.entry.call.dry (reach_of self.entry) (state_of self.entry) i }
+    {
+        i + 1 != self.reach.n && self.shallow_at(i + 1)
     }
-    shallow_at(u, bed, reach, call, i + 1)
-}
 
-// Is cell i spared: is it shallow, or a neighbour that it has?
-pub fn is_spared(u: &[Cell], bed: &[i32], reach: Reach, call: Call, i: usize) -> bool
-    requires { InReach reach.n bed.now u.now i }
-    ensures { result ≡ rules.spared call.dry (reach_in reach bed.now) (seen u.now) i }
-{
-    if shallow_at(u, bed, reach, call, i) {
-        return true;
+    // Is cell i spared: is it shallow, or a neighbour that it has?
+    pub fn is_spared(self, i: usize) -> bool
+        requires { HasCell self i }
+        ensures { result ≡ rules.spared self.entry.call.dry (reach_of self.entry) (state_of self.entry) i }
+    {
+        self.shallow_at(i) || self.shallow_left(i) || self.shallow_right(i)
     }
-    if shallow_left(u, bed, reach, call, i) {
-        return true;
-    }
-    shallow_right(u, bed, reach, call, i)
 }

@@ -20,5 +20,5 @@ returns c =
     record {
       works = ap not (sym c.if-is_unfit.false ∙ c.is_unfit.ensures);
       filled = λ y. c.fill.ensures;
-      kept = λ y. clash (sym y);
+      kept = λ e. clash e;
     }
