@@ -1,13 +1,13 @@
 -- A number is the whole root where what is left beside its square is at most twice that number, and the other way round; and
 -- what an answer tells its caller. Assumes nothing.
-use mathlib.Core.Path.{◌≡◌, subst}
+use mathlib.Core.Path.{◌≡◌, refl}
 use Prim.Native.Nat.{ℕ, suc, ◌+◌, ◌*◌, ◌^◌, ◌≤◌}
 use native.Mathlib.Nat.{mul-le-mul}
 use native.Mathlib.Decide.{dec_le}
 use native.Mathlib.Omega.{arith}
 use Rattle.whole.specs.Largest.{at_most}
-use Rattle.digits.specs.declared.Rooted.{Rooted}
-use Rattle.digits.specs.declared.Rooted.TheVariants.{Is, Refused}
+use Rattle.std.specs.Prelude.{Option, Some, IsSome}
+use Rattle.digits.specs.declared.Root.{Root}
 use Rattle.digits.specs.Root.{RootOf, Fits, DigitsSay, within, beyond}
 
 squares : (a b : ℕ) → a ≤ b → a * a ≤ b * b
@@ -27,15 +27,9 @@ rest_most z w r o = go (dec_le r (2 * w))
     go (no l) = let e = o.left in let k : suc w ≤ w = o.largest.most (suc w) (omega arith) in omega arith
 
 -- ---- of a call within the limits
-pub told : (number noughts whole rest : ℕ) (r : Rooted) → r ≡ Is whole rest → DigitsSay number noughts r
-    → RootOf (number * 4 ^ noughts) whole rest
-told number noughts whole rest r e s = is_root (subst (DigitsSay number noughts) e s)
-  where
-    is_root : DigitsSay number noughts (Is whole rest) → RootOf (number * 4 ^ noughts) whole rest
-    is_root (within f o) = o
+pub given : {number noughts : ℕ} {o : Option Root} → Fits number noughts → DigitsSay number noughts o → IsSome o
+given f (within _ _) = refl
+given f (beyond n) = absurd (n f)
 
-pub untold : {P : Type 0} (number noughts : ℕ) (r : Rooted) → r ≡ Refused → Fits number noughts → DigitsSay number noughts r → P
-untold {P} number noughts r e f s = never (subst (DigitsSay number noughts) e s)
-  where
-    never : DigitsSay number noughts Refused → P
-    never (beyond n) = absurd (n f)
+pub told : {number noughts : ℕ} {r : Root} → DigitsSay number noughts (Some r) → RootOf (number * 4 ^ noughts) r.whole r.rest
+told (within f o) = o

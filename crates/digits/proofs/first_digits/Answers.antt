@@ -6,12 +6,6 @@ use Rattle.digits.proofs.Turns.{start, again, lower, end}
 use Rattle.digits.proofs.Places.{first_is, last_is, found}
 use Rattle.digits.proofs.first_digits.Goals as goal
 
-pub overflow_shr-last : goal.overflow_shr-last
-overflow_shr-last c = omega (arith, c.requires.1)
-
-pub overflow_mul-t : goal.overflow_mul-t
-overflow_mul-t c = omega (arith, c.requires.0)
-
 pub loop-t-init : goal.loop-t-init
 loop-t-init c =
     let n = c.args.number in let turns = c.args.turns in
@@ -30,15 +24,6 @@ loop-t-smaller c = lower c.turn-t.ensures (omega (arith, more c))
 
 pub loop-t-preserved : goal.loop-t-preserved
 loop-t-preserved c = again c.before.before.before.loop-t.invariant (more c) c.turn-t.ensures
-
-pub overflow_sub-unit : goal.overflow_sub-unit
-overflow_sub-unit c = omega (arith, c.before.before.before.requires.1)
-
-pub overflow_shr-result : goal.overflow_shr-result
-overflow_shr-result c = omega arith
-
-pub overflow_shr-result-2 : goal.overflow_shr-result-2
-overflow_shr-result-2 c = omega arith
 
 pub returns : goal.returns
 returns c =
