@@ -3,7 +3,7 @@
 // found within that block. What it must write comes from tests/reference/roots.py.
 #![tactic(auto)]
 
-use root::RootAnswer;
+use root::root;
 use std::io;
 
 const TOP: u64 = 0x7ff0_0000_0000_0000; // the bits of an infinity
@@ -36,14 +36,14 @@ fn double(b: u64) -> f64 {
 
 // The bits of x. No root is a NaN; 2 would show one.
 fn bits(x: f64) -> u64 {
-    if x == x { f64::to_bits(x) } else { 2 }
+    if x.is_nan() { 2 } else { x.to_bits() }
 }
 
-// The bits of the root, or 1 where it is refused: no root has those.
+// The bits of the root, or 1 where there is none: no root has those.
 fn answer(b: u64) -> u64 {
-    match root::root(double(b)) {
-        RootAnswer::Root(r) => bits(r),
-        RootAnswer::Refused => 1,
+    match root(double(b)) {
+        Some(r) => bits(r),
+        None => 1,
     }
 }
 
