@@ -6,21 +6,10 @@ use Rattle.digits.proofs.Turns.{start, again, lower, end}
 use Rattle.digits.proofs.Places.{first_is, last_is, found}
 use Rattle.digits.proofs.first_digits.Goals as goal
 
-pub loop-t-init : goal.loop-t-init
-loop-t-init c =
-    let n = c.args.number in let turns = c.args.turns in
-    start n turns (2 ^ (61 - turns)) (2 ^ 61) (first_is turns c.requires.1) (omega (arith, c.requires.0)) (omega arith)
-
-pub turn-t-requires : goal.turn-t-requires
-turn-t-requires c = c.before.before.loop-t.invariant.2.small
-
 -- a turn is made while its place is above the last
 more : (c : goal.After-turn-t) → let p = c.before.before.before in 2 ^ (61 - p.before.args.turns) < p.loop-t.t.bit
 more c = let p = c.before.before.before in let s = p.before in
     subst (λ (x : ℕ). x < p.loop-t.t.bit) (last_is s.args.turns s.requires.1) c.before.loop-t-test.true
-
-pub loop-t-smaller : goal.loop-t-smaller
-loop-t-smaller c = lower c.turn-t.ensures (omega (arith, more c))
 
 pub loop-t-preserved : goal.loop-t-preserved
 loop-t-preserved c = again c.before.before.before.loop-t.invariant (more c) c.turn-t.ensures
