@@ -60,7 +60,8 @@ fn turn(t: SoFar) -> SoFar
 // The root of the first pairs of a number, as many as there are turns. Where these are more than it has,
 // pairs of nought follow.
 fn first_digits(number: u64, turns: u64) -> Root
-    requires { (number < 4 ^ 31) × (turns ≤ 61) }
+    requires pairs { number < 4 ^ 31 }
+    requires places { turns ≤ 61 }
     ensures { RootOf (number * 4 ^ turns / 4 ^ 31) result.whole result.rest }
 {
     let last = FIRST >> turns;

@@ -26,8 +26,8 @@ pub overflow_sub-above : goal.overflow_sub-above
 overflow_sub-above c = omega (arith, zeros c)
 
 pub first_digits-requires : goal.first_digits-requires
-first_digits-requires c = let n = c.args.number in
-    (omega (arith, shifted n (fits c).pairs, raised n (fits c).pairs), omega (arith, zeros c, (fits c).behind))
+first_digits-requires c = let n = c.args.number in let f = fits c in
+    record { pairs = omega (arith, shifted n f.pairs, raised n f.pairs); places = omega (arith, zeros c, f.behind) }
 
 pub returns : goal.returns
 returns c =
