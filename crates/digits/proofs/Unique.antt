@@ -9,7 +9,8 @@ use Rattle.digits.specs.Root.{RootOf, DigitsSay, within, beyond}
 
 -- one root, and so one rest
 one_root : {z : ℕ} {r r' : Root} → RootOf z r.whole r.rest → RootOf z r'.whole r'.rest → r ≡ r'
-one_root {z} {r} {r'} a b = ap (λ (w : ℕ). record { whole = w; rest = r.rest }) whole ∙ ap (λ (t : ℕ). record { whole = r'.whole; rest = t }) rest
+one_root {z} {r} {r'} a b =
+    ap (λ (w : ℕ). record { whole = w; rest = r.rest }) whole ∙ ap (λ (t : ℕ). record { whole = r'.whole; rest = t }) rest
   where
     whole : r.whole ≡ r'.whole
     whole = one_largest r.whole r'.whole a.largest b.largest
