@@ -46,16 +46,16 @@ module _ (turns : ℕ) (l : turns ≤ 61) where
       across : (n p q : ℕ) → 2 ^ 61 ≡ q * p → n * (p * p) * (4 * q) ≡ p * (n * 2) * 4 ^ 31
       across n p q e = let f : n * p * (2 ^ 61) ≡ n * p * (q * p) = ap (λ (x : ℕ). n * p * x) e in omega (arith, f)
 
-  pub found : (number twice rest : ℕ) → ((w : ℕ) × End (2 ^ turns * (number * 2)) (4 * 2 ^ below) twice rest w)
+  pub found : (number twice rest : ℕ) → End (2 ^ turns * (number * 2)) (4 * 2 ^ below) twice rest
       → RootOf (number * 4 ^ turns / 4 ^ 31) (twice / 2 ^ (63 - turns)) (rest / 2 ^ (63 - turns))
-  found number twice rest (w, a) =
+  found number twice rest a =
       let u = 4 * 2 ^ below in
       let p : 0 < u = omega (arith, pow_pos below) in
-      let d : twice / u ≡ w = div-eq_of_eq-mul_left p a.root in
-      let z : w * w + rest / u ≡ number * 4 ^ turns / 4 ^ 31 =
-      sym (mul-add-div_right p (w * w) rest) ∙ ap (λ (x : ℕ). x / u) (sym a.whole) ∙ sym (so_far number) in
-      let m : rest / u < 2 * w + 1 = (div-lt_iff_lt-mul p).1 a.most in
-      rw (unit_is, d) (root_by (number * 4 ^ turns / 4 ^ 31) w (rest / u) z (omega arith))
+      let d : twice / u ≡ a.w = div-eq_of_eq-mul_left p a.root in
+      let z : a.w * a.w + rest / u ≡ number * 4 ^ turns / 4 ^ 31 =
+      sym (mul-add-div_right p (a.w * a.w) rest) ∙ ap (λ (x : ℕ). x / u) (sym a.whole) ∙ sym (so_far number) in
+      let m : rest / u < 2 * a.w + 1 = (div-lt_iff_lt-mul p).1 a.most in
+      rw (unit_is, d) (root_by (number * 4 ^ turns / 4 ^ 31) a.w (rest / u) z (omega arith))
 
 -- ---- the pairs of nought above the first that is not, in a number of 31 pairs
 module _ (number : ℕ) (l : number < 4 ^ 31) where

@@ -1,14 +1,14 @@
 -- A number is the whole root where what is left beside its square is at most twice that number, and the other way round; and
 -- what an answer tells its caller. Assumes nothing.
-use mathlib.Core.Path.{◌≡◌, subst}
+use mathlib.Core.Path.{◌≡◌}
 use Prim.Native.Nat.{ℕ, suc, ◌+◌, ◌*◌, ◌^◌, ◌≤◌}
 use native.Mathlib.Nat.{mul-le-mul}
 use native.Mathlib.Decide.{dec_le}
 use native.Mathlib.Omega.{arith}
 use Rattle.whole.specs.Largest.{at_most}
-use Rattle.digits.specs.declared.Rooted.{Rooted}
-use Rattle.digits.specs.declared.Rooted.TheVariants.{Is, Refused}
-use Rattle.digits.specs.Root.{RootOf, Fits, DigitsSay, within, beyond}
+use Rattle.std.specs.Prelude.{Some}
+use Rattle.digits.specs.declared.Root.{Root}
+use Rattle.digits.specs.Root.{RootOf, DigitsSay, within}
 
 squares : (a b : ℕ) → a ≤ b → a * a ≤ b * b
 squares a b l = mul-le-mul l l
@@ -26,16 +26,6 @@ rest_most z w r o = go (dec_le r (2 * w))
     go (yes l) = l
     go (no l) = let e = o.left in let k : suc w ≤ w = o.largest.most (suc w) (omega arith) in omega arith
 
--- ---- of a call within the limits
-pub told : (number noughts whole rest : ℕ) (r : Rooted) → r ≡ Is whole rest → DigitsSay number noughts r
-    → RootOf (number * 4 ^ noughts) whole rest
-told number noughts whole rest r e s = is_root (subst (DigitsSay number noughts) e s)
-  where
-    is_root : DigitsSay number noughts (Is whole rest) → RootOf (number * 4 ^ noughts) whole rest
-    is_root (within f o) = o
-
-pub untold : {P : Type 0} (number noughts : ℕ) (r : Rooted) → r ≡ Refused → Fits number noughts → DigitsSay number noughts r → P
-untold {P} number noughts r e f s = never (subst (DigitsSay number noughts) e s)
-  where
-    never : DigitsSay number noughts Refused → P
-    never (beyond n) = absurd (n f)
+-- ---- of a call that gave one
+pub told : {number noughts : ℕ} {r : Root} → DigitsSay number noughts (Some r) → RootOf (number * 4 ^ noughts) r.whole r.rest
+told (within f o) = o

@@ -1,5 +1,5 @@
 // A square root in whole numbers, worked digit by digit: the one search behind the wave speed of a
-// depth and the root of a double. The public function answers every call: beyond its limits it refuses.
+// depth and the root of a double. The public function answers every call: beyond its limits there is none.
 #![tactic(auto)]
 
 ghost use Rattle.std.specs.Prelude.{◌*◌, ◌/◌, ◌^◌, ◌≤◌, ◌<◌};
@@ -19,12 +19,11 @@ const FIRST: u64 = 1 << 61;
 // there are places from the first down.
 const MOST_NOUGHTS: u64 = 30;
 
-#[derive(Clone, Copy)]
-pub enum Rooted {
-    // the largest number whose square is at most the one with its noughts, and what is left beside that square
-    Is(u64, u64),
-    // the number or its noughts are beyond the limits
-    Refused,
+// The largest number whose square is at most a number, and what is left of that number beside the square.
+#[derive(Clone, Copy, Debug, PartialEq, Eq)]
+pub struct Root {
+    pub whole: u64,
+    pub rest: u64,
 }
 
 // Between two turns: the place of the next digit, twice the root so far, and what is left of the number
@@ -36,15 +35,9 @@ struct SoFar {
     rest: u64,
 }
 
-// A whole root, and what is left beside its square.
-#[derive(Clone, Copy)]
-struct Root {
-    whole: u64,
-    rest: u64,
-}
-
 // One digit: a one where what is left is as much as the square grows by, which is the trial in the place of
 // this digit. Asked this way round, the test compiles to moves on the carry alone, and to no branch.
+#[tactic(auto, using(crate::specs::Turns::nought, crate::specs::Turns::one))]
 fn turn(t: SoFar) -> SoFar
     requires { Small t.bit t.twice t.rest }
     ensures { Turned t.bit t.twice t.rest result.bit result.twice result.rest }
@@ -67,7 +60,8 @@ fn turn(t: SoFar) -> SoFar
 // The root of the first pairs of a number, as many as there are turns. Where these are more than it has,
 // pairs of nought follow.
 fn first_digits(number: u64, turns: u64) -> Root
-    requires { (number < 4 ^ 31) × (turns ≤ 61) }
+    requires pairs { number < 4 ^ 31 }
+    requires places { turns ≤ 61 }
     ensures { RootOf (number * 4 ^ turns / 4 ^ 31) result.whole result.rest }
 {
     let last = FIRST >> turns;
@@ -86,18 +80,14 @@ fn first_digits(number: u64, turns: u64) -> Root
     }
 }
 
-// The root of a number with pairs of nought behind it. The pairs of nought above its first one are passed
-// over, as their digits are noughts: shallow water needs fewer turns.
-pub fn digits(number: u64, noughts: u64) -> Rooted
+// The root of a number with pairs of nought behind it, or nothing beyond the limits. The pairs of nought above
+// its first one are passed over, as their digits are noughts: shallow water needs fewer turns.
+pub fn digits(number: u64, noughts: u64) -> Option<Root>
     ensures { DigitsSay number noughts result }
 {
-    if BEYOND <= number {
-        return Rooted::Refused;
+    if BEYOND <= number || MOST_NOUGHTS < noughts {
+        return None;
     }
-    if MOST_NOUGHTS < noughts {
-        return Rooted::Refused;
-    }
-    let above = (u64::leading_zeros(number) as u64 - 2) / 2;
-    let d = first_digits(number << (2 * above), PAIRS - above + noughts);
-    Rooted::Is(d.whole, d.rest)
+    let above = (number.leading_zeros() as u64 - 2) / 2;
+    Some(first_digits(number << (2 * above), PAIRS - above + noughts))
 }

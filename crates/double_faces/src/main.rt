@@ -4,11 +4,11 @@
 // tests/reference/double_faces.py.
 #![tactic(auto)]
 
-use double::face::DoubleAnswer;
+use double::face::{Side, face};
 use std::io;
 
 // What a block has come to.
-#[derive(Clone, Copy)]
+#[derive(Clone, Copy, Default)]
 struct Tally {
     fluxes: u64,
     dry: u64,
@@ -24,12 +24,12 @@ fn next(x: u64) -> u64 {
 }
 
 fn mix(sum: u64, b: u64) -> u64 {
-    (sum << 1) ^ (sum >> 63) ^ b
+    sum.rotate_left(1) ^ b
 }
 
 // The bits of x. No flux is a NaN; 2 would show one.
 fn bits(x: f64) -> u64 {
-    if x == x { f64::to_bits(x) } else { 2 }
+    if x.is_nan() { 2 } else { x.to_bits() }
 }
 
 // From 0 up to 1, by 52 of the bits of x.
@@ -47,8 +47,8 @@ fn depth(x: u64) -> f64 {
         15 => 64.00000000000001,
         16 => 5e-324,
         17 => -5e-324,
-        18 => 0.0 / 0.0,
-        19 => 1.0 / 0.0,
+        18 => f64::NAN,
+        19 => f64::INFINITY,
         20..=25 => 1.0,
         26..=76 => 0.5 * unit(x) * unit(next(x)),
         _ => 64.0 * unit(x),
@@ -64,72 +64,66 @@ fn speed(x: u64) -> f64 {
         11 => -32.0,
         12 => 32.00000000000001,
         13 => -32.00000000000001,
-        14 => 0.0 / 0.0,
-        15 => -1.0 / 0.0,
+        14 => f64::NAN,
+        15 => f64::NEG_INFINITY,
         16..=60 => unit(x) - 0.5,
         _ => 64.0 * unit(x) - 32.0,
     }
 }
 
-// The tally with one more face.
-fn told(t: Tally, hl: f64, ul: f64, hr: f64, ur: f64) -> Tally {
-    let answer = double::face::face(hl, ul, hr, ur);
-    match answer {
-        DoubleAnswer::Flux(mass, pressure, advection, top) => Tally {
-            fluxes: t.fluxes.wrapping_add(1),
-            dry: t.dry,
-            refused: t.refused,
-            sum: mix(
-                mix(mix(mix(t.sum, bits(mass)), bits(pressure)), bits(advection)),
-                bits(top),
-            ),
-        },
-        DoubleAnswer::Dry => Tally {
-            fluxes: t.fluxes,
-            dry: t.dry.wrapping_add(1),
-            refused: t.refused,
-            sum: mix(t.sum, 1),
-        },
-        DoubleAnswer::Refused => Tally {
-            fluxes: t.fluxes,
-            dry: t.dry,
-            refused: t.refused.wrapping_add(1),
-            sum: mix(t.sum, 3),
-        },
+impl Tally {
+    fn add(&mut self, b: u64) {
+        self.sum = mix(self.sum, b);
+    }
+
+    // One more face, by its answer.
+    fn tell(&mut self, l: Side, r: Side) {
+        match face(l, r) {
+            Ok(Some(flux)) => {
+                self.fluxes = self.fluxes.wrapping_add(1);
+                self.add(bits(flux.mass));
+                self.add(bits(flux.pressure));
+                self.add(bits(flux.advection));
+                self.add(bits(flux.top));
+            }
+            Ok(None) => {
+                self.dry = self.dry.wrapping_add(1);
+                self.add(1);
+            }
+            Err(_) => {
+                self.refused = self.refused.wrapping_add(1);
+                self.add(3);
+            }
+        }
+    }
+}
+
+fn side(a: u64, b: u64) -> Side {
+    Side {
+        h: depth(a),
+        u: speed(b),
     }
 }
 
 fn run(block: u64) -> Tally {
     let mut x = 88172645463325252 ^ (block << 32);
-    let mut t = Tally {
-        fluxes: 0,
-        dry: 0,
-        refused: 0,
-        sum: 0,
-    };
-    for i in 0u64..1000 {
+    let mut t = Tally::default();
+    for _ in 0..1000 {
         let a = next(x);
         let b = next(a);
         let c = next(b);
         x = next(c);
-        t = told(t, depth(a), speed(b), depth(c), speed(x));
+        t.tell(side(a, b), side(c, x));
     }
     t
 }
 
-fn show_count(rt: &impl Print, n: u64) -> io::Result<()> {
-    print!(rt; " {n}")
-}
-
 fn line(rt: &impl Print, block: u64) -> io::Result<()> {
     let t = run(block);
-    print!(rt; "faces")?;
-    show_count(rt, block)?;
-    show_count(rt, t.fluxes)?;
-    show_count(rt, t.dry)?;
-    show_count(rt, t.refused)?;
-    let sum = t.sum;
-    println!(rt; " {sum:016x}")
+    println!(rt;
+        "faces {block} {} {} {} {:016x}",
+        t.fluxes, t.dry, t.refused, t.sum
+    )
 }
 
 fn main(rt: HostRuntime) -> io::Result<()> {

@@ -3,7 +3,7 @@
 // found within that block. What it must write comes from tests/reference/roots.py.
 #![tactic(auto)]
 
-use root::RootAnswer;
+use root::root;
 use std::io;
 
 const TOP: u64 = 0x7ff0_0000_0000_0000; // the bits of an infinity
@@ -20,7 +20,7 @@ fn next(x: u64) -> u64 {
 }
 
 fn mix(sum: u64, b: u64) -> u64 {
-    (sum << 1) ^ (sum >> 63) ^ b
+    sum.rotate_left(1) ^ b
 }
 
 // The double with the bits b; the bits of every NaN give the one NaN.
@@ -28,7 +28,7 @@ fn mix(sum: u64, b: u64) -> u64 {
 fn double(b: u64) -> f64 {
     let size = b % SIGN;
     if TOP < size {
-        return 0.0 / 0.0;
+        return f64::NAN;
     }
     let x = f64::from_bits(size);
     if b < SIGN { x } else { -x }
@@ -36,14 +36,14 @@ fn double(b: u64) -> f64 {
 
 // The bits of x. No root is a NaN; 2 would show one.
 fn bits(x: f64) -> u64 {
-    if x == x { f64::to_bits(x) } else { 2 }
+    if x.is_nan() { 2 } else { x.to_bits() }
 }
 
-// The bits of the root, or 1 where it is refused: no root has those.
+// The bits of the root, or 1 where there is none: no root has those.
 fn answer(b: u64) -> u64 {
-    match root::root(double(b)) {
-        RootAnswer::Root(r) => bits(r),
-        RootAnswer::Refused => 1,
+    match root(double(b)) {
+        Some(r) => bits(r),
+        None => 1,
     }
 }
 
@@ -80,16 +80,12 @@ fn around(x: u64) -> u64 {
 }
 
 fn item(block: u64, i: u64, x: u64) -> u64 {
-    if block < 64 {
-        return answer(exponent(block, i, x));
+    match block {
+        0..=63 => answer(exponent(block, i, x)),
+        64..=115 => answer(subnormal(block, x)),
+        116..=125 => around(x),
+        _ => answer((x >> 1) | SIGN),
     }
-    if block < 116 {
-        return answer(subnormal(block, x));
-    }
-    if block < 126 {
-        return around(x);
-    }
-    answer((x >> 1) | SIGN)
 }
 
 fn sum(block: u64) -> u64 {
@@ -103,21 +99,17 @@ fn sum(block: u64) -> u64 {
 }
 
 fn name(block: u64) -> &'static str {
-    if block < 64 {
-        "exponents"
-    } else if block < 116 {
-        "subnormals"
-    } else if block < 126 {
-        "squares"
-    } else {
-        "negatives"
+    match block {
+        0..=63 => "exponents",
+        64..=115 => "subnormals",
+        116..=125 => "squares",
+        _ => "negatives",
     }
 }
 
 fn line(rt: &impl Print, block: u64) -> io::Result<()> {
-    let kind = name(block);
     let sum = sum(block);
-    println!(rt; "{kind} {block} {sum:016x}")
+    println!(rt; "{} {block} {sum:016x}", name(block))
 }
 
 fn edge(rt: &impl Print, b: u64) -> io::Result<()> {
@@ -125,34 +117,35 @@ fn edge(rt: &impl Print, b: u64) -> io::Result<()> {
     println!(rt; "root of {b:016x} {root:016x}")
 }
 
-fn blocks(rt: &impl Print) -> io::Result<()> {
-    for block in 0..128 {
-        line(rt, block)?;
+fn edges(rt: &impl Print) -> io::Result<()> {
+    let edges = [
+        // the two noughts, the smallest subnormal, the largest one, the smallest normal
+        0,
+        SIGN,
+        1,
+        FRACTION,
+        FRACTION + 1,
+        // 1, 2, the largest finite
+        0x3ff0_0000_0000_0000,
+        0x4000_0000_0000_0000,
+        TOP - 1,
+        // the two infinities, two NaNs, -1, the largest below nought
+        TOP,
+        TOP | SIGN,
+        TOP + 1,
+        0xffff_ffff_ffff_ffff,
+        0xbff0_0000_0000_0000,
+        SIGN + 1,
+    ];
+    for b in edges {
+        edge(rt, b)?;
     }
     Ok(())
 }
 
-fn edges(rt: &impl Print) -> io::Result<()> {
-    // the two noughts, the smallest subnormal, the largest one, the smallest normal
-    edge(rt, 0)?;
-    edge(rt, SIGN)?;
-    edge(rt, 1)?;
-    edge(rt, FRACTION)?;
-    edge(rt, FRACTION + 1)?;
-    // 1, 2, the largest finite
-    edge(rt, 0x3ff0_0000_0000_0000)?;
-    edge(rt, 0x4000_0000_0000_0000)?;
-    edge(rt, TOP - 1)?;
-    // the two infinities, two NaNs, -1, the largest below nought
-    edge(rt, TOP)?;
-    edge(rt, TOP | SIGN)?;
-    edge(rt, TOP + 1)?;
-    edge(rt, 0xffff_ffff_ffff_ffff)?;
-    edge(rt, 0xbff0_0000_0000_0000)?;
-    edge(rt, SIGN + 1)
-}
-
 fn main(rt: HostRuntime) -> io::Result<()> {
-    blocks(&rt)?;
+    for block in 0..128 {
+        line(&rt, block)?;
+    }
     edges(&rt)
 }

@@ -7,18 +7,15 @@ ghost use Rattle.rules.specs.Limits.{deepest};
 ghost use Rattle.rules.specs.Face.{wave, wave_of};
 ghost use Rattle.rules.specs.Friction.{cube, cube_of};
 
-use digits::{Rooted, digits};
+use digits::digits;
 
 // The largest a with 100·a² at most 4,018,176·h, which is the whole root of a hundredth of that. The
-// number is within the limits of the digits, so it is never refused.
+// number is within the limits of the digits, so there always is one.
 fn fastest_wave(h: u64) -> u64
     requires { h ≤ 262144 }
     ensures { result ≡ wave_of h }
 {
-    match digits(4018176 * h / 100, 0) {
-        Rooted::Is(a, _) => a,
-        Rooted::Refused => 0,
-    }
+    digits(4018176 * h / 100, 0).unwrap().whole
 }
 
 // 32,768 times the cube root of 2, of 4 and of 8.

@@ -6,42 +6,24 @@ use Rattle.digits.proofs.Turns.{start, again, lower, end}
 use Rattle.digits.proofs.Places.{first_is, last_is, found}
 use Rattle.digits.proofs.first_digits.Goals as goal
 
-pub overflow_shr-last : goal.overflow_shr-last
-overflow_shr-last c = omega (arith, c.requires.1)
-
-pub overflow_mul-t : goal.overflow_mul-t
-overflow_mul-t c = omega (arith, c.requires.0)
-
 pub loop-t-init : goal.loop-t-init
 loop-t-init c =
     let n = c.args.number in let turns = c.args.turns in
-    start n turns (2 ^ (61 - turns)) (2 ^ 61) (first_is turns c.requires.1) (omega (arith, c.requires.0)) (omega arith)
-
-pub turn-t-requires : goal.turn-t-requires
-turn-t-requires c = c.before.before.loop-t.invariant.2.small
+    start n turns (2 ^ (61 - turns)) (2 ^ 61) (first_is turns c.requires.places) (omega (arith, c.requires.pairs)) (omega arith)
 
 -- a turn is made while its place is above the last
-more : (c : goal.After-turn-t) → let p = c.before.before.before in 2 ^ (61 - p.before.args.turns) < p.loop-t.t.bit
-more c = let p = c.before.before.before in let s = p.before in
-    subst (λ (x : ℕ). x < p.loop-t.t.bit) (last_is s.args.turns s.requires.1) c.before.loop-t-test.true
+more : (c : goal.After-turn-t) → 2 ^ (61 - c.args.turns) < c.loop-t.t.bit
+more c = subst (λ (x : ℕ). x < c.loop-t.t.bit) (last_is c.args.turns c.requires.places) c.loop-t-test.true
 
 pub loop-t-smaller : goal.loop-t-smaller
 loop-t-smaller c = lower c.turn-t.ensures (omega (arith, more c))
 
 pub loop-t-preserved : goal.loop-t-preserved
-loop-t-preserved c = again c.before.before.before.loop-t.invariant (more c) c.turn-t.ensures
-
-pub overflow_sub-unit : goal.overflow_sub-unit
-overflow_sub-unit c = omega (arith, c.before.before.before.requires.1)
-
-pub overflow_shr-result : goal.overflow_shr-result
-overflow_shr-result c = omega arith
-
-pub overflow_shr-result-2 : goal.overflow_shr-result-2
-overflow_shr-result-2 c = omega arith
+loop-t-preserved c = again c.loop-t.invariant (more c) c.turn-t.ensures
 
 pub returns : goal.returns
 returns c =
-    let e = c.before.before in let p = e.before.before in let s = p.before in let turns = s.args.turns in
-    let h : p.loop-t.t.bit ≤ 2 ^ (61 - turns) = subst (λ (x : ℕ). p.loop-t.t.bit ≤ x) (last_is turns s.requires.1) e.loop-t-test.false in
-    found turns s.requires.1 s.args.number p.loop-t.t.twice p.loop-t.t.rest (end p.loop-t.invariant (pow_pos (61 - turns)) h)
+    let turns = c.args.turns in
+    let h : c.loop-t.t.bit ≤ 2 ^ (61 - turns) =
+    subst (λ (x : ℕ). c.loop-t.t.bit ≤ x) (last_is turns c.requires.places) c.loop-t-test.false in
+    found turns c.requires.places c.args.number c.loop-t.t.twice c.loop-t.t.rest (end c.loop-t.invariant (pow_pos (61 - turns)) h)

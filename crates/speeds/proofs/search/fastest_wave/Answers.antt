@@ -1,21 +1,13 @@
 -- The whole root of a hundredth of 4,018,176·h, which the digits are, is the wave speed.
-use mathlib.Core.Path.{refl, subst}
+use mathlib.Core.Path.{subst}
 use Prim.Native.Nat.{ℕ, ◌*◌, ◌/◌, ◌≤◌}
 use native.Mathlib.Nat.{mul-one}
-use native.Mathlib.Omega.{arith}
 use Rattle.whole.specs.Largest.{IsLargest}
 use Rattle.rules.proofs.Laws.Speeds.{wave_root}
-use Rattle.digits.proofs.WholeRoot.{told, untold}
+use Rattle.digits.proofs.WholeRoot.{told}
 use Rattle.speeds.proofs.search.fastest_wave.Goals as goal
 
-pub returns-in-Is : goal.returns-in-Is
-returns-in-Is c =
-    let y = 4018176 * c.args.h / 100 in
-    let a : ℕ = c.in-Is.a in
-    let o = told y 0 a _ _ refl c.in-Is.ensures in
-    wave_root c.args.h a c.requires (subst (λ (z : ℕ). IsLargest (λ b. b * b ≤ z) a) (mul-one y) o.largest)
-
-pub returns-in-Refused : goal.returns-in-Refused
-returns-in-Refused c =
-    let h = c.args.h in
-    untold (4018176 * h / 100) 0 _ refl (record { pairs = omega arith; behind = omega arith }) c.in-Refused.ensures
+pub returns : goal.returns
+returns c =
+    let h = c.args.h in let a = c.unwrap.result.whole in let o = told (rw c.unwrap.ensures at c.digits.ensures) in
+    wave_root h a c.requires (subst (λ (z : ℕ). IsLargest (λ b. b * b ≤ z) a) (mul-one (4018176 * h / 100)) o.largest)

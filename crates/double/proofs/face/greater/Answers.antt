@@ -1,8 +1,0 @@
--- `greater` keeps the first of two equal values.
-use Rattle.double.proofs.face.greater.Goals as goal
-
-pub returns-then-x-y : goal.returns-then-x-y
-returns-then-x-y c = simp c.if-x-y.true
-
-pub returns-else-x-y : goal.returns-else-x-y
-returns-else-x-y c = simp c.if-x-y.false
