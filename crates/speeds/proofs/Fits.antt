@@ -64,19 +64,11 @@ pub cube_given_lem : (h : ℤ) → pos 0 ≤ℤ h → h ≤ℤ deepest → cube_
 unfolding cube_given
 cube_given_lem h a b = rw (in_depth h a b)
 
--- ---- and what an answer says of the limits
-held : (b : Bool) (x z : ℤ) → Some z ≡ cond b (Some x) None → (b ≡ true) × (z ≡ x)
-held true x z e = (refl, cc)
-held false x z e = cc
-
-let_go : (b : Bool) (x : ℤ) → None ≡ cond b (Some x) None → b ≡ false
-let_go true x e = cc
-let_go false x e = refl
-
+-- ---- and where there is a wave speed the depth is within them
 pub wave_told : (h z : ℤ) → Some z ≡ wave_given h → (depth_fits h ≡ true) × (z ≡ wave h)
 unfolding wave_given
 wave_told h z e = held (depth_fits h) (wave h) z e
-
-pub wave_untold : (h : ℤ) → None ≡ wave_given h → depth_fits h ≡ false
-unfolding wave_given
-wave_untold h e = let_go (depth_fits h) (wave h) e
+  where
+    held : (b : Bool) (x z : ℤ) → Some z ≡ cond b (Some x) None → (b ≡ true) × (z ≡ x)
+    held true x z e = (refl, cc)
+    held false x z e = cc
