@@ -1,4 +1,4 @@
--- What each public function gives, and how its answer says so; then what the private functions hand to one another.
-pub mod Given
-pub mod Answers
+-- The code's sides and fluxes as the rules', and what the public function gives; then what the private functions hand to one another.
 pub mod Sides
+pub mod Given
+pub mod Waves

@@ -1,3 +1,2 @@
--- What each public function gives, and how its answer says so.
+-- What each public function gives.
 pub mod Given
-pub mod Answers

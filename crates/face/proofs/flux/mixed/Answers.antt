@@ -1,15 +1,16 @@
 use mathlib.Core.List.{List, [], ◌∷◌}
-use lib.IntN.{pos}
-use Rattle.whole.specs.Machine.{X, v, k, ◌⊕◌, ◌⊝◌, ◌⊗◌, ◌⊘◌, Entry, entry, need, value, divisor}
+use lib.IntN.{ℤ, pos}
+use Rattle.whole.specs.Machine.{X, v, k, ◌⊕◌, ◌⊝◌, ◌⊗◌, ◌⊘◌, Entry, sized, need, value, divisor}
 use Rattle.rules.specs.Face.{mixture, mixed}
 use Rattle.rules.proofs.Laws.Mixed.{wide}
+use Rattle.face.specs.declared.flux.Waves.{Waves}
+use Rattle.face.specs.Waves.{Mixable}
 use Rattle.face.proofs.flux.mixed.Goals as goal
 
-abbrev env : goal.Start → List Entry
-env s =
-    let e = s.requires.apart in
-    entry s.ranges.sl e.s_l_in ∷ entry s.ranges.sr e.s_r_in ∷ entry s.ranges.a s.requires.a_in ∷ entry s.ranges.b s.requires.b_in
-    ∷ entry s.ranges.ul s.requires.u_l_in ∷ entry s.ranges.ur s.requires.u_r_in ∷ []
+abbrev env : {s : Waves} {a b uL uR : ℤ} → Mixable s a b uL uR → List Entry
+env m =
+    sized m.apart.bounded.left_in tt ∷ sized m.apart.bounded.right_in tt ∷ sized m.a_in tt ∷ sized m.b_in tt
+    ∷ sized m.u_l_in tt ∷ sized m.u_r_in tt ∷ []
 
 abbrev sl : X
 sl = v 0
@@ -35,42 +36,29 @@ above = sr ⊗ a ⊗ ul ⊝ sl ⊗ b ⊗ ur ⊕ sl ⊗ sr ⊗ (b ⊝ a)
 abbrev below : X
 below = k (pos 4096) ⊗ (sr ⊝ sl)
 
-pub overflow_mul-result : goal.overflow_mul-result
-overflow_mul-result c = need (env c) (sr ⊗ a) tt
-
 pub overflow_mul-result-2 : goal.overflow_mul-result-2
-overflow_mul-result-2 c = need (env c) (sr ⊗ a ⊗ ul) tt
+overflow_mul-result-2 c = need (env c.requires) (sr ⊗ a ⊗ ul) tt
 
 pub overflow_mul-result-3 : goal.overflow_mul-result-3
-overflow_mul-result-3 c = need (env c) (sl ⊗ b) tt
+overflow_mul-result-3 c = need (env c.requires) (sl ⊗ b) tt
 
 pub overflow_mul-result-4 : goal.overflow_mul-result-4
-overflow_mul-result-4 c = need (env c) (sl ⊗ b ⊗ ur) tt
+overflow_mul-result-4 c = need (env c.requires) (sl ⊗ b ⊗ ur) tt
 
 pub overflow_sub-result : goal.overflow_sub-result
-overflow_sub-result c = need (env c) (sr ⊗ a ⊗ ul ⊝ sl ⊗ b ⊗ ur) tt
-
-pub overflow_mul-result-5 : goal.overflow_mul-result-5
-overflow_mul-result-5 c = need (env c) (sl ⊗ sr) tt
-
-pub overflow_sub-result-2 : goal.overflow_sub-result-2
-overflow_sub-result-2 c = need (env c) (b ⊝ a) tt
+overflow_sub-result c = need (env c.requires) (sr ⊗ a ⊗ ul ⊝ sl ⊗ b ⊗ ur) tt
 
 pub overflow_mul-result-6 : goal.overflow_mul-result-6
-overflow_mul-result-6 c = need (env c) (sl ⊗ sr ⊗ (b ⊝ a)) tt
+overflow_mul-result-6 c = need (env c.requires) (sl ⊗ sr ⊗ (b ⊝ a)) tt
 
 pub overflow_add-result : goal.overflow_add-result
-overflow_add-result c = need (env c) above tt
-
-pub overflow_sub-result-3 : goal.overflow_sub-result-3
-overflow_sub-result-3 c = need (env c) (sr ⊝ sl) tt
-
-pub overflow_mul-result-7 : goal.overflow_mul-result-7
-overflow_mul-result-7 c = need (env c) below tt
+overflow_add-result c = need (env c.requires) above tt
 
 pub nonzero_div-result : goal.nonzero_div-result
-nonzero_div-result c = (divisor (env c) below tt (wide c.requires.apart.left c.requires.apart.right), need (env c) (above ⊘ below) tt)
+nonzero_div-result c =
+    let e = env c.requires in
+    (divisor e below tt (wide c.requires.apart.left c.requires.apart.right), need e (above ⊘ below) tt)
 
 pub returns : goal.returns
 unfolding mixed mixture
-returns c = value (env c) (above ⊘ below) tt
+returns c = value (env c.requires) (above ⊘ below) tt

@@ -1,5 +1,5 @@
 -- The turn ends at the cube-root number or above it, and from there the search goes down to it.
-use Prim.Native.Nat.{◌+◌, ◌-◌, ◌*◌, ◌≤◌, ◌<◌}
+use Prim.Native.Nat.{◌+◌, ◌*◌, ◌≤◌, ◌<◌}
 use Rattle.speeds.proofs.search.largest_cube.Given as goal
 
 abbrev pub invariant-loop-c : goal.invariant-loop-c

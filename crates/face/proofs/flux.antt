@@ -1,2 +1,0 @@
--- What the proofs of a face's functions share.
-pub mod Waves
