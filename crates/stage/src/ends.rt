@@ -19,6 +19,7 @@ use reach::limits::{FASTEST, INFLOW, past};
 use reach::size::size;
 
 // What crosses between two sides. Both are within the limits, so there always is a flux.
+#[tactic(auto, using(face::proofs::Fits::face_given_lem))]
 pub fn crossing(l: Side, r: Side) -> Flux
     requires { Sound (side_in l) × Sound (side_in r) }
     ensures { flux_in result ≡ face (side_in l) (side_in r) }
@@ -28,6 +29,7 @@ pub fn crossing(l: Side, r: Side) -> Flux
 
 // The outer side of a wall or an open end: as deep as the inner; its speed is reversed at a wall, the
 // same at an open end.
+#[tactic(auto, unfolding(rules::specs::Ends::outer))]
 fn outer(kind: u32, x: Side) -> Side
     requires { Sound (side_in x) }
     ensures { side_in result ≡ rules.outer kind (side_in x) }
@@ -39,6 +41,7 @@ fn outer(kind: u32, x: Side) -> Side
 }
 
 // The wave speed of a depth within the limits.
+#[tactic(auto, unfolding(speeds::specs::Given::wave_given, speeds::specs::Given::depth_fits))]
 fn wave_of(h: i64) -> i64
     requires { DepthIn h }
     ensures { result ≡ wave h }
@@ -47,6 +50,7 @@ fn wave_of(h: i64) -> i64
 }
 
 // uQ: the speed of an end's inflow at the depth of its inner side.
+#[tactic(auto, unfolding(rules::specs::Ends::inflow_speed))]
 fn inflow_speed(end: End, x: Side, dry: i64) -> i64
     requires q_le_largest_inflow { end.q ≤ largest_inflow }
     requires depth_in { DepthIn x.h }
@@ -57,6 +61,7 @@ fn inflow_speed(end: End, x: Side, dry: i64) -> i64
 }
 
 // 6, of an end: has it an inflow that is too fast?
+#[tactic(auto, unfolding(rules::specs::Refusals::fast_inflow, rules::specs::Ends::is_inflow))]
 pub fn fast_inflow(end: End, x: Side, dry: i64) -> bool
     requires q_le_largest_inflow { end.q ≤ largest_inflow }
     requires depth_in { DepthIn x.h }

@@ -23,6 +23,7 @@ use reach::{Call, Cell, Reach};
 
 // How strongly friction acts on a discharge q at a depth h, whose speed has been checked. All is within
 // the limits, so there always is one.
+#[tactic(auto, using(friction::proofs::Fits::strength_given_lem))]
 fn strength(call: Call, f: i64, q: i64, h: i64) -> i64
     requires pos_bound { (pos 0 ≤ℤ call.dt) × UpTo longest_step call.dt }
     requires pos_bound_2 { (pos 0 ≤ℤ f) × UpTo roughest f }
@@ -41,6 +42,7 @@ fn strength(call: Call, f: i64, q: i64, h: i64) -> i64
 }
 
 // What friction of strength x leaves of a discharge. Both are within the limits, so there always is one.
+#[tactic(auto, using(friction::proofs::Fits::slowed_given_lem))]
 fn slowed_by(x: i64, q: i64) -> i64
     requires pos_bound { (pos 0 ≤ℤ x) × UpTo strongest x }
     requires up_to { UpTo fullest q }

@@ -16,6 +16,7 @@ use reach::bed::{Bed, under};
 use reach::{Call, Cell, Reach};
 
 // The speed of a discharge at a depth. All are within the limits, so there always is one.
+#[tactic(auto, using(speeds::proofs::Fits::speed_given_lem))]
 pub fn speed_of(q: i64, h: i64, dry: i64) -> i64
     requires up_to { UpTo fullest q }
     requires depth_in { DepthIn h }
