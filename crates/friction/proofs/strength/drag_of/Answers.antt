@@ -64,10 +64,14 @@ pub overflow_mul-result-4 : goal.overflow_mul-result-4
 overflow_mul-result-4 c = need (env c.requires.ranged c.requires.slow) (per ⊗ rough) tt
 
 pub overflow_mul-result-5 : goal.overflow_mul-result-5
-overflow_mul-result-5 c = rw (s_is c.requires.ranged c.requires.slow c.size-s.ensures) (need (env c.requires.ranged c.requires.slow) above tt)
+overflow_mul-result-5 c =
+    let r = c.requires.ranged in let u = c.requires.slow in
+    rw (s_is r u c.size-s.ensures) (need (env r u) above tt)
 
 pub overflow_mul-result-7 : goal.overflow_mul-result-7
-overflow_mul-result-7 c = rw (c_is c.requires.ranged c.requires.slow c.unwrap-c.ensures c.cube.ensures) (need (env c.requires.ranged c.requires.slow) below tt)
+overflow_mul-result-7 c =
+    let r = c.requires.ranged in let u = c.requires.slow in
+    rw (c_is r u c.unwrap-c.ensures c.cube.ensures) (need (env r u) below tt)
 
 pub nonzero_div-result : goal.nonzero_div-result
 nonzero_div-result c =
