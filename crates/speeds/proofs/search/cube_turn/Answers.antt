@@ -23,10 +23,7 @@ nonzero_div-end c = omega (arith, square_least c.args.x c.requires.1.0)
 pub overflow_add-end : goal.overflow_add-end
 overflow_add-end c = omega (arith, div-le_self c.args.y (c.args.x * c.args.x))
 
-pub returns-then-end-lt16384 : goal.returns-then-end-lt16384
-returns-then-end-lt16384 c =
-    let s = c.before in
-    (cube_turn_above s.args.y s.args.x (square_least s.args.x s.requires.1.0), omega arith)
-
 pub returns : goal.returns
-returns c = omega arith
+returns c =
+    let above = cube_turn_above c.args.y c.args.x (square_least c.args.x c.requires.1.0) in
+    (grind (arith, above), omega arith)
