@@ -23,7 +23,7 @@ use Rattle.reach.specs.Told.{reach_in, call_on, found_in}
 use Rattle.reach.specs.Laws.Refusals.{refused_some}
 use Rattle.stage.specs.Rows.{volume_at, rubbed_at}
 use Rattle.stage.specs.Ranges.{Inside, Ranged, Slows}
-use Rattle.stage.specs.Says.{ready_checks, both_checks, Shows, StepSays}
+use Rattle.stage.specs.Says.{ready_checks, both_checks, LoadSays, Shows, StepSays}
 use Rattle.stage.specs.Stored.{Fits, AllFit}
 use Rattle.stage.specs.Worked.{Volume, TablesSay}
 use Rattle.stage.specs.Laws.CellSizes.{cell_sizes, volume_size}
@@ -44,6 +44,11 @@ pub record Loaded (reach : ToldReach) (call : ToldCall) (bed : List ℤ) (fricti
     (k : Checked) : Type 0 where
   pub cells : Holds a reach.n (cell_in reach.n state)
   pub found : found_in k ≡ found (ready_checks call.dry reach.n bed friction (seen a))
+
+pub loaded : {reach : ToldReach} {call : ToldCall} {bed : List ℤ} {friction : List ℕ} {state : List ℤ} {old a : List (List ℤ)} {k : Checked}
+    → LoadSays reach.n state old a → found_in k ≡ found (ready_checks call.dry reach.n bed friction (seen a))
+    → Loaded reach call bed friction state a k
+loaded load ready = record { cells = load.cells.below; found = ready }
 
 module _
     {reach : ToldReach} {call : ToldCall} {bed : List ℤ} {friction : List ℕ} {state : List ℤ} {a : List (List ℤ)} {k : Checked}
