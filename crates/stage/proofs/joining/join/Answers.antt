@@ -33,4 +33,4 @@ loop-i-preserved c =
     let wl = back64 c.end_volume-wl.type_inv c.end_volume-wl.ensures in
     let wr = back64 c.end_volume-wr.type_inv (c.end_volume-wr.ensures ∙ (λ j. volume_at a.f.now a.g.now (next j))) in
     filled_more [] a.u.now c.loop-i.u i _ c.joined_cell.result (omega (arith, c.loop-i.invariant.size)) c.loop-i.invariant
-        (c.joined_cell.ensures ∙ (λ j. as_list (joined_cell (seen a.x.now i) (as_cell (cell j)) (wl j) (wr j))))
+    (c.joined_cell.ensures ∙ (λ j. as_list (joined_cell (seen a.x.now i) (as_cell (cell j)) (wl j) (wr j))))

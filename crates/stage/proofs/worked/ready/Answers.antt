@@ -77,4 +77,4 @@ returns c =
     let range_passed = check_passes list 2 State c.off.result refl c.off.ensures tt (sym c.at-3.ensures ∙ c.in_ok-at-3.was) in
     ap found_in c.at-4.ensures
     ∙ last_check list 3 Speed c.fast.result refl c.fast.ensures (bed_passed, (rough_passed, (range_passed, tt)))
-        (λ slow. (bed_passed, (rough_passed, (range_passed, (slow, tt)))))
+    (λ slow. (bed_passed, (rough_passed, (range_passed, (slow, tt)))))

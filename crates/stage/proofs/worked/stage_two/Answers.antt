@@ -23,8 +23,7 @@ join-requires-clause-face_rows c =
 
 pub end-requires-clause-grounds : goal.end-requires-clause-grounds
 end-requires-clause-grounds c =
-    let done = (c.stage.ensures (λ i. pos 0)).done (went_on_none c.in_ok-stage.was) in
-    (
+    let done = (c.stage.ensures (λ i. pos 0)).done (went_on_none c.in_ok-stage.was) in (
       (λ i l. (c.requires.ranged.0 i l).grounded),
       join_small c.args.bed.now c.join.ensures c.requires.ranged.0 (done_small done) c.requires.face_rows done.faces.sized,
     )
@@ -33,4 +32,4 @@ pub returns : goal.returns
 returns c ρ v shows faces one =
     let a = c.args in let some = c.requires.in_order.some in let went = went_on_none c.in_ok-stage.was in let says = c.stage.ensures ρ in
     half_ends some a.b.now one says went
-        (two_state some v a.a.now shows a.b.now one faces (says.done went) c.join.ensures) (c.end.ensures ρ)
+    (two_state some v a.a.now shows a.b.now one faces (says.done went) c.join.ensures) (c.end.ensures ρ)
