@@ -16,14 +16,14 @@ use crate::crests::{crest_left, crest_right, over};
 use crate::lent::pool_of;
 use crate::pool::{depth_of, speed_of};
 use crate::rows::{Call, Pool, Row};
-use friction::strength::Rubbing;
+use friction::slowed::slowed;
+use friction::strength::{Rubbing, strength};
 use reach::bed::bed_at;
 use reach::friction::rough_at;
 use reach::limits::{FASTEST, past};
-use speeds::answer::Whole;
 
-// What friction of the Manning value f leaves of a discharge q, at a depth h and a speed u that are within
-// the limits: neither answer is a refusal.
+// What friction of the Manning value f leaves of a discharge q, at a depth h and a speed u. All are within the
+// limits, so there always is a strength, and what it leaves.
 fn slowed_of(dt: i64, f: i64, h: i64, u: i64, q: i64) -> i64
     requires pos_bound { (pos 0 ≤ℤ dt) × UpTo longest_step dt }
     requires pos_bound_2 { (pos 0 ≤ℤ f) × UpTo roughest f }
@@ -31,13 +31,8 @@ fn slowed_of(dt: i64, f: i64, h: i64, u: i64, q: i64) -> i64
     requires up_to { UpTo fastest u × UpTo fullest q }
     ensures { result ≡ slowed (drag dt f h u) q }
 {
-    match friction::strength::strength(Rubbing { dt, rough: f, h, u }) {
-        Whole::Is(x) => match friction::slowed::slowed(x, q) {
-            Whole::Is(r) => r,
-            Whole::Refused => 0,
-        },
-        Whole::Refused => 0,
-    }
+    let x = strength(Rubbing { dt, rough: f, h, u }).unwrap();
+    slowed(x, q).unwrap()
 }
 
 // A cell over the bed z after friction of the Manning value f, whose speed before it is u. Shallow and calm
@@ -68,22 +63,20 @@ fn row_of(call: Call, bed: &[i32], i: usize, x: Pool) -> Row
     [x[0], x[1], l, r, u]
 }
 
-// 6: the rows of the cells of a lent state into b, up to the lowest that is too fast for friction: that
-// cell, or n. Checked also where friction is 0. Friction speeds no water up, so no face is too fast then.
-pub fn rub(state: &[i32], bed: &[i32], friction: &[u16], call: Call, b: &mut [Row]) -> usize
+// 6: the rows of the cells of a lent state into b, up to the lowest that is too fast for friction, which it
+// gives. Checked also where friction is 0. Friction speeds no water up, so no face is too fast then.
+pub fn rub(state: &[i32], bed: &[i32], friction: &[u16], call: Call, b: &mut [Row]) -> Option<usize>
     requires numbers { Numbers call × Grounds bed.now call.n × (length state.now ≡ 2 * call.n) × (call.n ≤ length b.old) }
     requires smooth { Smooth friction.now call.n × Ranged bed.now call.n state.now }
     ensures { RubSays (reach_in call bed.now) (call_in call (λ i. pos (get_or friction.now i 0)))
         (pool_in call.n state.now) result b.new }
 {
-    let n = call.n;
-    let mut i: usize = 0;
-    while i < n {
-        let x = pool_of(state, n, i);
+    for i in 0..call.n {
+        let x = pool_of(state, call.n, i);
         let z = bed_at(bed, i);
         let u = speed_of(x[1], depth_of(z, x), call.dry);
         if past(FASTEST, u) {
-            return i;
+            return Some(i);
         }
         b[i] = row_of(
             call,
@@ -91,7 +84,6 @@ pub fn rub(state: &[i32], bed: &[i32], friction: &[u16], call: Call, b: &mut [Ro
             i,
             rubbed_pool(call, rough_at(friction, i), z, x, u),
         );
-        i += 1;
     }
-    n
+    None
 }

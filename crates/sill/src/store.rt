@@ -21,9 +21,7 @@ pub fn store(y: &[Pool], n: usize, next: &mut [i32])
     requires by_index { (i : ℕ) → i < n → Fits (pools_seen y.now i) }
     ensures { next.new ≡ pool_table n (pools_seen y.now) }
 {
-    let mut i: usize = 0;
-    while i < n {
+    for i in 0..n {
         put_pool(next, n, i, y[i]);
-        i += 1;
     }
 }

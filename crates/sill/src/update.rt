@@ -1,9 +1,9 @@
 // The cells after the stage, from what crosses their faces.
 ghost use Rattle.std.specs.Prelude.{◌≡◌, [], ◌≤◌, ◌<◌, get_or, length, pos, ◌+ℤ◌, ◌-ℤ◌, ◌*ℤ◌};
 ghost use Rattle.std.specs.Int.Signed.{quot_z};
-ghost use Rattle.tables.specs.Filling.{FillSays};
 ghost use Rattle.tables.specs.Pools.{as_pool, as_row};
 ghost use Rattle.rules.specs.Limits.{highest_bed};
+ghost use Rattle.reach.specs.Places.{FillStops};
 ghost use Rattle.reach.specs.Ranges.{UpTo};
 ghost use Rattle.sill_rules.specs.Step.{dried_pool};
 ghost use Rattle.sill_rules.specs.Refusals.{off_pool};
@@ -71,25 +71,22 @@ fn dried(z: i64, x: Pool, dry: i64) -> Pool
     x
 }
 
-// 8: the cells at the end of the step into a, up to the lowest out of range: that cell, or n.
-pub fn update(b: &[Row], bed: &[i32], f: &[FaceRow], call: Call, a: &mut [Pool]) -> usize
+// 8: the cells at the end of the step into a, up to the lowest out of range, which it gives.
+pub fn update(b: &[Row], bed: &[i32], f: &[FaceRow], call: Call, a: &mut [Pool]) -> Option<usize>
     requires numbers { Numbers call × Grounds bed.now call.n }
     requires n_in_bounds { (call.n ≤ length b.now) × (call.n < length f.now) × (call.n ≤ length a.old) }
     requires rows { Rows b.now call.n × FaceRows f.now call.n }
-    ensures { FillSays [] call.n
+    ensures { FillStops [] call.n
         (λ i. off_pool (get_or bed.now i (pos 0)) (end_at call bed.now b.now f.now i))
         (λ i. as_row (end_at call bed.now b.now f.now i)) result a.new }
 {
-    let n = call.n;
-    let mut i: usize = 0;
-    while i < n {
+    for i in 0..call.n {
         let z = bed_at(bed, i);
         let x = dried(z, updated(b[i], f[i], f[i + 1], call), call.dry);
         a[i] = x;
         if off_pool(z, x) {
-            return i;
+            return Some(i);
         }
-        i += 1;
     }
-    n
+    None
 }
