@@ -17,6 +17,7 @@ use reach::bed::bed_at;
 use reach::limits::{CELLS, HIGHEST_BED, LONGEST_CELL, LONGEST_STEP, bad_dry, outside};
 
 // 1: do the tables not fit the n cells?
+#[tactic(auto, unfolding(sill_rules::specs::Lent::misfit, rules::specs::Refusals::any))]
 pub fn bad_lengths(state: usize, next: usize, bed: usize, n: usize) -> bool
     ensures { result ≡ misfit state next bed n }
 {
@@ -36,6 +37,7 @@ fn end_of(kind: u32) -> Option<End>
 
 // 2: the call of n cells, where each of its numbers and the kinds of its two ends are in their lists. The bed and the
 // friction are not read.
+#[tactic(auto, unfolding(sill_rules::specs::Refusals::bad_call, rules::specs::Refusals::any))]
 pub fn call_of(given: Given, n: usize) -> Option<Call>
     ensures { (bed : List ℤ) (ρ : ℕ → ℤ) →
         result ≡ cond (bad_call (reach_given n given bed) (call_given given ρ)) None (Some (call_by n given)) }
@@ -59,6 +61,7 @@ pub fn call_of(given: Given, n: usize) -> Option<Call>
 }
 
 // 3: the lowest bed value out of range.
+#[tactic(auto, unfolding(sill_rules::specs::Refusals::bad_bed))]
 pub fn bad_bed(bed: &[i32]) -> Option<usize>
     ensures { result ≡ first_place (λ i. bad_bed (get_or bed.now i (pos 0))) (length bed.now) }
 {

@@ -12,6 +12,7 @@ use crate::rows::Pool;
 use reach::limits::{DEEPEST, FULLEST, outside, past};
 
 // The depth of a cell over the bed z.
+#[tactic(auto, unfolding(sill_rules::specs::Reach::depth))]
 pub fn depth_of(z: i64, x: Pool) -> i64
     requires { UpTo highest_bed z × Wide (as_pool x) }
     ensures { result ≡ depth z (as_pool x) }
@@ -20,6 +21,7 @@ pub fn depth_of(z: i64, x: Pool) -> i64
 }
 
 // Is the cell out of range: its depth or its discharge?
+#[tactic(auto, unfolding(sill_rules::specs::Refusals::off_pool, rules::specs::Refusals::any))]
 pub fn off_pool(z: i64, x: Pool) -> bool
     requires { UpTo highest_bed z × Wide (as_pool x) }
     ensures { result ≡ off_pool z (as_pool x) }

@@ -16,6 +16,7 @@ use crate::rows::{Call, FaceRow, Pool, Row};
 use reach::bed::bed_at;
 
 // E: the pressure of each face beyond that of the cell's depth over the crest there.
+#[tactic(auto, unfolding(crate::specs::Rows::push_by))]
 fn push_of(x: Row, l: FaceRow, f: FaceRow) -> i64
     requires { ranges.Row x × ranges.FaceRow l × ranges.FaceRow f }
     ensures { result ≡ push_by x l f }
@@ -61,6 +62,7 @@ fn updated(x: Row, l: FaceRow, f: FaceRow, call: Call) -> Pool
 }
 
 // A cell over the bed z, without discharge where it is no deeper than the dry depth.
+#[tactic(auto, unfolding(sill_rules::specs::Step::dried_pool))]
 fn dried(z: i64, x: Pool, dry: i64) -> Pool
     requires { UpTo highest_bed z × Wide (as_pool x) }
     ensures { result ≡ as_row (dried_pool dry z (as_pool x)) }

@@ -1,0 +1,21 @@
+-- K and A are passed on, and the volume is the product divided by a length that is not nought.
+use Rattle.std.proofs.Common.{List, [], ◌∷◌}
+use Rattle.whole.specs.Parts.{b_nonneg}
+use Rattle.whole.specs.Machine.{X, v, ◌⊗◌, ◌⊘◌, Entry, sized, need, value, divisor}
+use Rattle.rules.specs.Shown.{volume}
+use Rattle.sill.proofs.faces.face_row.Goals as goal
+
+abbrev env : goal.Start → List Entry
+env s =
+    let x = s.requires.sized in let num = s.requires.numbers in
+    sized x.F tt ∷ sized (b_nonneg x.K≥0 x.K) tt ∷ sized x.A tt ∷ sized num.dx_in tt ∷ sized num.dt_in tt ∷ []
+
+abbrev carried : X
+carried = v 0 ⊗ v 4 ⊘ v 3
+
+pub nonzero_div-result : goal.nonzero_div-result
+nonzero_div-result c = (divisor (env c) (v 3) tt c.requires.numbers.dx_pos, need (env c) carried tt)
+
+pub returns : goal.returns
+unfolding volume
+returns c = let e = env c in λ j. value e carried tt j ∷ value e (v 1) tt j ∷ value e (v 2) tt j ∷ []
