@@ -1,6 +1,6 @@
 -- What the call gives, by the check of its lengths or of its numbers that stopped it, or by the step on tables.
 -- Assumes nothing.
-use Rattle.std.specs.Prelude.{◌≡◌, refl, Bool, false, List, ◌∷◌, ◌++◌, ℕ, zero, suc, ltb, length, ℤ, Err}
+use Rattle.std.specs.Prelude.{◌≡◌, refl, Bool, false, List, ◌∷◌, ◌++◌, ℕ, zero, suc, ◌<◌, ltb, length, ℤ, Err}
 use Rattle.std.proofs.Math.Path.{sym}
 use Rattle.std.proofs.Common.{◌∙◌, ap, subst, arith, lt-ltb}
 use Rattle.std.proofs.Math.Bool.{true}

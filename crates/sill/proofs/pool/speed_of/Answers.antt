@@ -1,7 +1,7 @@
 -- Within the limits the crate of speeds gives the rule's speed.
 use Rattle.std.proofs.Common.{◌≡◌, ◌∙◌, sym}
 use Rattle.std.specs.Prelude.{Some}
-use Rattle.std.proofs.lemmas.Int.{to_z-of_z}
+use mir.Facts.{to_z-of_z}
 use Rattle.whole.specs.Machine.{back_in}
 use Rattle.rules.specs.Face.{speed}
 use Rattle.rules.proofs.Laws.Speeds.{speed_size}

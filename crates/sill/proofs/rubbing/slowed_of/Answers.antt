@@ -1,7 +1,7 @@
 -- Within the limits the crate of friction gives the rule's numbers, both times.
 use Rattle.std.proofs.Common.{◌≡◌, ◌∙◌, ℤ, pos, ◌≤ℤ◌}
 use Rattle.std.specs.Prelude.{Some}
-use Rattle.std.proofs.lemmas.Int.{to_z-of_z}
+use mir.Facts.{to_z-of_z}
 use Rattle.std.proofs.Math.Nat as NatL
 use Rattle.whole.specs.Parts.{lt_le, le_lt_trans, le_lit}
 use Rattle.whole.specs.Machine.{back_in, rd}
