@@ -54,22 +54,22 @@ pub off_pool-requires : goal.off_pool-requires
 off_pool-requires c =
     let i = c.loop-i.i in let p = c.requires in let z = back64 c.bed_at-z.type_inv c.bed_at-z.ensures in (
       rw z (p.numbers.1 i (omega arith)),
-      end_wide p.numbers.0 c.args.bed.now c.args.b.now c.args.f.now p.rows i (omega arith) c.updated.ensures _ z c.dried-x.ensures,
+      end_wide p.numbers.0 c.args.bed.now c.args.b.now c.args.f.now p.rows i (omega arith) c.updated.ensures c.bed_at-z.result z c.dried-x.ensures,
     )
 
 pub returns-then-off_pool : goal.returns-then-off_pool
 returns-then-off_pool c =
     let l = c.loop-i in let p = c.requires in let z = back64 c.bed_at-z.type_inv c.bed_at-z.ensures in
-    let end = end_is p.numbers.0 c.args.bed.now c.args.b.now c.args.f.now p.rows l.i (omega arith) c.updated.ensures _ z c.dried-x.ensures in
-    let off = off_here p.numbers.0 c.args.bed.now c.args.b.now c.args.f.now p.rows l.i (omega arith) c.updated.ensures _ z c.dried-x.ensures c.off_pool.ensures in
+    let end = end_is p.numbers.0 c.args.bed.now c.args.b.now c.args.f.now p.rows l.i (omega arith) c.updated.ensures c.bed_at-z.result z c.dried-x.ensures in
+    let off = off_here p.numbers.0 c.args.bed.now c.args.b.now c.args.f.now p.rows l.i (omega arith) c.updated.ensures c.bed_at-z.result z c.dried-x.ensures c.off_pool.ensures in
     fill_stopped l.i (omega arith)
         (fill_stops [] _ _ _ _ l.a l.i _ (omega arith) (omega arith) l.invariant end (off ∙ c.if-off_pool.true))
 
 pub loop-i-preserved : goal.loop-i-preserved
 loop-i-preserved c =
     let l = c.loop-i in let p = c.requires in let z = back64 c.bed_at-z.type_inv c.bed_at-z.ensures in
-    let end = end_is p.numbers.0 c.args.bed.now c.args.b.now c.args.f.now p.rows l.i (omega arith) c.updated.ensures _ z c.dried-x.ensures in
-    let off = off_here p.numbers.0 c.args.bed.now c.args.b.now c.args.f.now p.rows l.i (omega arith) c.updated.ensures _ z c.dried-x.ensures c.off_pool.ensures in
+    let end = end_is p.numbers.0 c.args.bed.now c.args.b.now c.args.f.now p.rows l.i (omega arith) c.updated.ensures c.bed_at-z.result z c.dried-x.ensures in
+    let off = off_here p.numbers.0 c.args.bed.now c.args.b.now c.args.f.now p.rows l.i (omega arith) c.updated.ensures c.bed_at-z.result z c.dried-x.ensures c.off_pool.ensures in
     fill_more [] _ _ _ _ l.a l.i _ (omega arith) (omega arith) l.invariant end (off ∙ c.if-off_pool.false)
 
 pub returns : goal.returns
