@@ -14,12 +14,11 @@ use Rattle.reach.specs.Ranges.{UpTo}
 use Rattle.friction.specs.declared.strength.Rubbing.{Rubbing}
 use Rattle.friction.specs.Given.{strongest}
 
--- where friction acts, within the limits
+-- a time step, a bed and a depth within the limits
 pub record Ranged (at : Rubbing) : Type 0 where
   pub step : (pos 0 ≤ℤ at.dt) × UpTo longest_step at.dt
   pub rough : (pos 0 ≤ℤ at.rough) × UpTo roughest at.rough
   pub wet : (least_dry <ℤ at.h) × (at.h ≤ℤ deepest)
-  pub slow : UpTo fastest at.u
 
 -- what friction divides: for its strength, which is the largest product of the step, and for what it leaves of a discharge
 abbrev pub largest_product : ℤ

@@ -6,7 +6,7 @@ use crate::limits::strength_fits;
 use speeds::limits::discharge_fits;
 
 // What friction of strength x leaves of the discharge q.
-#[tactic(auto, unfolding(crate::specs::Given::slowed_given, crate::specs::Given::strength_fits, speeds::specs::Given::discharge_fits, whole::specs::Choice::size_z))]
+#[tactic(auto, unfolding(crate::specs::Given::slowed_given, crate::specs::Given::strength_fits))]
 pub fn slowed(x: i64, q: i64) -> Option<i64>
     ensures { result ≡ slowed_given x q }
 {

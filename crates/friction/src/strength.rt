@@ -1,6 +1,8 @@
 // How strongly friction acts on water of some depth and speed.
 ghost use Rattle.std.specs.Prelude.{◌≡◌};
+ghost use Rattle.rules.specs.Limits.{fastest};
 ghost use Rattle.rules.specs.Friction.{drag};
+ghost use Rattle.reach.specs.Ranges.{UpTo};
 ghost use Rattle.friction.specs.Given.{strength_given};
 ghost use Rattle.friction.specs.Strength.{Ranged};
 
@@ -23,7 +25,8 @@ pub struct Rubbing {
 // limit. A depth within the limits has its cube-root number, c.
 #[tactic(auto, unfolding(speeds::specs::Given::cube_given, speeds::specs::Given::depth_fits))]
 fn drag_of(at: Rubbing) -> i64
-    requires { Ranged at }
+    requires ranged { Ranged at }
+    requires slow { UpTo fastest at.u }
     ensures { result ≡ drag at.dt at.rough at.h at.u }
 {
     let c = cube(at.h).unwrap();
@@ -33,7 +36,7 @@ fn drag_of(at: Rubbing) -> i64
 
 // x: how strongly friction acts, in 1/65536. Water at or below the least dry depth is refused: none so
 // thin has a speed, and a divisor could be nought.
-#[tactic(auto, unfolding(crate::specs::Given::strength_given))]
+#[tactic(auto, unfolding(crate::specs::Given::strength_given, speeds::specs::Given::speed_fits, whole::specs::Choice::size_z))]
 pub fn strength(at: Rubbing) -> Option<i64>
     ensures { result ≡ strength_given at.dt at.rough at.h at.u }
 {

@@ -5,7 +5,7 @@ ghost use Rattle.speeds.specs.Given.{speed_given};
 use crate::limits::{depth_fits, discharge_fits, dry_fits};
 
 // The speed of the discharge q at depth h: nought where that is at most the dry depth.
-#[tactic(auto, unfolding(crate::specs::Given::speed_given, crate::specs::Given::discharge_fits, rules::specs::Face::speed, whole::specs::Choice::size_z))]
+#[tactic(auto, unfolding(crate::specs::Given::speed_given, rules::specs::Face::speed))]
 pub fn speed(q: i64, h: i64, dry: i64) -> Option<i64>
     ensures { result ≡ speed_given q h dry }
 {

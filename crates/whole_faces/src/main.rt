@@ -5,8 +5,8 @@
 ghost use Rattle.std.specs.Prelude.{◌<◌, ◌≤◌};
 ghost use Rattle.whole.specs.Parts.{Within};
 
-use face::answer::Carried;
-use reach::size::magnitude;
+use face::flux::face;
+use face::sides::{Flux, Side};
 use std::io;
 
 // The next number drawn, by shifts and exclusive ors.
@@ -70,44 +70,40 @@ fn against(right: bool, x: u64) -> i64 {
     chosen(x, 4, 1, 131070)
 }
 
-// The bits of v in two's complement.
-fn bits(v: i64) -> u64 {
-    let m = magnitude(v);
-    if v < 0 { 0u64.wrapping_sub(m) } else { m }
-}
-
 fn mixed(h: u64, v: u64) -> u64 {
     (h << 1) ^ (h >> 63) ^ v
 }
 
-// The sum after one more face: its four values, or 1 for a refusal.
-fn after(h: u64, answer: Carried) -> u64 {
-    match answer {
-        Carried::Flux(f, k, a, s) => mixed(
-            mixed(mixed(mixed(h, bits(f)), bits(k)), bits(a)),
-            bits(s),
-        ),
-        Carried::Refused => mixed(h, 1),
+// The sum after one more face: its four values by their bits, or 1 for a refusal.
+fn after(h: u64, answer: Option<Flux>) -> u64 {
+    let Some(x) = answer else {
+        return mixed(h, 1);
+    };
+    let mut sum = h;
+    for v in [x.f, x.k, x.a, x.s] {
+        sum = mixed(sum, v.cast_unsigned());
     }
+    sum
 }
 
 fn main(rt: HostRuntime) -> io::Result<()> {
     let mut x = 88172645463325252u64;
     let mut h = 0u64;
-    let mut c = 0u64;
     for i in 0u64..20000 {
+        let c = i % 10;
         let x1 = drawn(x);
         let x2 = drawn(x1);
         let x3 = drawn(x2);
         x = drawn(x3);
-        let answer = face::flux::face(
-            depth(c, 1, x1),
-            speed(c, false, x2),
-            depth(c, 2, x3),
-            speed(c, true, x),
-        );
-        h = after(h, answer);
-        c = (c + 1) % 10;
+        let l = Side {
+            h: depth(c, 1, x1),
+            u: speed(c, false, x2),
+        };
+        let r = Side {
+            h: depth(c, 2, x3),
+            u: speed(c, true, x),
+        };
+        h = after(h, face(l, r));
         if i % 200 == 199 {
             println!(rt; "{h}")?;
         }

@@ -9,7 +9,7 @@ use Rattle.std.specs.Prelude.{Some}
 use Rattle.std.proofs.lemmas.Int.{ints}
 use borrow.Author.Rules.{rules}
 use Rattle.whole.specs.Parts.{Within}
-use Rattle.whole.specs.Machine.{X, v, k, ◌⊕◌, ◌⊗◌, ◌⊘◌, Entry, sized, value}
+use Rattle.whole.specs.Machine.{X, v, k, ◌⊕◌, ◌⊗◌, ◌⊘◌, Entry, sized, need, value}
 use Rattle.rules.specs.Friction.{slowed}
 use Rattle.speeds.specs.Given.{discharge_fits}
 use Rattle.speeds.proofs.Fits.{discharge_in}
@@ -32,6 +32,9 @@ above = v 1 ⊗ (k (pos 65536) ⊕ v 0)
 
 abbrev below : X
 below = k (pos 65536) ⊕ k (pos 2) ⊗ v 0
+
+pub overflow_mul-result : goal.overflow_mul-result
+overflow_mul-result c = need (env c) above tt
 
 pub nonzero_div-result : goal.nonzero_div-result
 nonzero_div-result c =

@@ -33,6 +33,9 @@ module _ (c : goal.Else-h-dry) where
 abbrev rate : X
 rate = v 0 ⊗ k (pos 4096) ⊘ v 1
 
+pub overflow_mul-result : goal.overflow_mul-result
+overflow_mul-result c = need (env c) (v 0 ⊗ k (pos 4096)) tt
+
 pub nonzero_div-result : goal.nonzero_div-result
 nonzero_div-result c = let d = dry_in c.args.dry (d_fits c) in (grind (arith, ints, d.least), need (env c) rate tt)
 
