@@ -1,6 +1,6 @@
 // The step of a call whose lengths and numbers are in order, worked on tables of this crate's own and
 // stored in the lent one at its end.
-ghost use Rattle.std.specs.Prelude.{◌≡◌, [], ◌*◌, ◌≤◌, ◌<◌, get_or, length, pos};
+ghost use Rattle.std.specs.Prelude.{◌≡◌, [], suc, ◌*◌, ◌≤◌, ◌<◌, get_or, length, pos};
 ghost use Rattle.tables.specs.Pools.{pool_in};
 ghost use Rattle.rules.specs.Limits.{most_cells};
 ghost use Rattle.rules.specs.Refusals.{Clear};
@@ -105,7 +105,7 @@ fn on_own_tables<const N: usize, const F: usize>(
     call: Call,
 ) -> Answer
     requires numbers { Numbers call × Lengths call state.now next.old bed.now friction.now }
-    requires room { (call.n ≤ N) × (call.n < F) }
+    requires room { (call.n ≤ N) × (N ≤ most_cells) × (call.n < F) × (F ≤ suc most_cells) }
     ensures { Gives (tables_outcome call bed.now friction.now state.now)
         result next.old next.new }
 {

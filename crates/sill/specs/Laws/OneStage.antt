@@ -1,7 +1,7 @@
 -- The stage from a lent state that is in range: what it answers by the check that stopped it, and that its faces and its cells are the
 -- rule's.
 -- Assumes nothing.
-use Rattle.std.specs.Prelude.{◌≡◌, false, List, [], ℕ, suc, ◌≤◌, ◌<◌, get_or, ℤ, Option, None, Some, unwrap_or}
+use Rattle.std.specs.Prelude.{◌≡◌, refl, false, List, [], ℕ, suc, ◌≤◌, ◌<◌, get_or, ℤ, Option, None, Some, unwrap_or, Result, Err}
 use Rattle.std.proofs.Common.{sym, ◌∙◌, subst, arith}
 use Rattle.std.proofs.Math.Path.{ap}
 use Rattle.std.proofs.Math.IntN.{pos}
@@ -15,6 +15,11 @@ use Rattle.tables.specs.Pools.{as_row, pool_in}
 use Rattle.rules.specs.Refusals.{is_long, Check}
 use Rattle.rules.specs.Found.{at, found, none}
 use Rattle.rules.proofs.Laws.Verdicts.{stops_at, none_stops}
+use Rattle.reach.specs.declared.answer.Refused.{Refused}
+use Rattle.reach.specs.declared.answer.Refusal.TheVariants.{Stage}
+use Rattle.reach.specs.Refusals.{number_of, refused_at}
+use Rattle.reach.specs.Told.{found_in}
+use Rattle.reach.specs.Laws.Refusals.{refused_some}
 use Rattle.reach.specs.Places.{FillStops, found_says, none_says}
 use Rattle.sill_rules.specs.Reach as rules
 use Rattle.sill_rules.specs.Reach.{State, over, crest_left, crest_right}
@@ -26,10 +31,25 @@ use Rattle.sill.specs.declared.rows.Call.{Call}
 use Rattle.sill.specs.Told.{reach_in, call_in}
 use Rattle.sill.specs.Rows.{face_row, cross_in, long_at, face_row_at, end_at}
 use Rattle.sill.specs.Ranges.{Numbers, Inside, Ranged, Row, Rows, FaceRows}
-use Rattle.sill.specs.Says.{stage_checks, RubSays, StageDone}
+use Rattle.sill.specs.Says.{stage_checks, RubSays, StageDone, StageSays}
 use Rattle.sill.specs.Laws.PoolSizes.{pool_sizes, pool_fits, rubbed_inside}
 use Rattle.sill.specs.Laws.FaceSizes.{face_rows}
 use Rattle.sill.specs.Laws.RowsAreRules.{cross_is, end_is}
+
+-- ---- what a stage answers that a check stopped,
+pub stopped_says : {r : rules.Reach} {c : rules.Call} {s : State} {x : Result (Unit {0}) Refused} (e : Refused) → x ≡ Err e
+    → at (number_of e.refusal) e.place ≡ found (stage_checks r c s) → (f a : List (List ℤ)) → StageSays r c s (found_in x) f a
+stopped_says e is told f a = record {
+  found = ap found_in is ∙ told;
+  done = λ z. absurd (omega (arith, ap (λ (y : Result (Unit {0}) Refused). (found_in y).no) is, z, refused_some e.refusal));
+}
+
+-- or one whose last check ends it, where its search has found q
+pub ended_says : {r : rules.Reach} {c : rules.Call} {s : State} {f a : List (List ℤ)} (q : Option ℕ)
+    → ((i : ℕ) → q ≡ Some i → at 8 i ≡ found (stage_checks r c s)) → (q ≡ None → none ≡ found (stage_checks r c s))
+    → (q ≡ None → StageDone r c s f a) → StageSays r c s (found_in (refused_at Stage q)) f a
+ended_says None stops ends done = record { found = ends refl; done = λ z. done refl }
+ended_says (Some i) stops ends done = record { found = stops i refl; done = λ z. absurd (omega (arith, z)) }
 
 module _ (call : Call) (num : Numbers call) (bed : List ℤ) (friction : List ℕ) (state : List ℤ) (lent : Ranged bed call.n state) where
   abbrev n : ℕ

@@ -1,24 +1,33 @@
-use Rattle.std.proofs.Common.{rules, ◌≡◌, [], ◌*◌, ◌≤◌, ◌<◌, get_or, length, pos, ℕ, ◌+◌, ◌-◌, ◌/◌, ◌%◌, Bool, true, false, nat_eq, nat_lt, List, ◌∷◌, ◌++◌, slice_set, bit_and, bit_or, Fits, w8, w32, w64, Bor, MutBor, ℤ, ◌+ℤ◌, ◌-ℤ◌, ◌*ℤ◌, ◌≤ℤ◌, ◌<ℤ◌, FitsSigned, to_z, of_z}
-use Rattle.tables.specs.Pools.{pool_in}
-use Rattle.rules.specs.Limits.{most_cells}
-use Rattle.rules.specs.Refusals.{Clear}
-use Rattle.rules.specs.Found.{found}
+-- The stage from tables that passed their checks, and what is stored where it passed its own.
+use Rattle.std.proofs.Common.{◌≡◌, refl, sym, ◌∙◌, ap}
+use Rattle.whole.specs.Machine.{back64}
+use Rattle.rules.proofs.Laws.Verdicts.{none_stops}
 use Rattle.reach.specs.Told.{found_in}
-use Rattle.reach.specs.Gives.{Gives}
-use Rattle.sill.specs.Told.{reach_in, call_in}
-use Rattle.sill.specs.Rows.{volume_of}
-use Rattle.sill.specs.Ranges.{Numbers, Grounds, Smooth, Ranged, Lengths}
-use Rattle.sill.specs.Says.{ready_checks, StageSays, tables_outcome}
+use Rattle.reach.specs.Laws.Refusals.{went_on_none}
+use Rattle.reach.specs.Laws.Checks.{handed_on}
+use Rattle.sill.specs.Says.{ready_checks}
+use Rattle.sill.specs.Laws.LentChecks.{lent_grounds, lent_smooth, lent_ranged}
+use Rattle.sill.specs.Laws.OnTables.{stage_stops, stage_done}
 use Rattle.sill.proofs.worked.on_tables.Goals as goal
 
--- src/worked.rt:88:5
 pub stage-requires-clause-grounds : goal.stage-requires-clause-grounds
-stage-requires-clause-grounds c = ?
+stage-requires-clause-grounds c =
+    let a = c.args in let n = a.call.n in let k = c.requires.clear in (
+      lent_grounds n a.bed.now a.friction.now a.state.now k,
+      lent_smooth n a.bed.now a.friction.now a.state.now k,
+      lent_ranged n a.bed.now a.friction.now a.state.now k,
+    )
 
--- src/worked.rt:88:5
 pub returns-in_err-stage : goal.returns-in_err-stage
-returns-in_err-stage c = ?
+returns-in_err-stage c =
+    let a = c.args in let e = c.in_err-stage.field-0.0 in
+    let passed = none_stops (ready_checks a.call.n a.bed.now a.friction.now a.state.now) c.requires.clear in
+    rw (handed_on c.from_residual.result e c.from_residual.ensures.1)
+    (stage_stops a.call a.bed.now a.friction.now a.state.now passed refl c.stage.ensures e (ap found_in c.in_err-stage.was) a.next.now)
 
--- src/worked.rt:72:1
 pub returns : goal.returns
-returns c = ?
+returns c =
+    let a = c.args in
+    let passed = none_stops (ready_checks a.call.n a.bed.now a.friction.now a.state.now) c.requires.clear in
+    stage_done a.call a.bed.now a.friction.now a.state.now passed refl c.stage.ensures (went_on_none c.in_ok-stage.was) a.next.now
+        c.store.ensures (back64 c.volume_at.type_inv c.volume_at.ensures) (back64 c.volume_at-2.type_inv c.volume_at-2.ensures)

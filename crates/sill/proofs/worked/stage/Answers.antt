@@ -1,32 +1,49 @@
-use Rattle.std.proofs.Common.{rules, ◌≡◌, [], ◌*◌, ◌≤◌, ◌<◌, get_or, length, pos, ℕ, ◌+◌, ◌-◌, ◌/◌, ◌%◌, Bool, true, false, nat_eq, nat_lt, List, ◌∷◌, ◌++◌, slice_set, bit_and, bit_or, Fits, w8, w32, w64, Bor, MutBor}
-use Rattle.tables.specs.Pools.{pool_in}
-use Rattle.rules.specs.Limits.{most_cells}
-use Rattle.rules.specs.Refusals.{Clear}
-use Rattle.rules.specs.Found.{found}
-use Rattle.reach.specs.Told.{found_in}
-use Rattle.reach.specs.Gives.{Gives}
-use Rattle.sill.specs.Told.{reach_in, call_in}
-use Rattle.sill.specs.Rows.{volume_of}
-use Rattle.sill.specs.Ranges.{Numbers, Grounds, Smooth, Ranged, Lengths}
-use Rattle.sill.specs.Says.{ready_checks, StageSays, tables_outcome}
+-- The stage answers by the first of its checks, and where it passed them its faces and its cells are the rule's.
+use Rattle.std.proofs.Common.{◌≡◌, sym, ◌∙◌}
+use Rattle.reach.specs.declared.answer.Refusal.TheVariants.{Speed, TimeStep}
+use Rattle.reach.specs.Laws.Refusals.{stopped_at, told_there, passed_by}
+use Rattle.reach.specs.Laws.Checks.{handed_on}
+use Rattle.sill.specs.Laws.OneStage.{stopped_says, ended_says}
+use Rattle.sill.specs.Laws.OneStage.{fast_stops, rows_in, long_stops, faces_in, off_stops, none_found, stage_done}
 use Rattle.sill.proofs.worked.stage.Goals as goal
 
--- src/worked.rt:58:5
 pub returns-in_err-at : goal.returns-in_err-at
-returns-in_err-at c = ?
+returns-in_err-at c =
+    let a = c.args in let e = c.in_err-at.field-0.0 in let is = sym c.at.ensures ∙ c.in_err-at.was in
+    stopped_says e (handed_on c.from_residual.result e c.from_residual.ensures.1)
+        (told_there Speed c.rub.result e is
+        ∙ fast_stops a.call c.requires.numbers.0 a.bed.now a.friction.now a.state.now c.requires.grounds.2 c.rub.ensures e.place
+        (stopped_at Speed c.rub.result e is).0) _ _
 
--- src/worked.rt:59:26
 pub faces-requires-clause-rows : goal.faces-requires-clause-rows
-faces-requires-clause-rows c = ?
+faces-requires-clause-rows c =
+    let a = c.args in let slow = passed_by Speed c.rub.result tt (sym c.at.ensures ∙ c.in_ok-at.was) in
+    rows_in a.call c.requires.numbers.0 a.bed.now a.friction.now a.state.now c.requires.grounds.2 c.rub.ensures slow
 
--- src/worked.rt:59:5
 pub returns-in_err-at-2 : goal.returns-in_err-at-2
-returns-in_err-at-2 c = ?
+returns-in_err-at-2 c =
+    let a = c.args in let e = c.in_err-at-2.field-0.0 in let is = sym c.at-2.ensures ∙ c.in_err-at-2.was in
+    let slow = passed_by Speed c.rub.result tt (sym c.at.ensures ∙ c.in_ok-at.was) in
+    stopped_says e (handed_on c.from_residual-in_err-at-2.result e c.from_residual-in_err-at-2.ensures.1)
+        (told_there TimeStep c.faces.result e is
+        ∙ long_stops a.call c.requires.numbers.0 a.bed.now a.friction.now a.state.now c.requires.grounds.2 c.rub.ensures slow c.faces.ensures
+        e.place (stopped_at TimeStep c.faces.result e is).0) _ _
 
--- src/worked.rt:60:23
 pub update-requires-clause-rows : goal.update-requires-clause-rows
-update-requires-clause-rows c = ?
+update-requires-clause-rows c =
+    let a = c.args in let num = c.requires.numbers.0 in let lent = c.requires.grounds.2 in
+    let slow = passed_by Speed c.rub.result tt (sym c.at.ensures ∙ c.in_ok-at.was) in
+    let brief = passed_by TimeStep c.faces.result tt (sym c.at-2.ensures ∙ c.in_ok-at-2.was) in (
+      rows_in a.call num a.bed.now a.friction.now a.state.now lent c.rub.ensures slow,
+      faces_in a.call num a.bed.now a.friction.now a.state.now lent c.rub.ensures slow c.faces.ensures brief,
+    )
 
--- src/worked.rt:43:1
 pub returns : goal.returns
-returns c = ?
+returns c =
+    let a = c.args in let num = c.requires.numbers.0 in let lent = c.requires.grounds.2 in
+    let slow = passed_by Speed c.rub.result tt (sym c.at.ensures ∙ c.in_ok-at.was) in
+    let brief = passed_by TimeStep c.faces.result tt (sym c.at-2.ensures ∙ c.in_ok-at-2.was) in
+    rw c.at-3.ensures (ended_says c.update.result
+    (off_stops a.call num a.bed.now a.friction.now a.state.now lent c.rub.ensures slow c.faces.ensures brief c.update.ensures)
+    (none_found a.call num a.bed.now a.friction.now a.state.now lent c.rub.ensures slow c.faces.ensures brief c.update.ensures)
+    (stage_done a.call num a.bed.now a.friction.now a.state.now lent c.rub.ensures slow c.faces.ensures brief c.update.ensures))
