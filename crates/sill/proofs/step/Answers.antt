@@ -28,7 +28,7 @@ pub returns-in_default : goal.returns-in_default
 returns-in_default c =
     let a = c.args in let ρ : ℕ → ℤ = λ i. pos (get_or a.friction.now i 0) in
     call_refused a.state.now (length a.next.now) a.bed.now a.friction.now a.given (sym c.bad_lengths.ensures ∙ c.if-bad_lengths.false)
-        (no_call _ _ (sym c.in_default.is ∙ c.call_of.ensures a.bed.now ρ)) _
+    (no_call _ _ (sym c.in_default.is ∙ c.call_of.ensures a.bed.now ρ)) _
 
 pub work-requires : goal.work-requires
 work-requires c =
@@ -47,6 +47,6 @@ returns c =
     let a = c.args in let ρ : ℕ → ℤ = λ i. pos (get_or a.friction.now i 0) in
     let told = a_call _ _ _ (sym c.in-Some.is ∙ c.call_of.ensures a.bed.now ρ) in
     same_gives
-        (ap (λ (x : Call). tables_outcome x a.bed.now a.friction.now a.state.now) told.1
-        ∙ further a.state.now (length a.next.now) a.bed.now a.friction.now a.given (sym c.bad_lengths.ensures ∙ c.if-bad_lengths.false) told.0)
-        c.work.ensures
+    (ap (λ (x : Call). tables_outcome x a.bed.now a.friction.now a.state.now) told.1
+    ∙ further a.state.now (length a.next.now) a.bed.now a.friction.now a.given (sym c.bad_lengths.ensures ∙ c.if-bad_lengths.false) told.0)
+    c.work.ensures

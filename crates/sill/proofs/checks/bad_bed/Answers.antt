@@ -10,7 +10,7 @@ pub returns-then-outside : goal.returns-then-outside
 unfolding bad_bed
 returns-then-outside c =
     scan_place c.loop-i.invariant (omega arith)
-        (sym (c.outside.ensures ∙ ap (outside (pos 0) highest_bed) (back64 c.bed_at.type_inv c.bed_at.ensures))) c.if-outside.true
+    (sym (c.outside.ensures ∙ ap (outside (pos 0) highest_bed) (back64 c.bed_at.type_inv c.bed_at.ensures))) c.if-outside.true
 
 pub returns : goal.returns
 returns c = scan_no_place c.loop-i.invariant (omega arith)

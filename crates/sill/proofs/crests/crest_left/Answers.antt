@@ -25,5 +25,5 @@ pub returns : goal.returns
 returns c =
     let a = c.args in
     back64 c.max.type_inv (c.max.ensures.value ∙ max_is _ _
-        ∙ ap₂ max_z (back64 c.bed_at.type_inv c.bed_at.ensures) (back64 c.bed_at-own.type_inv c.bed_at-own.ensures))
-        ∙ at_inner (reach_in a.call a.bed.now) a.i c.if-i-eq0.false
+    ∙ ap₂ max_z (back64 c.bed_at.type_inv c.bed_at.ensures) (back64 c.bed_at-own.type_inv c.bed_at-own.ensures))
+    ∙ at_inner (reach_in a.call a.bed.now) a.i c.if-i-eq0.false

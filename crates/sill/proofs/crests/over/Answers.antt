@@ -13,4 +13,4 @@ env p = sized p.0 tt ∷ sized p.1 tt ∷ []
 pub returns : goal.returns
 returns c =
     back64 c.max.type_inv
-        (c.max.ensures.value ∙ max_is _ _ ∙ ap (λ h. max_z h (pos 0)) (value (env c.requires) (v 1 ⊝ v 0) tt) ∙ max_comm _ _)
+    (c.max.ensures.value ∙ max_is _ _ ∙ ap (λ h. max_z h (pos 0)) (value (env c.requires) (v 1 ⊝ v 0) tt) ∙ max_comm _ _)

@@ -21,13 +21,13 @@ pub returns-then-too_long : goal.returns-then-too_long
 returns-then-too_long c =
     let a = c.args in let l = c.loop-i in
     fill_stopped l.i (omega arith) (fill_stops [] _ _ _ _ l.f l.i _ (omega arith) (omega arith) l.invariant
-        (c.face_row.ensures ∙ ap (face_row a.call.dx a.call.dt) c.face_at-x.ensures)
-        (ap (is_long a.call.dx a.call.dt) (sym c.face_at-x.ensures) ∙ sym c.too_long.ensures ∙ c.if-too_long.true))
+    (c.face_row.ensures ∙ ap (face_row a.call.dx a.call.dt) c.face_at-x.ensures)
+    (ap (is_long a.call.dx a.call.dt) (sym c.face_at-x.ensures) ∙ sym c.too_long.ensures ∙ c.if-too_long.true))
 
 pub returns-else-too_long : goal.returns-else-too_long
 returns-else-too_long c =
     let a = c.args in let l = c.loop-i in
     fill_ended (fill_ends [] _ _ _ _ _ (l.i + 1) (omega arith)
-        (fill_more [] _ _ _ _ l.f l.i _ (omega arith) (omega arith) l.invariant
-        (c.face_row.ensures ∙ ap (face_row a.call.dx a.call.dt) c.face_at-x.ensures)
-        (ap (is_long a.call.dx a.call.dt) (sym c.face_at-x.ensures) ∙ sym c.too_long.ensures ∙ c.if-too_long.false)))
+    (fill_more [] _ _ _ _ l.f l.i _ (omega arith) (omega arith) l.invariant
+    (c.face_row.ensures ∙ ap (face_row a.call.dx a.call.dt) c.face_at-x.ensures)
+    (ap (is_long a.call.dx a.call.dt) (sym c.face_at-x.ensures) ∙ sym c.too_long.ensures ∙ c.if-too_long.false)))

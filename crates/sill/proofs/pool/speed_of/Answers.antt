@@ -12,7 +12,7 @@ given : (c : goal.After-speed) → let a = c.args in c.speed.result ≡ Some (sp
 given c =
     let a = c.args in let p = c.requires in
     (simp (to_z-of_z, c.ranges.q, c.ranges.h, c.ranges.dry) at c.speed.ensures)
-        ∙ speed_given_lem a.q a.h a.dry p.up_to p.pos_bound.0 p.pos_bound.1 p.dry_depth
+    ∙ speed_given_lem a.q a.h a.dry p.up_to p.pos_bound.0 p.pos_bound.1 p.dry_depth
 
 pub unwrap-requires : goal.unwrap-requires
 unwrap-requires c = rw (given c) (search)

@@ -63,7 +63,7 @@ returns-then-off_pool c =
     let end = end_is p.numbers.0 c.args.bed.now c.args.b.now c.args.f.now p.rows l.i (omega arith) c.updated.ensures c.bed_at-z.result z c.dried-x.ensures in
     let off = off_here p.numbers.0 c.args.bed.now c.args.b.now c.args.f.now p.rows l.i (omega arith) c.updated.ensures c.bed_at-z.result z c.dried-x.ensures c.off_pool.ensures in
     fill_stopped l.i (omega arith)
-        (fill_stops [] _ _ _ _ l.a l.i _ (omega arith) (omega arith) l.invariant end (off ∙ c.if-off_pool.true))
+    (fill_stops [] _ _ _ _ l.a l.i _ (omega arith) (omega arith) l.invariant end (off ∙ c.if-off_pool.true))
 
 pub loop-i-preserved : goal.loop-i-preserved
 loop-i-preserved c =

@@ -30,4 +30,4 @@ returns c =
     let a = c.args in
     let passed = none_stops (ready_checks a.call.n a.bed.now a.friction.now a.state.now) c.requires.clear in
     stage_done a.call a.bed.now a.friction.now a.state.now passed refl c.stage.ensures (went_on_none c.in_ok-stage.was) a.next.now
-        c.store.ensures (back64 c.volume_at.type_inv c.volume_at.ensures) (back64 c.volume_at-2.type_inv c.volume_at-2.ensures)
+    c.store.ensures (back64 c.volume_at.type_inv c.volume_at.ensures) (back64 c.volume_at-2.type_inv c.volume_at-2.ensures)

@@ -24,7 +24,7 @@ returns-in_err-at c =
     let a = c.args in let e = c.in_err-at.field-0.0 in let checks = ready_checks a.n a.bed.now a.friction.now a.state.now in
     let bed = c.bad_bed.ensures ∙ bed_search a.bed.now a.n c.requires.2 in
     ap found_in (handed_on c.from_residual.result e c.from_residual.ensures.1)
-        ∙ check_stops checks 0 Bed c.bad_bed.result refl bed tt e (sym c.at.ensures ∙ c.in_err-at.was)
+    ∙ check_stops checks 0 Bed c.bad_bed.result refl bed tt e (sym c.at.ensures ∙ c.in_err-at.was)
 
 pub returns-in_err-at-2 : goal.returns-in_err-at-2
 returns-in_err-at-2 c =
@@ -33,7 +33,7 @@ returns-in_err-at-2 c =
     let rough = c.bad_friction.ensures ∙ rough_search a.friction.now a.n c.requires.3 in
     let one = check_passes checks 0 Bed c.bad_bed.result refl bed tt (sym c.at.ensures ∙ c.in_ok-at.was) in
     ap found_in (handed_on c.from_residual-in_err-at-2.result e c.from_residual-in_err-at-2.ensures.1)
-        ∙ check_stops checks 1 Friction c.bad_friction.result refl rough (one, tt) e (sym c.at-2.ensures ∙ c.in_err-at-2.was)
+    ∙ check_stops checks 1 Friction c.bad_friction.result refl rough (one, tt) e (sym c.at-2.ensures ∙ c.in_err-at-2.was)
 
 pub off_state-requires : goal.off_state-requires
 off_state-requires c =
@@ -50,4 +50,4 @@ returns c =
     let one = check_passes checks 0 Bed c.bad_bed.result refl bed tt (sym c.at.ensures ∙ c.in_ok-at.was) in
     let two = check_passes checks 1 Friction c.bad_friction.result refl rough tt (sym c.at-2.ensures ∙ c.in_ok-at-2.was) in
     ap found_in c.at-3.ensures
-        ∙ last_check checks 2 State c.off_state.result refl c.off_state.ensures (one, (two, tt)) (λ three. (one, (two, (three, tt))))
+    ∙ last_check checks 2 State c.off_state.result refl c.off_state.ensures (one, (two, tt)) (λ three. (one, (two, (three, tt))))

@@ -11,9 +11,9 @@ pub returns-in_err-at : goal.returns-in_err-at
 returns-in_err-at c =
     let a = c.args in let e = c.in_err-at.field-0.0 in let is = sym c.at.ensures ∙ c.in_err-at.was in
     stopped_says e (handed_on c.from_residual.result e c.from_residual.ensures.1)
-        (told_there Speed c.rub.result e is
-        ∙ fast_stops a.call c.requires.numbers.0 a.bed.now a.friction.now a.state.now c.requires.grounds.2 c.rub.ensures e.place
-        (stopped_at Speed c.rub.result e is).0) _ _
+    (told_there Speed c.rub.result e is
+    ∙ fast_stops a.call c.requires.numbers.0 a.bed.now a.friction.now a.state.now c.requires.grounds.2 c.rub.ensures e.place
+    (stopped_at Speed c.rub.result e is).0) _ _
 
 pub faces-requires-clause-rows : goal.faces-requires-clause-rows
 faces-requires-clause-rows c =
@@ -25,9 +25,9 @@ returns-in_err-at-2 c =
     let a = c.args in let e = c.in_err-at-2.field-0.0 in let is = sym c.at-2.ensures ∙ c.in_err-at-2.was in
     let slow = passed_by Speed c.rub.result tt (sym c.at.ensures ∙ c.in_ok-at.was) in
     stopped_says e (handed_on c.from_residual-in_err-at-2.result e c.from_residual-in_err-at-2.ensures.1)
-        (told_there TimeStep c.faces.result e is
-        ∙ long_stops a.call c.requires.numbers.0 a.bed.now a.friction.now a.state.now c.requires.grounds.2 c.rub.ensures slow c.faces.ensures
-        e.place (stopped_at TimeStep c.faces.result e is).0) _ _
+    (told_there TimeStep c.faces.result e is
+    ∙ long_stops a.call c.requires.numbers.0 a.bed.now a.friction.now a.state.now c.requires.grounds.2 c.rub.ensures slow c.faces.ensures
+    e.place (stopped_at TimeStep c.faces.result e is).0) _ _
 
 pub update-requires-clause-rows : goal.update-requires-clause-rows
 update-requires-clause-rows c =
