@@ -1,5 +1,5 @@
 -- To be believed. What the code is told, as the rules' records.
-use Rattle.std.specs.Prelude.{List, ℕ, zero, suc, get_or, ℤ, pos, Option, Some, None}
+use Rattle.std.specs.Prelude.{List, ℕ, zero, suc, get_or, ℤ, pos}
 use Rattle.rules.specs.Face.{face}
 use Rattle.sill_rules.specs.Reach as rules
 use Rattle.sill_rules.specs.Lent.{Lent}
@@ -8,17 +8,11 @@ use Rattle.sill.specs.declared.rows.End.{End}
 use Rattle.sill.specs.declared.rows.End.TheVariants.{Wall, Open}
 use Rattle.sill.specs.declared.rows.Call.{Call}
 
--- ---- the kind of an end, and the end of a kind, where there is one
+-- ---- the kind of an end, and the end of a kind; of one that is neither nothing is said
 abbrev pub kind_of : End → ℕ
 kind_of Wall = 0
 kind_of Open = 1
 
-abbrev pub end_given : ℕ → Option End
-end_given zero = Some Wall
-end_given (suc zero) = Some Open
-end_given (suc (suc k)) = None
-
--- and of any other kind an open one, of which nothing is said
 abbrev pub end_by : ℕ → End
 end_by zero = Wall
 end_by (suc k) = Open

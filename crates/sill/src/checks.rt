@@ -1,12 +1,13 @@
 // The checks of what is lent, each over the whole reach: one of places gives the lowest to which it
 // applies, where there is one.
-ghost use Rattle.std.specs.Prelude.{◌≡◌, List, ℕ, ◌*◌, ◌≤◌, get_or, length, cond, ℤ, pos, Some, None};
+ghost use Rattle.std.specs.Prelude.{◌≡◌, List, ℕ, ◌*◌, ◌≤◌, get_or, length, cond, ltb, ℤ, pos, Some, None};
 ghost use Rattle.tables.specs.Pools.{pool_in};
 ghost use Rattle.rules.specs.Limits.{most_cells};
+ghost use Rattle.rules.specs.Ends.{open_kind};
 ghost use Rattle.reach.specs.Places.{first_place};
 ghost use Rattle.sill_rules.specs.Refusals.{bad_call, bad_bed, off_pool};
 ghost use Rattle.sill_rules.specs.Lent.{misfit};
-ghost use Rattle.sill.specs.Told.{reach_given, call_given, end_given, call_by};
+ghost use Rattle.sill.specs.Told.{reach_given, call_given, end_by, call_by};
 ghost use Rattle.sill.specs.Ranges.{Grounds};
 
 use crate::Given;
@@ -26,7 +27,7 @@ pub fn bad_lengths(state: usize, next: usize, bed: usize, n: usize) -> bool
 
 // The end of a kind, where there is one: 0 is a wall, and 1 open.
 fn end_of(kind: u32) -> Option<End>
-    ensures { result ≡ end_given kind }
+    ensures { result ≡ cond (ltb open_kind kind) None (Some (end_by kind)) }
 {
     match kind {
         0 => Some(End::Wall),

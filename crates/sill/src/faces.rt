@@ -15,6 +15,7 @@ use face::sides::{Flux, Side};
 
 // What crosses between two sides. Both are within the limits, so there always is a flux. A side of
 // no depth may have a speed: that of its cell, which does not reach over the crest.
+#[tactic(auto, unfolding(face::specs::Given::face_given, face::specs::Given::side_fits, speeds::specs::Given::depth_fits, speeds::specs::Given::speed_fits, whole::specs::Choice::size_z))]
 fn crossing(l: Side, r: Side) -> Flux
     requires { Sound (side_in l) × Sound (side_in r) }
     ensures { flux_in result ≡ face (side_in l) (side_in r) }

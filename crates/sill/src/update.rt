@@ -25,6 +25,7 @@ fn push_of(x: Row, l: FaceRow, f: FaceRow) -> i64
 }
 
 // 981·e·dt/(819,200·dx): how the pressure e moves a discharge. The product is formed whole.
+#[tactic(auto, unfolding(crate::specs::Rows::thrust))]
 fn thrust_of(e: i64, call: Call) -> i64
     requires up_to { UpTo most_pressure e }
     requires numbers { Numbers call }
