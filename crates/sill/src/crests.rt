@@ -10,6 +10,7 @@ use crate::rows::Call;
 use reach::bed::bed_at;
 
 // The bed that counts at the left face of cell i, and at its right face: at an end the cell's own.
+#[tactic(auto, using(face::proofs::Choice::max_is), unfolding(sill_rules::specs::Reach::crest_left, sill_rules::specs::Reach::higher))]
 pub fn crest_left(bed: &[i32], call: Call, i: usize) -> i64
     requires { (i < call.n) × (call.n ≤ most_cells) }
     ensures { result ≡ crest_left (reach_in call bed.now) i }
@@ -21,6 +22,7 @@ pub fn crest_left(bed: &[i32], call: Call, i: usize) -> i64
     bed_at(bed, i - 1).max(own)
 }
 
+#[tactic(auto, using(face::proofs::Choice::max_is), unfolding(sill_rules::specs::Reach::crest_right, sill_rules::specs::Reach::higher))]
 pub fn crest_right(bed: &[i32], call: Call, i: usize) -> i64
     requires { (i < call.n) × (call.n ≤ most_cells) }
     ensures { result ≡ crest_right (reach_in call bed.now) i }
@@ -33,6 +35,7 @@ pub fn crest_right(bed: &[i32], call: Call, i: usize) -> i64
 }
 
 // The level e less the crest z, or nought.
+#[tactic(auto, using(face::proofs::Choice::max_is), unfolding(whole::specs::Choice::max_z))]
 pub fn over(z: i64, e: i64) -> i64
     requires { UpTo highest_bed z × UpTo widest e }
     ensures { result ≡ max_z (pos 0) (e -ℤ z) }

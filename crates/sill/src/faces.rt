@@ -24,6 +24,7 @@ fn crossing(l: Side, r: Side) -> Flux
 }
 
 // The outer side of an end: as deep as the inner; its speed is reversed at a wall, the same at an open end.
+#[tactic(auto, unfolding(rules::specs::Ends::outer))]
 fn outer(end: End, x: Side) -> Side
     requires { Sound (side_in x) }
     ensures { (side_in result ≡ rules.outer (kind_of end) (side_in x)) × Sound (side_in result) }
@@ -35,6 +36,7 @@ fn outer(end: End, x: Side) -> Side
 }
 
 // What crosses face i, between the cells in b.
+#[tactic(auto, using(crate::specs::Laws::FaceSizes::at_left, crate::specs::Laws::FaceSizes::at_right, crate::specs::Laws::FaceSizes::at_inner))]
 fn face_at(b: &[Row], call: Call, i: usize) -> Flux
     requires numbers { Numbers call × (call.n ≤ length b.now) × (i ≤ call.n) }
     requires rows { Rows b.now call.n }

@@ -37,6 +37,7 @@ fn slowed_of(dt: i64, f: i64, h: i64, u: i64, q: i64) -> i64
 
 // A cell over the bed z after friction of the Manning value f, whose speed before it is u. Shallow and calm
 // cells keep what they have, with no root and no division worked for them.
+#[tactic(auto, unfolding(sill_rules::specs::Step::rubbed_pool, sill_rules::specs::Reach::pace))]
 fn rubbed_pool(call: Call, f: i64, z: i64, x: Pool, u: i64) -> Pool
     requires numbers { Numbers call }
     requires pos_bound { (pos 0 ≤ℤ f) × UpTo roughest f }
@@ -52,6 +53,7 @@ fn rubbed_pool(call: Call, f: i64, z: i64, x: Pool, u: i64) -> Pool
 }
 
 // The row of cell i, which is x after friction.
+#[tactic(auto, unfolding(sill_rules::specs::Reach::over, sill_rules::specs::Reach::pace))]
 fn row_of(call: Call, bed: &[i32], i: usize, x: Pool) -> Row
     requires numbers { Numbers call × (i < call.n) × Grounds bed.now call.n }
     requires inside { Inside (get_or bed.now i (pos 0)) (as_pool x) }

@@ -95,12 +95,3 @@ pub slowed_of-requires-clause-up_to : goal.slowed_of-requires-clause-up_to
 slowed_of-requires-clause-up_to c =
     let a = c.args in let q = (pool_sizes c.requires.inside).flow in
     rw (to_z-of_z c.ranges.u, to_z-of_z (fit q tt)) (slow a.call.dry a.z a.u (as_pool a.x) c.requires.u_value.0 c.requires.u_value.1, q)
-
-pub returns : goal.returns
-unfolding rubbed_pool
-returns c =
-    let a = c.args in let call = a.call in let x = as_pool a.x in let num = c.requires.numbers in let m = pool_sizes c.requires.inside in
-    let h : rd c.depth_of-h.result ≡ depth a.z x = depth_is _ a.z x c.depth_of-h.type_inv c.ranges.z c.depth_of-h.ensures in
-    let q = (simp (to_z-of_z, fit num.dt_in tt, c.ranges.f, c.ranges.u, fit m.flow tt, h) at c.slowed_of.ensures)
-    ∙ sym (wet_left call.dt call.dry a.f a.z x c.requires.u_value.0 (test_is c.depth_of-h.result call.dry a.z x h num.dry ∙ c.if-h-call.false)) in
-    λ j. to_z-of_z (fit m.level tt) j ∷ back64 c.slowed_of.type_inv q j ∷ []
