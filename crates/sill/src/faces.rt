@@ -15,7 +15,7 @@ use face::sides::{Flux, Side};
 
 // What crosses between two sides. Both are within the limits, so there always is a flux. A side of
 // no depth may have a speed: that of its cell, which does not reach over the crest.
-#[tactic(auto, unfolding(face::specs::Given::face_given, face::specs::Given::side_fits, speeds::specs::Given::depth_fits, speeds::specs::Given::speed_fits, whole::specs::Choice::size_z))]
+#[tactic(auto, using(face::proofs::Fits::face_given_lem))]
 fn crossing(l: Side, r: Side) -> Flux
     requires { Sound (side_in l) × Sound (side_in r) }
     ensures { flux_in result ≡ face (side_in l) (side_in r) }
@@ -36,7 +36,7 @@ fn outer(end: End, x: Side) -> Side
 }
 
 // What crosses face i, between the cells in b.
-#[tactic(auto, using(crate::specs::Laws::FaceSizes::at_left, crate::specs::Laws::FaceSizes::at_right, crate::specs::Laws::FaceSizes::at_inner))]
+#[tactic(auto, using(crate::specs::Laws::FaceSizes::at_each))]
 fn face_at(b: &[Row], call: Call, i: usize) -> Flux
     requires numbers { Numbers call × (call.n ≤ length b.now) × (i ≤ call.n) }
     requires rows { Rows b.now call.n }

@@ -30,7 +30,7 @@ pub fn off_pool(z: i64, x: Pool) -> bool
 }
 
 // The speed of a discharge at a depth. All are within the limits, so there always is one.
-#[tactic(auto, unfolding(speeds::specs::Given::speed_given, speeds::specs::Given::discharge_fits, speeds::specs::Given::depth_fits, speeds::specs::Given::dry_fits, whole::specs::Choice::size_z))]
+#[tactic(auto, using(speeds::proofs::Fits::speed_given_lem, rules::proofs::Laws::Speeds::speed_size))]
 pub fn speed_of(q: i64, h: i64, dry: i64) -> i64
     requires up_to { UpTo fullest q }
     requires pos_bound { (pos 0 ≤ℤ h) × (h ≤ℤ deepest) }

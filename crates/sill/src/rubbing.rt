@@ -53,7 +53,7 @@ fn rubbed_pool(call: Call, f: i64, z: i64, x: Pool, u: i64) -> Pool
 }
 
 // The row of cell i, which is x after friction.
-#[tactic(auto, unfolding(sill_rules::specs::Reach::over, sill_rules::specs::Reach::pace))]
+#[tactic(auto, using(crate::specs::Laws::CrestSizes::row_sizes), unfolding(sill_rules::specs::Reach::over, sill_rules::specs::Reach::pace))]
 fn row_of(call: Call, bed: &[i32], i: usize, x: Pool) -> Row
     requires numbers { Numbers call × (i < call.n) × Grounds bed.now call.n }
     requires inside { Inside (get_or bed.now i (pos 0)) (as_pool x) }

@@ -51,7 +51,7 @@ fn flow_of(x: Row, l: FaceRow, f: FaceRow, e: i64, call: Call) -> i64
     x[1] + (l[2] - f[2]) * call.dt / call.dx + thrust_of(e, call)
 }
 
-#[tactic(auto, unfolding(crate::specs::Rows::update_by))]
+#[tactic(auto, using(crate::specs::Laws::PoolSizes::push_size), unfolding(crate::specs::Rows::update_by))]
 fn updated(x: Row, l: FaceRow, f: FaceRow, call: Call) -> Pool
     requires row { ranges.Row x × ranges.FaceRow l × ranges.FaceRow f }
     requires numbers { Numbers call }

@@ -4,7 +4,7 @@ use Rattle.std.specs.Prelude.{Some, None}
 use Rattle.sill_rules.proofs.Laws.Lengths.{fitted}
 use Rattle.sill_rules.specs.Refusals.{bad_call}
 use Rattle.sill.specs.declared.rows.Call.{Call}
-use Rattle.sill.specs.Told.{reach_in, reach_given, call_given, call_by}
+use Rattle.sill.specs.Told.{reach_in, call_by}
 use Rattle.sill.specs.Says.{tables_outcome}
 use Rattle.sill.specs.Laws.LentChecks.{numbers}
 use Rattle.sill.specs.Laws.Answered.{same_gives, call_told, length_refused, call_refused, further}

@@ -13,7 +13,6 @@ use Rattle.rules.specs.Lent.{Outcome, outcome, refused}
 use Rattle.rules.proofs.Laws.Accept.{none_at}
 use Rattle.rules.proofs.Laws.Verdicts.{of_call_lem}
 use Rattle.rules.proofs.Laws.Outcome.{refuses, without_first}
-use Rattle.reach.specs.declared.answer.Refused.{Refused}
 use Rattle.reach.specs.declared.answer.Refusal.{Refusal}
 use Rattle.reach.specs.declared.answer.Refusal.TheVariants as refusal
 use Rattle.reach.specs.Refusals.{number_of}
@@ -77,7 +76,8 @@ module _ (state : List ℤ) (room : ℕ) (bed : List ℤ) (friction : List ℕ) 
         table = sym (ap (λ (o : Outcome). leaves o old) is);
       }
 
-  pub length_refused : misfit (length state) room (length bed) n ≡ true → (old : List ℤ) → Gives (step_of lent) (stop refusal.Lengths) old old
+  pub length_refused : misfit (length state) room (length bed) n ≡ true → (old : List ℤ)
+      → Gives (step_of lent) (stop refusal.Lengths) old old
   length_refused e = refused_with refusal.Lengths (omega arith) (first_found lent e)
 
   module _ (e : misfit (length state) room (length bed) n ≡ false) where
@@ -96,6 +96,8 @@ module _ (state : List ℤ) (room : ℕ) (bed : List ℤ) (friction : List ℕ) 
     -- the checks after 2 are those of the step on tables
     pub further : bad_call (reach_of lent) (call_of lent) ≡ false → tables_outcome (call_by n given) bed friction state ≡ step_of lent
     unfolding step_of all_checks checks early filled crossed off
-    further b = (λ j. on_tables (call_told n given bed (call_of lent).rough b j))
+    further b =
+        let bad = bad_call (reach_of lent) (call_of lent) in
+        (λ j. on_tables (call_told n given bed (call_of lent).rough b j))
         ∙ sym (without_first _ _ _ (of_call 1 (misfits lent)) _ (of_call_lem 1 (misfits lent) ∙ e)
-        ∙ without_first _ _ _ (of_call 2 (bad_call (reach_of lent) (call_of lent))) _ (of_call_lem 2 (bad_call (reach_of lent) (call_of lent)) ∙ b))
+        ∙ without_first _ _ _ (of_call 2 bad) _ (of_call_lem 2 bad ∙ b))

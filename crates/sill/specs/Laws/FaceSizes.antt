@@ -80,3 +80,6 @@ module _ (call : Call) (b : List (List ℤ)) where
     pub face_rows : (f : List (List ℤ)) → Written [] f (suc n) (face_row_at call b) → FaceRows f n
     face_rows f w i h =
         subst FaceRow (sym (w i h)) (row_sized call.dx call.dt (cross_in call b i) num.dt_in (cross_sized i (omega arith)))
+
+-- a face at each of the places
+pub ruleset at_each = (at_left, at_right, at_inner)

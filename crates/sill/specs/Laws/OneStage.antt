@@ -140,7 +140,8 @@ module _ (call : Call) (num : Numbers call) (bed : List ℤ) (friction : List �
 
           -- ---- the update has answered p, with the cells in a
           module _ {p : Option ℕ} {a : List (List ℤ)}
-              (end : FillStops [] n (λ i. off_pool (get_or bed i (pos 0)) (end_at call bed b f i)) (λ i. as_row (end_at call bed b f i)) p a) where
+              (end : FillStops [] n (λ i. off_pool (get_or bed i (pos 0)) (end_at call bed b f i))
+              (λ i. as_row (end_at call bed b f i)) p a) where
             off_is : (i : ℕ) → i < n → off_pool (get_or bed i (pos 0)) (end_at call bed b f i) ≡ off r (next r c s) i
             unfolding off
             off_is i l = ap (off_pool (get_or bed i (pos 0))) (next_is i l)

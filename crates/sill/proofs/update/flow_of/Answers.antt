@@ -47,4 +47,6 @@ pub overflow_add-result-2 : goal.overflow_add-result-2
 overflow_add-result-2 c = need (after c) (v 0 ⊕ carried ⊕ v 5) tt
 
 pub returns : goal.returns
-returns c = value (after c) (v 0 ⊕ carried ⊕ v 5) tt ∙ ap (λ (z : ℤ). ideal (env c.requires.row c.requires.up_to.1) (v 0 ⊕ carried) +ℤ z) (moved c)
+returns c =
+    let e = env c.requires.row c.requires.up_to.1 in
+    value (after c) (v 0 ⊕ carried ⊕ v 5) tt ∙ ap (λ (z : ℤ). ideal e (v 0 ⊕ carried) +ℤ z) (moved c)

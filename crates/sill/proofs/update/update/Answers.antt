@@ -1,5 +1,5 @@
 -- Each turn writes a cell at the end of the step and, at the lowest out of range, ends the loop.
-use Rattle.std.proofs.Common.{◌≡◌, sym, ◌∙◌, subst, Bool, List, [], suc, ◌+◌, ◌<◌, get_or, ℕ, ℤ, pos, arith}
+use Rattle.std.proofs.Common.{◌≡◌, sym, ◌∙◌, Bool, List, [], suc, ◌+◌, ◌<◌, get_or, ℕ, ℤ, pos, arith}
 use mir.Facts.{to_z-of_z}
 use Rattle.whole.specs.Parts.{fit, nat_nonneg, b_nonneg, le_trans}
 use Rattle.whole.specs.Machine.{back64, rd}
@@ -31,7 +31,8 @@ module _ {call : Call} (num : Numbers call) (bed : List ℤ) (b f : List (List �
     x_wide : Wide (as_pool x)
     x_wide = rw moved_is moved_wide
 
-    module _ (zr : ℤ) (z_is : rd zr ≡ get_or bed i (pos 0)) {y : List ℤ} (dried : y ≡ as_row (dried_pool (rd call.dry) (rd zr) (as_pool x))) where
+    module _ (zr : ℤ) (z_is : rd zr ≡ get_or bed i (pos 0)) {y : List ℤ}
+        (dried : y ≡ as_row (dried_pool (rd call.dry) (rd zr) (as_pool x))) where
       end_is : y ≡ as_row (end_at call bed b f i)
       end_is =
           let dry = to_z-of_z (fit (b_nonneg (le_trans (nat_nonneg 1) num.dry.least) num.dry.most) tt) in
@@ -45,31 +46,37 @@ module _ {call : Call} (num : Numbers call) (bed : List ℤ) (b f : List (List �
 
 pub dried-x-requires : goal.dried-x-requires
 dried-x-requires c =
-    let i = c.loop-i.i in let p = c.requires in (
-      rw (back64 c.bed_at-z.type_inv c.bed_at-z.ensures) (p.numbers.1 i (omega arith)),
-      x_wide p.numbers.0 c.args.bed.now c.args.b.now c.args.f.now p.rows i (omega arith) c.updated.ensures,
-    )
+    let a = c.args in let p = c.requires in let i = c.loop-i.i in
+    let z = back64 c.bed_at-z.type_inv c.bed_at-z.ensures in
+    (rw z (p.numbers.1 i (omega arith)), x_wide p.numbers.0 a.bed.now a.b.now a.f.now p.rows i (omega arith) c.updated.ensures)
 
 pub off_pool-requires : goal.off_pool-requires
 off_pool-requires c =
-    let i = c.loop-i.i in let p = c.requires in let z = back64 c.bed_at-z.type_inv c.bed_at-z.ensures in (
+    let a = c.args in let p = c.requires in let i = c.loop-i.i in
+    let z = back64 c.bed_at-z.type_inv c.bed_at-z.ensures in (
       rw z (p.numbers.1 i (omega arith)),
-      end_wide p.numbers.0 c.args.bed.now c.args.b.now c.args.f.now p.rows i (omega arith) c.updated.ensures c.bed_at-z.result z c.dried-x.ensures,
+      end_wide p.numbers.0 a.bed.now a.b.now a.f.now p.rows i (omega arith) c.updated.ensures c.bed_at-z.result z c.dried-x.ensures,
     )
 
 pub returns-then-off_pool : goal.returns-then-off_pool
 returns-then-off_pool c =
-    let l = c.loop-i in let p = c.requires in let z = back64 c.bed_at-z.type_inv c.bed_at-z.ensures in
-    let end = end_is p.numbers.0 c.args.bed.now c.args.b.now c.args.f.now p.rows l.i (omega arith) c.updated.ensures c.bed_at-z.result z c.dried-x.ensures in
-    let off = off_here p.numbers.0 c.args.bed.now c.args.b.now c.args.f.now p.rows l.i (omega arith) c.updated.ensures c.bed_at-z.result z c.dried-x.ensures c.off_pool.ensures in
+    let a = c.args in let p = c.requires in let l = c.loop-i in
+    let z = back64 c.bed_at-z.type_inv c.bed_at-z.ensures in
+    let end = end_is p.numbers.0 a.bed.now a.b.now a.f.now p.rows l.i (omega arith) c.updated.ensures c.bed_at-z.result z
+    c.dried-x.ensures in
+    let off = off_here p.numbers.0 a.bed.now a.b.now a.f.now p.rows l.i (omega arith) c.updated.ensures c.bed_at-z.result z
+    c.dried-x.ensures c.off_pool.ensures in
     fill_stopped l.i (omega arith)
     (fill_stops [] _ _ _ _ l.a l.i _ (omega arith) (omega arith) l.invariant end (off ∙ c.if-off_pool.true))
 
 pub loop-i-preserved : goal.loop-i-preserved
 loop-i-preserved c =
-    let l = c.loop-i in let p = c.requires in let z = back64 c.bed_at-z.type_inv c.bed_at-z.ensures in
-    let end = end_is p.numbers.0 c.args.bed.now c.args.b.now c.args.f.now p.rows l.i (omega arith) c.updated.ensures c.bed_at-z.result z c.dried-x.ensures in
-    let off = off_here p.numbers.0 c.args.bed.now c.args.b.now c.args.f.now p.rows l.i (omega arith) c.updated.ensures c.bed_at-z.result z c.dried-x.ensures c.off_pool.ensures in
+    let a = c.args in let p = c.requires in let l = c.loop-i in
+    let z = back64 c.bed_at-z.type_inv c.bed_at-z.ensures in
+    let end = end_is p.numbers.0 a.bed.now a.b.now a.f.now p.rows l.i (omega arith) c.updated.ensures c.bed_at-z.result z
+    c.dried-x.ensures in
+    let off = off_here p.numbers.0 a.bed.now a.b.now a.f.now p.rows l.i (omega arith) c.updated.ensures c.bed_at-z.result z
+    c.dried-x.ensures c.off_pool.ensures in
     fill_more [] _ _ _ _ l.a l.i _ (omega arith) (omega arith) l.invariant end (off ∙ c.if-off_pool.false)
 
 pub returns : goal.returns

@@ -1,5 +1,5 @@
 -- The checks of the lent tables are made first, and the tables are no longer than the reach may be.
-use Rattle.std.proofs.Common.{◌≡◌, sym, ◌∙◌, ap, arith}
+use Rattle.std.proofs.Common.{sym, ◌∙◌, ap, arith}
 use Rattle.rules.proofs.Laws.Verdicts.{clear_found}
 use Rattle.reach.specs.Told.{found_in}
 use Rattle.reach.specs.Laws.Refusals.{went_on_none}

@@ -1,5 +1,5 @@
 -- The stage from tables that passed their checks, and what is stored where it passed its own.
-use Rattle.std.proofs.Common.{◌≡◌, refl, sym, ◌∙◌, ap}
+use Rattle.std.proofs.Common.{refl, ap}
 use Rattle.whole.specs.Machine.{back64}
 use Rattle.rules.proofs.Laws.Verdicts.{none_stops}
 use Rattle.reach.specs.Told.{found_in}

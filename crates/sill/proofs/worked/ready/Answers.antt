@@ -1,6 +1,6 @@
 -- The three checks in their order; each is known to have been passed where the next one is made.
-use Rattle.std.proofs.Common.{◌≡◌, refl, ◌∙◌, sym, ap, List, ℕ, ℤ, get_or, pos, length}
-use Rattle.rules.specs.Refusals.{bad_rough, Check}
+use Rattle.std.proofs.Common.{◌≡◌, refl, ◌∙◌, sym, ap, Bool, List, ℕ, ℤ, get_or, pos, length}
+use Rattle.rules.specs.Refusals.{bad_rough}
 use Rattle.reach.specs.declared.answer.Refusal.TheVariants.{Bed, Friction, State}
 use Rattle.reach.specs.Places.{first_place}
 use Rattle.reach.specs.Told.{found_in}
@@ -11,12 +11,12 @@ use Rattle.sill.specs.Laws.LentChecks.{grounds}
 use Rattle.sill.proofs.worked.ready.Goals as goal
 
 -- the searches of the lent tables go over as many values as there are
-bed_search : (bed : List ℤ) (n : ℕ) → length bed ≡ n
-    → first_place (λ i. bad_bed (get_or bed i (pos 0))) (length bed) ≡ first_place (λ i. bad_bed (get_or bed i (pos 0))) n
+bed_search : (bed : List ℤ) (n : ℕ) → length bed ≡ n → let p : ℕ → Bool = λ i. bad_bed (get_or bed i (pos 0)) in
+    first_place p (length bed) ≡ first_place p n
 bed_search bed n e = ap (first_place (λ i. bad_bed (get_or bed i (pos 0)))) e
 
-rough_search : (friction : List ℕ) (n : ℕ) → length friction ≡ n
-    → first_place (λ i. bad_rough (pos (get_or friction i 0))) (length friction) ≡ first_place (λ i. bad_rough (pos (get_or friction i 0))) n
+rough_search : (friction : List ℕ) (n : ℕ) → length friction ≡ n → let p : ℕ → Bool = λ i. bad_rough (pos (get_or friction i 0)) in
+    first_place p (length friction) ≡ first_place p n
 rough_search friction n e = ap (first_place (λ i. bad_rough (pos (get_or friction i 0)))) e
 
 pub returns-in_err-at : goal.returns-in_err-at

@@ -1,5 +1,5 @@
 -- The stage answers by the first of its checks, and where it passed them its faces and its cells are the rule's.
-use Rattle.std.proofs.Common.{◌≡◌, sym, ◌∙◌}
+use Rattle.std.proofs.Common.{sym, ◌∙◌}
 use Rattle.reach.specs.declared.answer.Refusal.TheVariants.{Speed, TimeStep}
 use Rattle.reach.specs.Laws.Refusals.{stopped_at, told_there, passed_by}
 use Rattle.reach.specs.Laws.Checks.{handed_on}
