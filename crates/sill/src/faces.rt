@@ -38,7 +38,8 @@ fn outer(end: End, x: Side) -> Side
 // What crosses face i, between the cells in b.
 #[tactic(auto, using(crate::specs::Laws::FaceSizes::at_each))]
 fn face_at(b: &[Row], call: Call, i: usize) -> Flux
-    requires numbers { Numbers call × (call.n ≤ length b.now) × (i ≤ call.n) }
+    requires numbers { Numbers call }
+    requires room { (call.n ≤ length b.now) × (i ≤ call.n) }
     requires rows { Rows b.now call.n }
     ensures { flux_in result ≡ cross_in call b.now i }
 {
@@ -73,7 +74,8 @@ fn face_row(x: Flux, call: Call) -> FaceRow
 
 // 7: the rows of the n + 1 faces into f, up to the lowest at which the step is too long, which it gives.
 pub fn faces(b: &[Row], call: Call, f: &mut [FaceRow]) -> Option<usize>
-    requires numbers { Numbers call × (call.n ≤ length b.now) × (call.n < length f.old) }
+    requires numbers { Numbers call }
+    requires room { (call.n ≤ length b.now) × (call.n < length f.old) }
     requires rows { Rows b.now call.n }
     ensures { FillStops [] (suc call.n) (long_at call b.now) (face_row_at call b.now) result f.new }
 {

@@ -40,9 +40,10 @@ fn slowed_of(dt: i64, f: i64, h: i64, u: i64, q: i64) -> i64
 #[tactic(auto, unfolding(sill_rules::specs::Step::rubbed_pool, sill_rules::specs::Reach::pace))]
 fn rubbed_pool(call: Call, f: i64, z: i64, x: Pool, u: i64) -> Pool
     requires numbers { Numbers call }
-    requires pos_bound { (pos 0 ≤ℤ f) × UpTo roughest f }
+    requires rough { (pos 0 ≤ℤ f) × UpTo roughest f }
     requires inside { Inside z (as_pool x) }
-    requires u_value { (u ≡ pace call.dry z (as_pool x)) × (fast_pool call.dry z (as_pool x) ≡ false) }
+    requires paced { u ≡ pace call.dry z (as_pool x) }
+    requires slow { fast_pool call.dry z (as_pool x) ≡ false }
     ensures { result ≡ as_row (rubbed_pool call.dt call.dry f z (as_pool x)) }
 {
     let h = depth_of(z, x);
@@ -55,7 +56,9 @@ fn rubbed_pool(call: Call, f: i64, z: i64, x: Pool, u: i64) -> Pool
 // The row of cell i, which is x after friction.
 #[tactic(auto, using(crate::specs::Laws::CrestSizes::row_sizes), unfolding(sill_rules::specs::Reach::over, sill_rules::specs::Reach::pace))]
 fn row_of(call: Call, bed: &[i32], i: usize, x: Pool) -> Row
-    requires numbers { Numbers call × (i < call.n) × Grounds bed.now call.n }
+    requires numbers { Numbers call }
+    requires of_reach { i < call.n }
+    requires grounds { Grounds bed.now call.n }
     requires inside { Inside (get_or bed.now i (pos 0)) (as_pool x) }
     ensures { result ≡ row_by (reach_in call bed.now) call.dry i (as_pool x) }
 {
@@ -68,8 +71,11 @@ fn row_of(call: Call, bed: &[i32], i: usize, x: Pool) -> Row
 // 6: the rows of the cells of a lent state into b, up to the lowest that is too fast for friction, which it
 // gives. Checked also where friction is 0. Friction speeds no water up, so no face is too fast then.
 pub fn rub(state: &[i32], bed: &[i32], friction: &[u16], call: Call, b: &mut [Row]) -> Option<usize>
-    requires numbers { Numbers call × Grounds bed.now call.n × (length state.now ≡ 2 * call.n) × (call.n ≤ length b.old) }
-    requires smooth { Smooth friction.now call.n × Ranged bed.now call.n state.now }
+    requires numbers { Numbers call }
+    requires room { (length state.now ≡ 2 * call.n) × (call.n ≤ length b.old) }
+    requires grounds { Grounds bed.now call.n }
+    requires smooth { Smooth friction.now call.n }
+    requires ranged { Ranged bed.now call.n state.now }
     ensures { RubSays (reach_in call bed.now) (call_in call (λ i. pos (get_or friction.now i 0)))
         (pool_in call.n state.now) result b.new }
 {

@@ -44,7 +44,8 @@ fn level_of(x: Row, l: FaceRow, f: FaceRow) -> i64
 
 fn flow_of(x: Row, l: FaceRow, f: FaceRow, e: i64, call: Call) -> i64
     requires row { ranges.Row x × ranges.FaceRow l × ranges.FaceRow f }
-    requires up_to { UpTo most_pressure e × Numbers call }
+    requires up_to { UpTo most_pressure e }
+    requires numbers { Numbers call }
     ensures { result ≡ (pool_of x).q +ℤ quot_z ((advection_of l -ℤ advection_of f) *ℤ call.dt) call.dx
         +ℤ thrust e call.dx call.dt }
 {
@@ -77,9 +78,11 @@ fn dried(z: i64, x: Pool, dry: i64) -> Pool
 
 // 8: the cells at the end of the step into a, up to the lowest out of range, which it gives.
 pub fn update(b: &[Row], bed: &[i32], f: &[FaceRow], call: Call, a: &mut [Pool]) -> Option<usize>
-    requires numbers { Numbers call × Grounds bed.now call.n }
-    requires n_in_bounds { (call.n ≤ length b.now) × (call.n < length f.now) × (call.n ≤ length a.old) }
-    requires rows { Rows b.now call.n × FaceRows f.now call.n }
+    requires numbers { Numbers call }
+    requires grounds { Grounds bed.now call.n }
+    requires room { (call.n ≤ length b.now) × (call.n < length f.now) × (call.n ≤ length a.old) }
+    requires rows { Rows b.now call.n }
+    requires face_rows { FaceRows f.now call.n }
     ensures { FillStops [] call.n
         (λ i. off_pool (get_or bed.now i (pos 0)) (end_at call bed.now b.now f.now i))
         (λ i. as_row (end_at call bed.now b.now f.now i)) result a.new }

@@ -49,9 +49,12 @@ fn stage(
     f: &mut [FaceRow],
     a: &mut [Pool],
 ) -> Result<(), Refused>
-    requires numbers { Numbers call × (length state.now ≡ 2 * call.n) }
-    requires n_in_bounds { (call.n ≤ length b.old) × (call.n < length f.old) × (call.n ≤ length a.old) }
-    requires grounds { Grounds bed.now call.n × Smooth friction.now call.n × Ranged bed.now call.n state.now }
+    requires numbers { Numbers call }
+    requires lengths { length state.now ≡ 2 * call.n }
+    requires room { (call.n ≤ length b.old) × (call.n < length f.old) × (call.n ≤ length a.old) }
+    requires grounds { Grounds bed.now call.n }
+    requires smooth { Smooth friction.now call.n }
+    requires ranged { Ranged bed.now call.n state.now }
     ensures { StageSays (reach_in call bed.now) (call_in call (λ i. pos (get_or friction.now i 0)))
         (pool_in call.n state.now) (found_in result) f.new a.new }
 {
@@ -69,6 +72,7 @@ fn volume_at(f: &[FaceRow], i: usize) -> i64
 }
 
 // The step from a lent state that passed those checks, on the tables lent for it.
+#[tactic(auto, using(crate::specs::Laws::LentChecks::lent))]
 fn on_tables(
     state: &[i32],
     next: &mut [i32],
@@ -79,8 +83,9 @@ fn on_tables(
     f: &mut [FaceRow],
     a: &mut [Pool],
 ) -> Answer
-    requires numbers { Numbers call × Lengths call state.now next.old bed.now friction.now }
-    requires n_in_bounds { (call.n ≤ length b.old) × (call.n < length f.old) × (call.n ≤ length a.old) }
+    requires numbers { Numbers call }
+    requires lengths { Lengths call state.now next.old bed.now friction.now }
+    requires room { (call.n ≤ length b.old) × (call.n < length f.old) × (call.n ≤ length a.old) }
     requires clear { Clear (ready_checks call.n bed.now friction.now state.now) }
     ensures { Gives (tables_outcome call bed.now friction.now state.now)
         result next.old next.new }
@@ -104,7 +109,8 @@ fn on_own_tables<const N: usize, const F: usize>(
     friction: &[u16],
     call: Call,
 ) -> Answer
-    requires numbers { Numbers call × Lengths call state.now next.old bed.now friction.now }
+    requires numbers { Numbers call }
+    requires lengths { Lengths call state.now next.old bed.now friction.now }
     requires room { (call.n ≤ N) × (N ≤ most_cells) × (call.n < F) × (F ≤ suc most_cells) }
     ensures { Gives (tables_outcome call bed.now friction.now state.now)
         result next.old next.new }
@@ -118,7 +124,8 @@ fn on_own_tables<const N: usize, const F: usize>(
 
 // The step of a call that is in order, on short tables where they have room for its reach.
 pub fn work(state: &[i32], next: &mut [i32], bed: &[i32], friction: &[u16], call: Call) -> Answer
-    requires { Numbers call × Lengths call state.now next.old bed.now friction.now }
+    requires numbers { Numbers call }
+    requires lengths { Lengths call state.now next.old bed.now friction.now }
     ensures { Gives (tables_outcome call bed.now friction.now state.now)
         result next.old next.new }
 {

@@ -30,17 +30,19 @@ returns-in_default c =
     call_refused a.state.now (length a.next.now) a.bed.now a.friction.now a.given (sym c.bad_lengths.ensures ∙ c.if-bad_lengths.false)
     (no_call _ _ (sym c.in_default.is ∙ c.call_of.ensures a.bed.now ρ)) _
 
-pub work-requires : goal.work-requires
-work-requires c =
+pub work-requires-clause-numbers : goal.work-requires-clause-numbers
+work-requires-clause-numbers c =
     let a = c.args in let ρ : ℕ → ℤ = λ i. pos (get_or a.friction.now i 0) in let n = length a.friction.now in
     let told = a_call _ _ _ (sym c.in-Some.is ∙ c.call_of.ensures a.bed.now ρ) in
-    let f = fitted _ _ _ _ (sym c.bad_lengths.ensures ∙ c.if-bad_lengths.false) in
-    let call = call_by n a.given in
+    let f = fitted _ _ _ _ (sym c.bad_lengths.ensures ∙ c.if-bad_lengths.false) in let call = call_by n a.given in
     let fine = ap (bad_call (reach_in call a.bed.now)) (call_told n a.given a.bed.now ρ told.0) ∙ told.0 in
-    rw told.1 (
-      numbers call a.bed.now ρ f.some f.most fine,
-      record { state_is = f.now; next_is = f.next; bed_is = f.beds; friction_is = refl },
-    )
+    rw told.1 (numbers call a.bed.now ρ f.some f.most fine)
+
+pub work-requires-clause-lengths : goal.work-requires-clause-lengths
+work-requires-clause-lengths c =
+    let told = a_call _ _ _ (sym c.in-Some.is ∙ c.call_of.ensures c.args.bed.now (λ i. pos 0)) in
+    let f = fitted _ _ _ _ (sym c.bad_lengths.ensures ∙ c.if-bad_lengths.false) in
+    rw told.1 record { state_is = f.now; next_is = f.next; bed_is = f.beds; friction_is = refl }
 
 pub returns : goal.returns
 returns c =

@@ -10,12 +10,12 @@ use Rattle.sill.proofs.faces.faces.Goals as goal
 pub face_row-requires-clause-sized : goal.face_row-requires-clause-sized
 face_row-requires-clause-sized c =
     let a = c.args in let p = c.requires in
-    subst Sized (sym c.face_at-x.ensures) (cross_sized a.call a.b.now p.numbers.0 p.rows c.loop-i.i (omega arith))
+    subst Sized (sym c.face_at-x.ensures) (cross_sized a.call a.b.now p.numbers p.rows c.loop-i.i (omega arith))
 
 pub too_long-requires-clause-sized : goal.too_long-requires-clause-sized
 too_long-requires-clause-sized c =
     let a = c.args in let p = c.requires in
-    subst Sized (sym c.face_at-x.ensures) (cross_sized a.call a.b.now p.numbers.0 p.rows c.loop-i.i (omega arith))
+    subst Sized (sym c.face_at-x.ensures) (cross_sized a.call a.b.now p.numbers p.rows c.loop-i.i (omega arith))
 
 pub returns-then-too_long : goal.returns-then-too_long
 returns-then-too_long c =

@@ -33,21 +33,21 @@ module _ (zr : ℤ) {z : ℤ} {x : List ℤ} {cell : Pool} (z_is : rd zr ≡ z) 
 
 pub speed_of-u-requires-clause-up_to : goal.speed_of-u-requires-clause-up_to
 speed_of-u-requires-clause-up_to c =
-    let m = pool_sizes (c.requires.smooth.1 c.loop-i.i (omega arith)) in
+    let m = pool_sizes (c.requires.ranged c.loop-i.i (omega arith)) in
     rw (c.pool_of-x.ensures.0, to_z-of_z (fit m.flow tt)) m.flow
 
 pub speed_of-u-requires-clause-pos_bound : goal.speed_of-u-requires-clause-pos_bound
 speed_of-u-requires-clause-pos_bound c =
-    let m = pool_sizes (c.requires.smooth.1 c.loop-i.i (omega arith)) in
+    let m = pool_sizes (c.requires.ranged c.loop-i.i (omega arith)) in
     let z = back64 c.bed_at-z.type_inv c.bed_at-z.ensures in
     rw (depth_is c.bed_at-z.result z c.pool_of-x.ensures.0 c.depth_of.type_inv c.depth_of.ensures) (m.least, m.most)
 
 pub returns-then-past : goal.returns-then-past
 unfolding fast_friction fast_pool
 returns-then-past c =
-    let m = pool_sizes (c.requires.smooth.1 c.loop-i.i (omega arith)) in
+    let m = pool_sizes (c.requires.ranged c.loop-i.i (omega arith)) in
     let z = back64 c.bed_at-z.type_inv c.bed_at-z.ensures in
-    let u = speed_is c.bed_at-z.result z c.pool_of-x.ensures.0 c.requires.numbers.0.dry m.flow c.depth_of.type_inv c.depth_of.ensures
+    let u = speed_is c.bed_at-z.result z c.pool_of-x.ensures.0 c.requires.numbers.dry m.flow c.depth_of.type_inv c.depth_of.ensures
     c.speed_of-u.type_inv c.speed_of-u.ensures in
     record {
       stops = scan_place c.loop-i.invariant.0 (omega arith) (sym (c.past.ensures ∙ ap (past fastest) u)) c.if-past.true;
@@ -61,38 +61,45 @@ returns c = record {
 }
 
 -- ---- the cell after friction
-pub rubbed_pool-requires-clause-pos_bound : goal.rubbed_pool-requires-clause-pos_bound
-rubbed_pool-requires-clause-pos_bound c =
+pub rubbed_pool-requires-clause-rough : goal.rubbed_pool-requires-clause-rough
+rubbed_pool-requires-clause-rough c =
     rw (back64 c.rough_at.type_inv c.rough_at.ensures)
-    (nat_nonneg (get_or c.args.friction.now c.loop-i.i 0), record { abs = c.requires.smooth.0 c.loop-i.i (omega arith) })
+    (nat_nonneg (get_or c.args.friction.now c.loop-i.i 0), record { abs = c.requires.smooth c.loop-i.i (omega arith) })
 
 pub rubbed_pool-requires-clause-inside : goal.rubbed_pool-requires-clause-inside
 rubbed_pool-requires-clause-inside c =
-    rw (back64 c.bed_at-z.type_inv c.bed_at-z.ensures, c.pool_of-x.ensures.0) (c.requires.smooth.1 c.loop-i.i (omega arith))
+    rw (back64 c.bed_at-z.type_inv c.bed_at-z.ensures, c.pool_of-x.ensures.0) (c.requires.ranged c.loop-i.i (omega arith))
 
-pub rubbed_pool-requires-clause-u_value : goal.rubbed_pool-requires-clause-u_value
-unfolding fast_pool
-rubbed_pool-requires-clause-u_value c =
-    let m = pool_sizes (c.requires.smooth.1 c.loop-i.i (omega arith)) in
+pub rubbed_pool-requires-clause-paced : goal.rubbed_pool-requires-clause-paced
+rubbed_pool-requires-clause-paced c =
+    let m = pool_sizes (c.requires.ranged c.loop-i.i (omega arith)) in
     let z = back64 c.bed_at-z.type_inv c.bed_at-z.ensures in
-    let u = speed_is c.bed_at-z.result z c.pool_of-x.ensures.0 c.requires.numbers.0.dry m.flow c.depth_of.type_inv c.depth_of.ensures
+    rw (z, c.pool_of-x.ensures.0) (speed_is c.bed_at-z.result z c.pool_of-x.ensures.0 c.requires.numbers.dry m.flow c.depth_of.type_inv
+    c.depth_of.ensures c.speed_of-u.type_inv c.speed_of-u.ensures)
+
+pub rubbed_pool-requires-clause-slow : goal.rubbed_pool-requires-clause-slow
+unfolding fast_pool
+rubbed_pool-requires-clause-slow c =
+    let m = pool_sizes (c.requires.ranged c.loop-i.i (omega arith)) in
+    let z = back64 c.bed_at-z.type_inv c.bed_at-z.ensures in
+    let u = speed_is c.bed_at-z.result z c.pool_of-x.ensures.0 c.requires.numbers.dry m.flow c.depth_of.type_inv c.depth_of.ensures
     c.speed_of-u.type_inv c.speed_of-u.ensures in
-    rw (u, z, c.pool_of-x.ensures.0) (refl, sym (c.past.ensures ∙ ap (past fastest) u) ∙ c.if-past.false)
+    rw (z, c.pool_of-x.ensures.0) (sym (c.past.ensures ∙ ap (past fastest) u) ∙ c.if-past.false)
 
 pub row_of-requires-clause-inside : goal.row_of-requires-clause-inside
 row_of-requires-clause-inside c =
-    let num = c.requires.numbers.0 in let a = c.args in let i = c.loop-i.i in
+    let num = c.requires.numbers in let a = c.args in let i = c.loop-i.i in
     let z = back64 c.bed_at-z.type_inv c.bed_at-z.ensures in let rough = back64 c.rough_at.type_inv c.rough_at.ensures in
     rw (rw (rough, z, c.pool_of-x.ensures.0) at c.rubbed_pool.ensures)
     (rubbed_inside a.call.dt a.call.dry (pos (get_or a.friction.now i 0)) _ _ num.dt_pos num.dry.least
-    (c.requires.smooth.1 i (omega arith)))
+    (c.requires.ranged i (omega arith)))
 
 pub loop-i-preserved : goal.loop-i-preserved
 unfolding rubbed fast_friction fast_pool
 loop-i-preserved c =
-    let l = c.loop-i in let m = pool_sizes (c.requires.smooth.1 l.i (omega arith)) in
+    let l = c.loop-i in let m = pool_sizes (c.requires.ranged l.i (omega arith)) in
     let z = back64 c.bed_at-z.type_inv c.bed_at-z.ensures in let rough = back64 c.rough_at.type_inv c.rough_at.ensures in
-    let u = speed_is c.bed_at-z.result z c.pool_of-x.ensures.0 c.requires.numbers.0.dry m.flow c.depth_of.type_inv c.depth_of.ensures
+    let u = speed_is c.bed_at-z.result z c.pool_of-x.ensures.0 c.requires.numbers.dry m.flow c.depth_of.type_inv c.depth_of.ensures
     c.speed_of-u.type_inv c.speed_of-u.ensures in
     let end = rw (rough, z, c.pool_of-x.ensures.0) at c.rubbed_pool.ensures in (
       scan_more l.invariant.0 (omega arith) (sym (c.past.ensures ∙ ap (past fastest) u)) c.if-past.false,

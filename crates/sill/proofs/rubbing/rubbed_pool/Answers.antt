@@ -72,5 +72,5 @@ slowed_of-requires-clause-least_dry_lt_h c =
 pub slowed_of-requires-clause-up_to : goal.slowed_of-requires-clause-up_to
 unfolding fast_pool
 slowed_of-requires-clause-up_to c =
-    let q = (pool_sizes c.requires.inside).flow in let u = c.requires.u_value in
-    rw (to_z-of_z c.ranges.u, to_z-of_z (fit q tt)) (within_past 131072 c.args.u (ap (past fastest) u.0 ∙ u.1), q)
+    let q = (pool_sizes c.requires.inside).flow in let p = c.requires in
+    rw (to_z-of_z c.ranges.u, to_z-of_z (fit q tt)) (within_past 131072 c.args.u (ap (past fastest) p.paced ∙ p.slow), q)

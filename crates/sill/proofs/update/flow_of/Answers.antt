@@ -21,15 +21,15 @@ abbrev carried : X
 carried = (v 1 ⊝ v 2) ⊗ v 4 ⊘ v 3
 
 pub overflow_mul-result : goal.overflow_mul-result
-overflow_mul-result c = need (env c.requires.row c.requires.up_to.1) ((v 1 ⊝ v 2) ⊗ v 4) tt
+overflow_mul-result c = need (env c.requires.row c.requires.numbers) ((v 1 ⊝ v 2) ⊗ v 4) tt
 
 pub nonzero_div-result : goal.nonzero_div-result
 nonzero_div-result c =
-    let num = c.requires.up_to.1 in let e = env c.requires.row num in
+    let num = c.requires.numbers in let e = env c.requires.row num in
     (divisor e (v 3) tt num.dx_pos, need e carried tt)
 
 pub overflow_add-result : goal.overflow_add-result
-overflow_add-result c = need (env c.requires.row c.requires.up_to.1) (v 0 ⊕ carried) tt
+overflow_add-result c = need (env c.requires.row c.requires.numbers) (v 0 ⊕ carried) tt
 
 -- the thrust, and its size
 module _ (c : goal.After-thrust_of) where
@@ -38,15 +38,15 @@ module _ (c : goal.After-thrust_of) where
 
   abbrev after : List Entry
   after =
-      let given = c.requires.up_to in
+      let num = c.requires.numbers in
       let size : UpTo most_thrust c.thrust_of.result =
-      subst (UpTo most_thrust) (sym moved) (thrust_size _ _ _ given.0 given.1.dx_pos given.1.dt_in) in
-      and_then c.requires.row given.1 (sized size tt ∷ [])
+      subst (UpTo most_thrust) (sym moved) (thrust_size _ _ _ c.requires.up_to num.dx_pos num.dt_in) in
+      and_then c.requires.row num (sized size tt ∷ [])
 
 pub overflow_add-result-2 : goal.overflow_add-result-2
 overflow_add-result-2 c = need (after c) (v 0 ⊕ carried ⊕ v 5) tt
 
 pub returns : goal.returns
 returns c =
-    let e = env c.requires.row c.requires.up_to.1 in
+    let e = env c.requires.row c.requires.numbers in
     value (after c) (v 0 ⊕ carried ⊕ v 5) tt ∙ ap (λ (z : ℤ). ideal e (v 0 ⊕ carried) +ℤ z) (moved c)

@@ -48,23 +48,23 @@ pub dried-x-requires : goal.dried-x-requires
 dried-x-requires c =
     let a = c.args in let p = c.requires in let i = c.loop-i.i in
     let z = back64 c.bed_at-z.type_inv c.bed_at-z.ensures in
-    (rw z (p.numbers.1 i (omega arith)), x_wide p.numbers.0 a.bed.now a.b.now a.f.now p.rows i (omega arith) c.updated.ensures)
+    (rw z (p.grounds i (omega arith)), x_wide p.numbers a.bed.now a.b.now a.f.now (p.rows, p.face_rows) i (omega arith) c.updated.ensures)
 
 pub off_pool-requires : goal.off_pool-requires
 off_pool-requires c =
     let a = c.args in let p = c.requires in let i = c.loop-i.i in
     let z = back64 c.bed_at-z.type_inv c.bed_at-z.ensures in (
-      rw z (p.numbers.1 i (omega arith)),
-      end_wide p.numbers.0 a.bed.now a.b.now a.f.now p.rows i (omega arith) c.updated.ensures c.bed_at-z.result z c.dried-x.ensures,
+      rw z (p.grounds i (omega arith)),
+      end_wide p.numbers a.bed.now a.b.now a.f.now (p.rows, p.face_rows) i (omega arith) c.updated.ensures c.bed_at-z.result z c.dried-x.ensures,
     )
 
 pub returns-then-off_pool : goal.returns-then-off_pool
 returns-then-off_pool c =
     let a = c.args in let p = c.requires in let l = c.loop-i in
     let z = back64 c.bed_at-z.type_inv c.bed_at-z.ensures in
-    let end = end_is p.numbers.0 a.bed.now a.b.now a.f.now p.rows l.i (omega arith) c.updated.ensures c.bed_at-z.result z
+    let end = end_is p.numbers a.bed.now a.b.now a.f.now (p.rows, p.face_rows) l.i (omega arith) c.updated.ensures c.bed_at-z.result z
     c.dried-x.ensures in
-    let off = off_here p.numbers.0 a.bed.now a.b.now a.f.now p.rows l.i (omega arith) c.updated.ensures c.bed_at-z.result z
+    let off = off_here p.numbers a.bed.now a.b.now a.f.now (p.rows, p.face_rows) l.i (omega arith) c.updated.ensures c.bed_at-z.result z
     c.dried-x.ensures c.off_pool.ensures in
     fill_stopped l.i (omega arith)
     (fill_stops [] _ _ _ _ l.a l.i _ (omega arith) (omega arith) l.invariant end (off ∙ c.if-off_pool.true))
@@ -73,9 +73,9 @@ pub loop-i-preserved : goal.loop-i-preserved
 loop-i-preserved c =
     let a = c.args in let p = c.requires in let l = c.loop-i in
     let z = back64 c.bed_at-z.type_inv c.bed_at-z.ensures in
-    let end = end_is p.numbers.0 a.bed.now a.b.now a.f.now p.rows l.i (omega arith) c.updated.ensures c.bed_at-z.result z
+    let end = end_is p.numbers a.bed.now a.b.now a.f.now (p.rows, p.face_rows) l.i (omega arith) c.updated.ensures c.bed_at-z.result z
     c.dried-x.ensures in
-    let off = off_here p.numbers.0 a.bed.now a.b.now a.f.now p.rows l.i (omega arith) c.updated.ensures c.bed_at-z.result z
+    let off = off_here p.numbers a.bed.now a.b.now a.f.now (p.rows, p.face_rows) l.i (omega arith) c.updated.ensures c.bed_at-z.result z
     c.dried-x.ensures c.off_pool.ensures in
     fill_more [] _ _ _ _ l.a l.i _ (omega arith) (omega arith) l.invariant end (off ∙ c.if-off_pool.false)
 

@@ -6,17 +6,13 @@ use Rattle.reach.specs.Told.{found_in}
 use Rattle.reach.specs.Laws.Refusals.{went_on_none}
 use Rattle.reach.specs.Laws.Checks.{handed_on}
 use Rattle.sill.specs.Says.{ready_checks}
-use Rattle.sill.specs.Laws.LentChecks.{lent_grounds, lent_smooth, lent_ranged}
+use Rattle.sill.specs.Laws.LentChecks.{lent_ranged}
 use Rattle.sill.specs.Laws.OnTables.{stage_stops, stage_done}
 use Rattle.sill.proofs.worked.on_tables.Goals as goal
 
-pub stage-requires-clause-grounds : goal.stage-requires-clause-grounds
-stage-requires-clause-grounds c =
-    let a = c.args in let n = a.call.n in let k = c.requires.clear in (
-      lent_grounds n a.bed.now a.friction.now a.state.now k,
-      lent_smooth n a.bed.now a.friction.now a.state.now k,
-      lent_ranged n a.bed.now a.friction.now a.state.now k,
-    )
+pub stage-requires-clause-ranged : goal.stage-requires-clause-ranged
+stage-requires-clause-ranged c =
+    let a = c.args in lent_ranged a.call.n a.bed.now a.friction.now a.state.now c.requires.clear
 
 pub returns-in_err-stage : goal.returns-in_err-stage
 returns-in_err-stage c =

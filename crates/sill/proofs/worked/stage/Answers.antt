@@ -12,13 +12,13 @@ returns-in_err-at c =
     let a = c.args in let e = c.in_err-at.field-0.0 in let is = sym c.at.ensures ∙ c.in_err-at.was in
     stopped_says e (handed_on c.from_residual.result e c.from_residual.ensures.1)
     (told_there Speed c.rub.result e is
-    ∙ fast_stops a.call c.requires.numbers.0 a.bed.now a.friction.now a.state.now c.requires.grounds.2 c.rub.ensures e.place
+    ∙ fast_stops a.call c.requires.numbers a.bed.now a.friction.now a.state.now c.requires.ranged c.rub.ensures e.place
     (stopped_at Speed c.rub.result e is).0) _ _
 
 pub faces-requires-clause-rows : goal.faces-requires-clause-rows
 faces-requires-clause-rows c =
     let a = c.args in let slow = passed_by Speed c.rub.result tt (sym c.at.ensures ∙ c.in_ok-at.was) in
-    rows_in a.call c.requires.numbers.0 a.bed.now a.friction.now a.state.now c.requires.grounds.2 c.rub.ensures slow
+    rows_in a.call c.requires.numbers a.bed.now a.friction.now a.state.now c.requires.ranged c.rub.ensures slow
 
 pub returns-in_err-at-2 : goal.returns-in_err-at-2
 returns-in_err-at-2 c =
@@ -26,21 +26,23 @@ returns-in_err-at-2 c =
     let slow = passed_by Speed c.rub.result tt (sym c.at.ensures ∙ c.in_ok-at.was) in
     stopped_says e (handed_on c.from_residual-in_err-at-2.result e c.from_residual-in_err-at-2.ensures.1)
     (told_there TimeStep c.faces.result e is
-    ∙ long_stops a.call c.requires.numbers.0 a.bed.now a.friction.now a.state.now c.requires.grounds.2 c.rub.ensures slow c.faces.ensures
+    ∙ long_stops a.call c.requires.numbers a.bed.now a.friction.now a.state.now c.requires.ranged c.rub.ensures slow c.faces.ensures
     e.place (stopped_at TimeStep c.faces.result e is).0) _ _
 
 pub update-requires-clause-rows : goal.update-requires-clause-rows
 update-requires-clause-rows c =
-    let a = c.args in let num = c.requires.numbers.0 in let lent = c.requires.grounds.2 in
-    let slow = passed_by Speed c.rub.result tt (sym c.at.ensures ∙ c.in_ok-at.was) in
-    let brief = passed_by TimeStep c.faces.result tt (sym c.at-2.ensures ∙ c.in_ok-at-2.was) in (
-      rows_in a.call num a.bed.now a.friction.now a.state.now lent c.rub.ensures slow,
-      faces_in a.call num a.bed.now a.friction.now a.state.now lent c.rub.ensures slow c.faces.ensures brief,
-    )
+    let a = c.args in let slow = passed_by Speed c.rub.result tt (sym c.at.ensures ∙ c.in_ok-at.was) in
+    rows_in a.call c.requires.numbers a.bed.now a.friction.now a.state.now c.requires.ranged c.rub.ensures slow
+
+pub update-requires-clause-face_rows : goal.update-requires-clause-face_rows
+update-requires-clause-face_rows c =
+    let a = c.args in let slow = passed_by Speed c.rub.result tt (sym c.at.ensures ∙ c.in_ok-at.was) in
+    let brief = passed_by TimeStep c.faces.result tt (sym c.at-2.ensures ∙ c.in_ok-at-2.was) in
+    faces_in a.call c.requires.numbers a.bed.now a.friction.now a.state.now c.requires.ranged c.rub.ensures slow c.faces.ensures brief
 
 pub returns : goal.returns
 returns c =
-    let a = c.args in let num = c.requires.numbers.0 in let lent = c.requires.grounds.2 in
+    let a = c.args in let num = c.requires.numbers in let lent = c.requires.ranged in
     let slow = passed_by Speed c.rub.result tt (sym c.at.ensures ∙ c.in_ok-at.was) in
     let brief = passed_by TimeStep c.faces.result tt (sym c.at-2.ensures ∙ c.in_ok-at-2.was) in
     rw c.at-3.ensures (ended_says c.update.result
