@@ -4,6 +4,7 @@ ghost use Rattle.tables.specs.Pools.{as_pool, as_row, pool_in};
 ghost use Rattle.rules.specs.Limits.{least_dry, deepest, fullest, fastest, roughest, longest_step};
 ghost use Rattle.rules.specs.Friction.{drag, slowed};
 ghost use Rattle.reach.specs.Ranges.{UpTo};
+ghost use Rattle.friction.specs.Strength as strength;
 ghost use Rattle.sill_rules.specs.Reach.{pace};
 ghost use Rattle.sill_rules.specs.Step.{rubbed_pool};
 ghost use Rattle.sill_rules.specs.Refusals.{fast_pool};
@@ -22,16 +23,15 @@ use reach::bed::bed_at;
 use reach::friction::rough_at;
 use reach::limits::{FASTEST, past};
 
-// What friction of the Manning value f leaves of a discharge q, at a depth h and a speed u. All are within the
-// limits, so there always is a strength, and what it leaves.
-fn slowed_of(dt: i64, f: i64, h: i64, u: i64, q: i64) -> i64
-    requires pos_bound { (pos 0 ≤ℤ dt) × UpTo longest_step dt }
-    requires pos_bound_2 { (pos 0 ≤ℤ f) × UpTo roughest f }
-    requires least_dry_lt_h { (least_dry <ℤ h) × (h ≤ℤ deepest) }
-    requires up_to { UpTo fastest u × UpTo fullest q }
-    ensures { result ≡ slowed (drag dt f h u) q }
+// What friction leaves of a discharge q, at a place that is within the limits: there always is a strength, and what
+// it leaves.
+fn slowed_of(at: Rubbing, q: i64) -> i64
+    requires ranged { strength.Ranged at }
+    requires slow { UpTo fastest at.u }
+    requires full { UpTo fullest q }
+    ensures { result ≡ slowed (drag at.dt at.rough at.h at.u) q }
 {
-    let x = strength(Rubbing { dt, rough: f, h, u }).unwrap();
+    let x = strength(at).unwrap();
     slowed(x, q).unwrap()
 }
 
@@ -50,7 +50,13 @@ fn rubbed_pool(call: Call, f: i64, z: i64, x: Pool, u: i64) -> Pool
     if h <= call.dry || x[1] == 0 {
         return x;
     }
-    [x[0], slowed_of(call.dt, f, h, u, x[1])]
+    let at = Rubbing {
+        dt: call.dt,
+        rough: f,
+        h,
+        u,
+    };
+    [x[0], slowed_of(at, x[1])]
 }
 
 // The row of cell i, which is x after friction.

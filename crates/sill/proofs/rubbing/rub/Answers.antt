@@ -1,5 +1,5 @@
 -- Each turn tries the speed of a cell and then writes its row; at the lowest that is too fast the loop ends.
-use Rattle.std.proofs.Common.{◌≡◌, refl, sym, ◌∙◌, ap, List, [], get_or, length-set, ◌<◌, ◌^◌, ℤ, pos, arith}
+use Rattle.std.proofs.Common.{◌≡◌, sym, ◌∙◌, ap, List, [], get_or, length-set, ◌<◌, ◌^◌, ℤ, pos, arith}
 use mir.Facts.{to_z-of_z}
 use Rattle.std.specs.Int.Signed.{mag}
 use Rattle.whole.specs.Parts.{fit, nat_nonneg, b_nonneg, le_trans}

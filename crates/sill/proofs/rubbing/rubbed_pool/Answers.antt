@@ -61,16 +61,23 @@ returns-then-h-call c =
           (sym (same_test {a = x.q} q (sfits_lit tt)) ∙ eq-eqb _ _ w.if-x-eq0.true))
     ]))
 
--- ---- what friction is given of a cell that moves
-pub slowed_of-requires-clause-least_dry_lt_h : goal.slowed_of-requires-clause-least_dry_lt_h
-slowed_of-requires-clause-least_dry_lt_h c =
-    let a = c.args in let x = as_pool a.x in let dry = c.requires.numbers.dry in
+-- what friction is given of a cell that moves
+pub slowed_of-requires-clause-ranged : goal.slowed_of-requires-clause-ranged
+slowed_of-requires-clause-ranged c =
+    let a = c.args in let x = as_pool a.x in let p = c.requires in let num = p.numbers in
     let h = depth_is x c.depth_of-h.type_inv c.ranges.z c.depth_of-h.ensures in
-    let deep = le_no (depth a.z x) a.call.dry (shallow_is c.depth_of-h.result a.z x h dry ∙ c.if-h-call.false) in
-    rw h (le_lt_trans dry.least deep, (pool_sizes c.requires.inside).most)
+    let deep = le_no (depth a.z x) a.call.dry (shallow_is c.depth_of-h.result a.z x h num.dry ∙ c.if-h-call.false) in
+    rw (to_z-of_z (fit num.dt_in tt), to_z-of_z c.ranges.f, h) record {
+      step = (num.dt_pos, num.dt_in);
+      rough = p.rough;
+      wet = (le_lt_trans num.dry.least deep, (pool_sizes p.inside).most);
+    }
 
-pub slowed_of-requires-clause-up_to : goal.slowed_of-requires-clause-up_to
+pub slowed_of-requires-clause-slow : goal.slowed_of-requires-clause-slow
 unfolding fast_pool
-slowed_of-requires-clause-up_to c =
-    let q = (pool_sizes c.requires.inside).flow in let p = c.requires in
-    rw (to_z-of_z c.ranges.u, to_z-of_z (fit q tt)) (within_past 131072 c.args.u (ap (past fastest) p.paced ∙ p.slow), q)
+slowed_of-requires-clause-slow c =
+    let p = c.requires in
+    rw (to_z-of_z c.ranges.u) (within_past 131072 c.args.u (ap (past fastest) p.paced ∙ p.slow))
+
+pub slowed_of-requires-clause-full : goal.slowed_of-requires-clause-full
+slowed_of-requires-clause-full c = let q = (pool_sizes c.requires.inside).flow in rw (to_z-of_z (fit q tt)) q
