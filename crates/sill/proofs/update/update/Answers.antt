@@ -55,7 +55,8 @@ off_pool-requires c =
     let a = c.args in let p = c.requires in let i = c.loop-i.i in
     let z = back64 c.bed_at-z.type_inv c.bed_at-z.ensures in (
       rw z (p.grounds i (omega arith)),
-      end_wide p.numbers a.bed.now a.b.now a.f.now (p.rows, p.face_rows) i (omega arith) c.updated.ensures c.bed_at-z.result z c.dried-x.ensures,
+      end_wide p.numbers a.bed.now a.b.now a.f.now (p.rows, p.face_rows) i (omega arith) c.updated.ensures c.bed_at-z.result z
+          c.dried-x.ensures,
     )
 
 pub returns-then-off_pool : goal.returns-then-off_pool
