@@ -6,7 +6,7 @@ use Rattle.std.proofs.lemmas.Bool.{eqb-false}
 use Rattle.whole.specs.Flags.{by}
 use Rattle.rules.specs.Lent.{Lent, cells_of, number, filled, Outcome, refused, accepted, step_of}
 use Rattle.rules.specs.StateAndBed.{cells_over}
-use Rattle.rules.specs.Sums.{sums_of, misfit_sums, Making, unmade, made, Reading, answered, between_of, keeping_of, sums_after}
+use Rattle.rules.specs.Sums.{sums_of, misfit_sums, Making, unmade, made, Reading, between_of, keeping_of, sums_after}
 use Rattle.rules.proofs.Laws.Lengths.{accepts, refuses}
 use Rattle.rules.specs.Laws.StateAndBed.{StateFits}
 use Rattle.rules.proofs.Laws.StateAndBed.{state_fits, state_passed}

@@ -65,13 +65,7 @@ fn read(state: &[i32], bed: &[i32], sums: &[i32], a: usize, b: usize) -> Water
 }
 
 // The water of the cells between faces a and b, by the numbers of the three tables as they stand.
-pub fn between(
-    state: &[i32],
-    bed: &[i32],
-    sums: &[i32],
-    a: u32,
-    b: u32,
-) -> Result<Water, Refusal>
+pub fn between(state: &[i32], bed: &[i32], sums: &[i32], a: u32, b: u32) -> Result<Water, Refusal>
     ensures { asked result ≡ between_of bed.now state.now sums.now a b }
 {
     let n = cells_over(bed);

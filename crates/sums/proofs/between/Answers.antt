@@ -1,5 +1,5 @@
 -- The lengths first, then the faces.
-use Rattle.std.proofs.Common.{◌≡◌, ◌∙◌, sym, ap, true, false, length, ltb, ◌<◌, arith}
+use Rattle.std.proofs.Common.{◌≡◌, ◌∙◌, sym, ap, true, false, length, ltb, arith}
 use borrow.Author.Tests.{lt-ltb, le-ltb}
 use Rattle.whole.specs.Flags.{or_true}
 use Rattle.rules.specs.StateAndBed.{cells_over}
@@ -46,6 +46,6 @@ unfolding asked
 returns c =
     let p = c.args in let n = c.cells_over-n.ensures in let bed = p.bed.now in
     let right : disordered bed p.state.now p.sums.now p.a p.b ≡ false =
-        rw (le-ltb p.b p.a c.if-to-from.false, le-ltb (cells_over bed) p.b (omega (arith, n, c.if-n-to.false))) in
+    rw (le-ltb p.b p.a c.if-to-from.false, le-ltb (cells_over bed) p.b (omega (arith, n, c.if-n-to.false))) in
     ap answered c.read.ensures
     ∙ sym (all_answered bed p.state.now p.sums.now p.a p.b (sym (rw n at c.if-bad_sums.ensures)) (sym (rw n at c.if-bad_state.ensures)) right)

@@ -1,8 +1,7 @@
 -- The checks in their order; a state that passed them has depths in range.
-use Rattle.std.proofs.Common.{◌≡◌, sym, ◌∙◌, ap, length, Err, arith}
+use Rattle.std.proofs.Common.{sym, ◌∙◌, ap, length, Err, arith}
 use Rattle.std.proofs.lemmas.Result.{err_from_is_err_and}
-use Rattle.rules.specs.StateAndBed.{cells_over}
-use Rattle.rules.specs.Sums.{misfit_sums, unmade}
+use Rattle.rules.specs.Sums.{unmade}
 use Rattle.rules.proofs.Laws.StateAndBed.{state_passed}
 use Rattle.rules.proofs.Laws.Questions.{unmade_one, unmade_later, all_made}
 use Rattle.reach.specs.declared.answer.Refusal.TheVariants.{Lengths}

@@ -1,11 +1,10 @@
 -- A loop that adds f's values from a on in 64 bits: what it has at its start and after a turn, and that it is not large.
 -- Assumes nothing.
-use Rattle.std.specs.Prelude.{◌≡◌, ℕ, ◌+◌, ◌-◌, ◌*◌, ◌≤◌, ℤ, pos, nat_abs, ◌+ℤ◌}
-use Rattle.std.proofs.Common.{sym, ap, ap₂, ◌∙◌, subst, arith, SFits, to_z, of_z, to_z-of_z}
+use Rattle.std.specs.Prelude.{◌≡◌, ℕ, ◌+◌, ◌*◌, ◌≤◌, ℤ, pos, ◌+ℤ◌}
+use Rattle.std.proofs.Common.{sym, ap₂, ◌∙◌, subst, arith, to_z, of_z, to_z-of_z}
 use Rattle.std.specs.Int.{w64}
 use Rattle.whole.specs.Parts.{Within, b_add, fit}
 use Rattle.rules.specs.Limits.{most_cells}
-use Rattle.rules.specs.Sums.{sum_to}
 use Rattle.rules.proofs.Laws.Summing.{sum_none, sum_more}
 use Rattle.sums.specs.Ranges.{most_addend, Addend, Added}
 

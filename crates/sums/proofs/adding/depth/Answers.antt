@@ -1,8 +1,8 @@
 -- The level less the mean of the bed, each of 32 bits: 64 have room for it.
 use Rattle.std.proofs.Common.{◌≡◌, ◌∙◌, ap, ap₂, List, [], ◌∷◌, ℤ, get_or, pos, ◌-ℤ◌, ◌<◌, ◌^◌, rules}
 use Rattle.std.specs.Int.Signed.{mag}
-use Rattle.whole.specs.Machine.{v, ◌⊝◌, Entry, entry, read32, within32, back, back64, need, value}
-use Rattle.rules.specs.Reach.{z0, bed_at}
+use Rattle.whole.specs.Machine.{v, ◌⊝◌, Entry, entry, read32, within32, need, value}
+use Rattle.rules.specs.Reach.{z0}
 use Rattle.sums.specs.Laws.Depths.{Word, mean_bed, level_less_bed, mean_depth}
 use Rattle.sums.proofs.adding.depth.Goals as goal
 

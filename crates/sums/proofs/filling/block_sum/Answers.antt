@@ -1,9 +1,8 @@
 -- The cells of a block are some of the reach, and their depths are in range.
-use Rattle.std.proofs.Common.{◌≡◌, ◌∙◌, ap, ℕ, ◌+◌, ◌^◌, ◌≤◌, ◌<◌, arith}
+use Rattle.std.proofs.Common.{◌≡◌, ◌∙◌, ap, ℕ, ◌^◌, ◌<◌, arith}
 use Rattle.std.specs.Int.Signed.{mag}
 use Rattle.whole.specs.Machine.{narrows, narrowed}
-use Rattle.rules.specs.Limits.{block_cells}
-use Rattle.rules.specs.StateAndBed.{cells_over, depth_in}
+use Rattle.rules.specs.StateAndBed.{depth_in}
 use Rattle.rules.specs.Sums.{block_from, block_to, sum_to, block_sum}
 use Rattle.sums.specs.Laws.Depths.{block_within, block_small}
 use Rattle.sums.proofs.filling.block_sum.Goals as goal
