@@ -18,8 +18,8 @@ use Rattle.reach.specs.declared.answer.Refusal.TheVariants as refusal
 use Rattle.reach.specs.declared.answer.Refused.{Refused}
 use Rattle.reach.specs.declared.answer.Volumes.{Volumes}
 use Rattle.reach.specs.Refusals.{number_of}
-use Rattle.reach.specs.Gives.{Answer, refusal_of, code, Gives, answer, number_in, leaves}
-use Rattle.sums.specs.Gives.{made_answer, made_number, made_leaves, MakingGives, asked, KeepingGives}
+use Rattle.reach.specs.Gives.{Answer, refusal_of, code, Gives, answer, number_in, leaves, answer_refused}
+use Rattle.sums.specs.Gives.{Made, made_answer, made_number, made_leaves, MakingGives, asked, KeepingGives}
 use Rattle.sums.specs.Ranges.{TablesFit, DepthsIn}
 use Rattle.sums.specs.declared.Water.{Water}
 
@@ -35,22 +35,17 @@ tables_fit bed t sums f e = record {
 
 -- ---- making
 -- a refusal is the one that has its number
-own_refusal : (k : Refusal) → refusal_of (number_of k) ≡ k
-unfolding refusal_of
-own_refusal refusal.Lengths = refl
-own_refusal refusal.Numbers = refl
-own_refusal refusal.Bed = refl
-own_refusal refusal.Friction = refl
-own_refusal refusal.State = refl
-own_refusal refusal.Speed = refl
-own_refusal refusal.TimeStep = refl
-own_refusal refusal.Stage = refl
-own_refusal refusal.Faces = refl
+own_refusal : (k : Refusal) → ◌≡◌ {A = Made} (Err k) (Err (refusal_of (number_of k)))
+unfolding answer
+own_refusal k =
+    let same = answer_refused (record { refusal = k; place = 0 }) in
+    let one : ◌≡◌ {A = Refused} (record { refusal = k; place = 0 }) (record { refusal = refusal_of (number_of k); place = 0 }) = cc in
+    ap (λ (r : Refused). Err r.refusal) one
 
 pub made_none : {m : Making} (k : Refusal) → m ≡ unmade (number_of k) → (old : List ℤ) → MakingGives m (Err k) old old
 unfolding made_answer made_number made_leaves
 made_none k e old = record {
-  says = ap Err (sym (own_refusal k)) ∙ sym (ap made_answer e);
+  says = own_refusal k ∙ sym (ap made_answer e);
   number = sym (ap made_number e);
   table = sym (ap (λ (x : Making). made_leaves x old) e);
 }
