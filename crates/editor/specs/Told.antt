@@ -170,16 +170,6 @@ sill_place l {a} e = rw e (cond_ind (eqb (verdict (sills.all_checks l)) 0)
     (refused (verdict (sills.all_checks l)) (spot (sills.all_checks l)))
     (λ (o : Outcome). placed (answer o) ≤ most_cells) (λ b. omega arith) (λ b. sill-places.place_most l))
 
--- the two counts of a question
-pub read_told : (q : Question) (w : ℤ) (c b : ℕ) (old : List ℤ) → answered (record { water = w; cells = c; blocks = b }) ≡ q
-    → QuestionTold q 0 old (set (set (set old 0 w) 1 (pos c)) 2 (pos b))
-unfolding question_code reading_into
-read_told q w c b old e = record { number = ap question_code e; reading = ap (λ (x : Question). reading_into x old) e }
-
-pub unread_told : (q : Question) (k : ℕ) (old : List ℤ) → unanswered k ≡ q → QuestionTold q k old old
-unfolding question_code reading_into
-unread_told q k old e = record { number = ap question_code e; reading = ap (λ (x : Question). reading_into x old) e }
-
 -- ---- one number, and one content of each table
 pub step_one : {o : Outcome} {r r' : ℕ} {old new new' w v v' : List ℤ} {x y y' : List ℕ}
     → StepTold o r old new w v x y → StepTold o r' old new' w v' x y' → (r ≡ r') × (new ≡ new') × (v ≡ v') × (y ≡ y')
