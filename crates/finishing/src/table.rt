@@ -17,7 +17,8 @@ impl<'a> UnfinishedTable<'a> {
         ensures { (ρ : ℕ → ℤ) → let u = self.entry in result ≡ finished_cell u.reach u.call u.bed.now u.cells.now ρ i }
     {
         let b = under(self.bed, i);
-        dried_cell(b, cut_cell(b, self.limit(i)), self.call.dry)
+        let cut = cut_cell(b, self.limit(i));
+        dried_cell(b, cut, self.call.dry)
     }
 
     // Every cell, finished, into t.
