@@ -31,7 +31,7 @@ fn too_large(b: Bed, x: Cell) -> bool
         || either_past(WIDEST, x[2], x[3])
 }
 
-impl<'a> UnfinishedTable<'a> {
+impl UnfinishedTable<'_> {
     // Is some cell of the table too large, or its bed?
     fn has_too_large(self) -> bool
         requires { self.reach.n ≤ length self.cells.now }

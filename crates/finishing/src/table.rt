@@ -10,7 +10,7 @@ use crate::unfinished::UnfinishedTable;
 use reach::Cell;
 use reach::bed::under;
 
-impl<'a> UnfinishedTable<'a> {
+impl UnfinishedTable<'_> {
     // Cell i, finished.
     fn finished(self, i: usize) -> Cell
         requires { HasCell self i }

@@ -5,16 +5,11 @@
 ghost use Rattle.std.specs.Prelude.{◌<◌, ◌≤◌};
 ghost use Rattle.whole.specs.Parts.{Within};
 
-use face::answer::Carried;
-use reach::size::magnitude;
+use draw::numbers::{SEED, following};
+use draw::sums::rolled;
+use face::flux::face;
+use face::sides::{Flux, Side};
 use std::io;
-
-// The next number drawn, by shifts and exclusive ors.
-fn drawn(x: u64) -> u64 {
-    let a = x ^ (x << 13);
-    let b = a ^ (a >> 7);
-    b ^ (b << 17)
-}
 
 // The top 31 bits of x, brought below span.
 fn part(x: u64, span: u64) -> u64
@@ -70,46 +65,36 @@ fn against(right: bool, x: u64) -> i64 {
     chosen(x, 4, 1, 131070)
 }
 
-// The bits of v in two's complement.
-fn bits(v: i64) -> u64 {
-    let m = magnitude(v);
-    if v < 0 { 0u64.wrapping_sub(m) } else { m }
-}
-
-fn mixed(h: u64, v: u64) -> u64 {
-    (h << 1) ^ (h >> 63) ^ v
-}
-
 // The sum after one more face: its four values, or 1 for a refusal.
-fn after(h: u64, answer: Carried) -> u64 {
+fn after(sum: u64, answer: Option<Flux>) -> u64 {
     match answer {
-        Carried::Flux(f, k, a, s) => mixed(
-            mixed(mixed(mixed(h, bits(f)), bits(k)), bits(a)),
-            bits(s),
-        ),
-        Carried::Refused => mixed(h, 1),
+        Some(flux) => [flux.f, flux.k, flux.a, flux.s]
+            .into_iter()
+            .fold(sum, |s, x| rolled(s, x.cast_unsigned())),
+        None => rolled(sum, 1),
     }
 }
 
 fn main(rt: HostRuntime) -> io::Result<()> {
-    let mut x = 88172645463325252u64;
-    let mut h = 0u64;
-    let mut c = 0u64;
+    let mut x = SEED;
+    let mut sum = 0u64;
     for i in 0u64..20000 {
-        let x1 = drawn(x);
-        let x2 = drawn(x1);
-        let x3 = drawn(x2);
-        x = drawn(x3);
-        let answer = face::flux::face(
-            depth(c, 1, x1),
-            speed(c, false, x2),
-            depth(c, 2, x3),
-            speed(c, true, x),
-        );
-        h = after(h, answer);
-        c = (c + 1) % 10;
+        let x1 = following(x);
+        let x2 = following(x1);
+        let x3 = following(x2);
+        x = following(x3);
+        let kind = i % 10;
+        let left = Side {
+            h: depth(kind, 1, x1),
+            u: speed(kind, false, x2),
+        };
+        let right = Side {
+            h: depth(kind, 2, x3),
+            u: speed(kind, true, x),
+        };
+        sum = after(sum, face(left, right));
         if i % 200 == 199 {
-            println!(rt; "{h}")?;
+            println!(rt; "{sum}")?;
         }
     }
     Ok(())
