@@ -38,12 +38,7 @@ impl UnfinishedTable<'_> {
         ensures { let u = self.entry in
             result ≡ some (λ i. too_large (bed_at u.bed.now i) (state_of u i)) u.reach.n }
     {
-        for i in 0..self.reach.n {
-            if too_large(under(self.bed, i), self.cells[i]) {
-                return true;
-            }
-        }
-        false
+        (0..self.reach.n).any(|i| too_large(under(self.bed, i), self.cells[i]))
     }
 
     // Can the table not be finished: the lengths, the jump, the dry depth, or a number in it?
