@@ -9,7 +9,7 @@
 mod read;
 mod show;
 
-use read::{field, fill, fill_friction, fill_state, given, lent};
+use read::{field, fill, fill_state, given, lent};
 use show::{show_answer, show_next};
 use std::io;
 use step::{Answer, End, Given};
@@ -45,7 +45,7 @@ fn answer(case: &str, next: &mut [i32]) -> Answer {
     let mut bed = [0i32; 1026];
     fill(&mut bed, case, 5);
     let mut friction = [0u16; 1025];
-    fill_friction(&mut friction, case);
+    fill(&mut friction, case, 6);
     called(case, &state[..a], &mut next[..b], &bed[..c], &friction[..n])
 }
 

@@ -2,6 +2,8 @@
 // the reader only.
 ghost use Rattle.std.specs.Prelude.{◌*◌, ◌≤◌, length};
 
+use std::str::FromStr;
+
 // Field k of a case; 0 is its name.
 pub fn field(case: &str, k: usize) -> &str {
     case.split([':', ';']).nth(k).unwrap_or("")
@@ -17,7 +19,7 @@ fn number(case: &str, k: usize, j: usize) -> i64 {
 }
 
 // A table, or a column of one, of the numbers of field k, again and again as far as it goes.
-pub fn fill(table: &mut [i32], case: &str, k: usize) {
+pub fn fill<T: Copy + FromStr<Err: Drop>>(table: &mut [T], case: &str, k: usize) {
     let numbers = field(case, k)
         .split(' ')
         .filter_map(|word| word.parse().ok());
@@ -34,15 +36,6 @@ pub fn fill_state(state: &mut [i32], case: &str, n: usize)
     fill(&mut state[n..2 * n], case, 2);
     fill(&mut state[2 * n..3 * n], case, 3);
     fill(&mut state[3 * n..4 * n], case, 4);
-}
-
-pub fn fill_friction(friction: &mut [u16], case: &str) {
-    let numbers = field(case, 6)
-        .split(' ')
-        .filter_map(|word| word.parse().ok());
-    for (place, x) in friction.iter_mut().zip(numbers.cycle()) {
-        *place = x;
-    }
 }
 
 // Number j beside the tables: dx, dt, J, the dry depth, the kinds of the two ends and the Q of each.
