@@ -20,13 +20,10 @@ pub fn over(zl: u64, zr: u64, h0: u64, h1: u64, q0: u64, q1: u64) -> Cell {
     }
 }
 
-// Cell i of n, a number in each of the four columns. An i beyond the table is so in every column, and nothing of its cell
-// is put.
+// Cell i of n, a number in each of the four columns.
 pub fn put_cell(state: &mut [i32], n: usize, i: usize, cell: Cell) {
-    let m = n.min(1024);
-    let at = i.min(4112);
-    put(state, at, cell.e0);
-    put(state, m + at, cell.e1);
-    put(state, 2 * m + at, cell.q0);
-    put(state, 3 * m + at, cell.q1);
+    let numbers = [cell.e0, cell.e1, cell.q0, cell.q1];
+    for (column, x) in numbers.into_iter().enumerate() {
+        put(state, column.wrapping_mul(n).wrapping_add(i), x);
+    }
 }

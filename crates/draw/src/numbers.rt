@@ -31,6 +31,13 @@ pub fn above(x: u64, low: u64, m: u64) -> u64
     low.wrapping_add(pick(x, m))
 }
 
+// Up to `high`, and at most m less.
+pub fn below(x: u64, high: u64, m: u64) -> u64
+    ensures { m ≤ high → (high ≤ result + m) × (result ≤ high) }
+{
+    high.wrapping_sub(pick(x, m))
+}
+
 // From -m to m.
 pub fn either(x: u64, m: u64) -> u64 {
     pick(x, m.wrapping_add(m)).wrapping_sub(m)
