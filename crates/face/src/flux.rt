@@ -1,7 +1,6 @@
 // What crosses a face between the water on its left, l, and on its right, r. Two sides of equal depth share
 // one wave speed. A depth that has a wave speed is not below nought, so a depth of at most nought is none.
 ghost use Rattle.std.specs.Prelude.{◌≡◌, true, ◌&&◌, pos, option_map};
-ghost use Rattle.whole.specs.Parts.{Within};
 ghost use Rattle.whole.specs.Equal.{eq_z};
 ghost use Rattle.rules.specs.Limits.{deepest};
 ghost use Rattle.rules.specs.Face.{none, mass, u_star, a_star, left_wave, right_wave, top, mixed, wet, alone, between, face};

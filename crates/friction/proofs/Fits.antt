@@ -5,19 +5,18 @@ use mathlib.Core.Bool.{true, not}
 use Prim.Native.Nat.{ℕ}
 use borrow.Author.Tests.{not-true}
 use lib.IntN.{ℤ, pos}
+use Rattle.std.specs.Prelude.{Some}
 use lib.Signed.{le_z, lt_z, ◌≤ℤ◌, ◌<ℤ◌}
 use Rattle.whole.specs.Flags.{and_l, and_r}
 use Rattle.whole.specs.Parts.{Within, b_nonneg, range_b}
-use Rattle.whole.specs.Choice.{within_past, not_beyond}
 use Rattle.whole.specs.Tests.{le_yes, lt_yes, yes_le, yes_lt}
 use Rattle.rules.specs.Limits.{longest_step, roughest, least_dry, deepest, fullest, fastest}
 use Rattle.rules.specs.Friction.{drag, slowed}
-use Rattle.rules.specs.Refusals.{outside, past}
+use Rattle.rules.specs.Refusals.{outside}
 use Rattle.rules.proofs.Laws.Inside.{above_least, below_most, not_outside}
 use Rattle.reach.specs.Ranges.{UpTo}
-use Rattle.speeds.specs.Given.{given}
-use Rattle.speeds.proofs.Fits.{in_discharge}
-use Rattle.friction.specs.Given.{step_fits, rough_fits, wet_fits, speed_fits, strength_fits, strongest, strength_given, slowed_given}
+use Rattle.speeds.proofs.Fits.{in_discharge, in_speed}
+use Rattle.friction.specs.Given.{step_fits, rough_fits, wet_fits, strength_fits, strongest, strength_given, slowed_given}
 
 -- ---- a number in a list that starts at nought
 up_to : (m : ℕ) (x : ℤ) → not (outside (pos 0) (pos m) x) ≡ true → (pos 0 ≤ℤ x) × Within m x
@@ -44,21 +43,17 @@ wet_in h e =
     let low = lt_z least_dry h in let high = le_z h deepest in
     (lt_yes least_dry h (and_l low high e), le_yes h deepest (and_r low high e))
 
-pub speed_in : (u : ℤ) → speed_fits u ≡ true → UpTo fastest u
-unfolding speed_fits
-speed_in u e = within_past 131072 u (not-true (past fastest u) e)
-
 pub strength_in : (x : ℤ) → strength_fits x ≡ true → (pos 0 ≤ℤ x) × UpTo strongest x
 unfolding strength_fits
 strength_in x e = up_to 21438427962 x e
 
 -- ---- so within the limits
 pub strength_given_lem : (dt f h u : ℤ) → (pos 0 ≤ℤ dt) × UpTo longest_step dt → (pos 0 ≤ℤ f) × UpTo roughest f
-    → (least_dry <ℤ h) × (h ≤ℤ deepest) → UpTo fastest u → strength_given dt f h u ≡ given (drag dt f h u)
-unfolding strength_given step_fits rough_fits wet_fits speed_fits
+    → (least_dry <ℤ h) × (h ≤ℤ deepest) → UpTo fastest u → strength_given dt f h u ≡ Some (drag dt f h u)
+unfolding strength_given step_fits rough_fits wet_fits
 strength_given_lem dt f h u a b w s =
-    rw (in_list 4096 dt a, in_list 200 f b, yes_lt least_dry h w.0, yes_le h deepest w.1, not_beyond 131072 u s)
+    rw (in_list 4096 dt a, in_list 200 f b, yes_lt least_dry h w.0, yes_le h deepest w.1, in_speed u s)
 
-pub slowed_given_lem : (x q : ℤ) → (pos 0 ≤ℤ x) × UpTo strongest x → UpTo fullest q → slowed_given x q ≡ given (slowed x q)
+pub slowed_given_lem : (x q : ℤ) → (pos 0 ≤ℤ x) × UpTo strongest x → UpTo fullest q → slowed_given x q ≡ Some (slowed x q)
 unfolding slowed_given strength_fits
 slowed_given_lem x q p w = rw (in_list 21438427962 x p, in_discharge q w)

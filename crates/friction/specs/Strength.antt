@@ -11,7 +11,14 @@ use Rattle.rules.specs.Limits.{least_dry, deepest, fullest, fastest, roughest, l
 use Rattle.rules.specs.Friction.{cube, drag}
 use Rattle.rules.proofs.Laws.Speeds.{cube_least}
 use Rattle.reach.specs.Ranges.{UpTo}
+use Rattle.friction.specs.declared.strength.Rubbing.{Rubbing}
 use Rattle.friction.specs.Given.{strongest}
+
+-- a time step, a bed and a depth within the limits
+pub record Ranged (at : Rubbing) : Type 0 where
+  pub step : (pos 0 ≤ℤ at.dt) × UpTo longest_step at.dt
+  pub rough : (pos 0 ≤ℤ at.rough) × UpTo roughest at.rough
+  pub wet : (least_dry <ℤ at.h) × (at.h ≤ℤ deepest)
 
 -- what friction divides: for its strength, which is the largest product of the step, and for what it leaves of a discharge
 abbrev pub largest_product : ℤ

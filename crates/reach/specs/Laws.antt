@@ -1,3 +1,4 @@
 -- What follows of the numbers of a reach.
 pub mod DryList
 pub mod Refusals
+pub mod Checks

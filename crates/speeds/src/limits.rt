@@ -1,5 +1,5 @@
-// The limits within which the rules of water at one place are answered, here and in the crates that face and
-// friction are. They keep every product below 2^63.
+// The limits of a depth, a discharge, a dry depth and a speed, beyond which the rules of water at one place
+// give no number. They keep every product below 2^63.
 ghost use Rattle.std.specs.Prelude.{◌≡◌};
 ghost use Rattle.speeds.specs.Given.{depth_fits, discharge_fits, dry_fits, speed_fits};
 

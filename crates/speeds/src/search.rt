@@ -39,7 +39,7 @@ fn cube_guess(h: u64) -> u64
     requires { 0 < h }
     ensures { (0 < result) × (result < 2 ^ 32) }
 {
-    let zeros = u64::leading_zeros(h) as u64;
+    let zeros = h.leading_zeros() as u64;
     let t = (h << zeros) >> 52;
     let top = 63 - zeros;
     let near = 33898930000 + t * (11703300 - 784 * t);
@@ -53,10 +53,7 @@ fn cube_turn(y: u64, x: u64) -> u64
     ensures { (y < (result + 1) * (result + 1) * (result + 1)) × (result ≤ 16384) }
 {
     let end = (2 * x + y / (x * x)) / 3;
-    if end < 16384 {
-        return end;
-    }
-    16384
+    end.min(16384)
 }
 
 // The largest c whose cube is at most 16,777,216·h. One turn ends at it, or 1 above it at 787 of the

@@ -14,13 +14,8 @@ use Rattle.rules.specs.Laws.Sizes.{Sound}
 use Rattle.reach.specs.declared.Reach.{Reach}
 use Rattle.reach.specs.declared.Call.{Call}
 use Rattle.reach.specs.Told.{end_in}
-use Rattle.stage.specs.declared.rows.Side.{Side}
-use Rattle.stage.specs.declared.rows.Flux.{Flux}
 
 -- ---- sides: depth and speed at the left face, depth and speed at the right
-abbrev pub side_in : Side → rules.Side
-side_in x = record { h = x.h; u = x.u }
-
 abbrev pub side_row : rules.Side → rules.Side → List ℤ
 side_row l r = l.h ∷ l.u ∷ r.h ∷ r.u ∷ []
 
@@ -82,9 +77,6 @@ abbrev pub momentum_at : ℤ → List ℤ → State → ℕ → ℤ
 momentum_at dry bed s i = gauss dry (bed_at bed i) (s i)
 
 -- ---- faces: mass, pressure, advection and top speed; then the row that is kept, with the volume
-abbrev pub flux_in : Flux → rules.Flux
-flux_in x = record { F = x.f; K = x.k; A = x.a; S = x.s }
-
 abbrev pub face_row : ℤ → ℤ → rules.Flux → List ℤ
 face_row dx dt x = x.F ∷ x.K ∷ x.A ∷ volume dx dt x ∷ []
 

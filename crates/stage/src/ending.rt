@@ -25,7 +25,7 @@ pub fn end(
     ensures { (ρ : ℕ → ℤ) →
         EndSays (reach_in reach bed.now) (call_on call ρ) (seen u.now) (found_in result) b.new }
 {
-    // true, as what a stage leaves is never too large to be finished
-    let _done = finishing::finish(u, bed, reach, call, b);
+    // what a stage leaves is never too large to be finished
+    finishing::finish(u, bed, reach, call, b).unwrap();
     Refusal::Stage.at(off(b, bed, reach))
 }

@@ -9,35 +9,27 @@ ghost use Rattle.rules.specs.Refusals.{fast_inflow};
 ghost use Rattle.rules.specs.Laws.Sizes.{Sound};
 ghost use Rattle.reach.specs.Told.{end_in};
 ghost use Rattle.reach.specs.Ranges.{UpTo, DryDepth};
-ghost use Rattle.stage.specs.Rows.{side_in, flux_in};
+ghost use Rattle.face.specs.Sides.{side_in, flux_in};
 ghost use Rattle.stage.specs.Ranges.{thin_fastest, DepthIn};
 
-use crate::rows::{Flux, Side};
 use crate::sides::speed_of;
-use face::answer::Carried;
+use face::sides::{Flux, Side};
 use reach::End;
 use reach::limits::{FASTEST, INFLOW, past};
 use reach::size::size;
-use speeds::answer::Whole;
 
-// What crosses between two sides. Both are within the limits, so the face crate never refuses.
+// What crosses between two sides. Both are within the limits, so there always is a flux.
+#[tactic(auto, using(face::proofs::Fits::face_given_lem))]
 pub fn crossing(l: Side, r: Side) -> Flux
     requires { Sound (side_in l) × Sound (side_in r) }
     ensures { flux_in result ≡ face (side_in l) (side_in r) }
 {
-    match face::flux::face(l.h, l.u, r.h, r.u) {
-        Carried::Flux(f, k, a, s) => Flux { f, k, a, s },
-        Carried::Refused => Flux {
-            f: 0,
-            k: 0,
-            a: 0,
-            s: 0,
-        },
-    }
+    face::flux::face(l, r).unwrap()
 }
 
 // The outer side of a wall or an open end: as deep as the inner; its speed is reversed at a wall, the
 // same at an open end.
+#[tactic(auto, unfolding(rules::specs::Ends::outer))]
 fn outer(kind: u32, x: Side) -> Side
     requires { Sound (side_in x) }
     ensures { side_in result ≡ rules.outer kind (side_in x) }
@@ -49,17 +41,16 @@ fn outer(kind: u32, x: Side) -> Side
 }
 
 // The wave speed of a depth within the limits.
+#[tactic(auto, unfolding(speeds::specs::Given::wave_given, speeds::specs::Given::depth_fits))]
 fn wave_of(h: i64) -> i64
     requires { DepthIn h }
     ensures { result ≡ wave h }
 {
-    match speeds::wave::wave(h) {
-        Whole::Is(a) => a,
-        Whole::Refused => 0,
-    }
+    speeds::wave::wave(h).unwrap()
 }
 
 // uQ: the speed of an end's inflow at the depth of its inner side.
+#[tactic(auto, unfolding(rules::specs::Ends::inflow_speed))]
 fn inflow_speed(end: End, x: Side, dry: i64) -> i64
     requires q_le_largest_inflow { end.q ≤ largest_inflow }
     requires depth_in { DepthIn x.h }
@@ -70,6 +61,7 @@ fn inflow_speed(end: End, x: Side, dry: i64) -> i64
 }
 
 // 6, of an end: has it an inflow that is too fast?
+#[tactic(auto, unfolding(rules::specs::Refusals::fast_inflow, rules::specs::Ends::is_inflow))]
 pub fn fast_inflow(end: End, x: Side, dry: i64) -> bool
     requires q_le_largest_inflow { end.q ≤ largest_inflow }
     requires depth_in { DepthIn x.h }
@@ -89,7 +81,7 @@ fn inflow_top(v: i64, x: Side) -> i64
     ensures { result ≡ max_z v (size_z x.u +ℤ wave x.h) }
 {
     let top = size(x.u) + wave_of(x.h);
-    if v <= top { top } else { v }
+    v.max(top)
 }
 
 // What crosses an inflow beside its inner side, as the mass f.

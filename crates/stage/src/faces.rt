@@ -3,11 +3,13 @@ ghost use Rattle.std.specs.Prelude.{◌≡◌, [], suc, ◌≤◌, ◌<◌};
 ghost use Rattle.rules.specs.Laws.Sizes.{Sized};
 ghost use Rattle.reach.specs.Places.{FillStops};
 ghost use Rattle.reach.specs.Ranges.{Numbers};
-ghost use Rattle.stage.specs.Rows.{Sounds, SlowEnds, flux_in, face_row, long_flux, cross_in, long_at, face_row_at};
+ghost use Rattle.face.specs.Sides.{flux_in};
+ghost use Rattle.stage.specs.Rows.{Sounds, SlowEnds, face_row, long_flux, cross_in, long_at, face_row_at};
 ghost use Rattle.stage.specs.Ranges.{Room, FaceRoom};
 
 use crate::ends::{crossing, left_end, right_end};
-use crate::rows::{FaceRow, Flux, Sides, left_side, right_side};
+use crate::rows::{FaceRow, Sides, left_side, right_side};
+use face::sides::Flux;
 use reach::{Call, Reach};
 
 // What crosses face i, between the sides in d.

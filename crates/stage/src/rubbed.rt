@@ -20,10 +20,10 @@ use friction::strength::Rubbing;
 use reach::bed::{Bed, under};
 use reach::friction::rough_at;
 use reach::{Call, Cell, Reach};
-use speeds::answer::Whole;
 
 // How strongly friction acts on a discharge q at a depth h, whose speed has been checked. All is within
-// the limits, so it is never refused.
+// the limits, so there always is one.
+#[tactic(auto, using(friction::proofs::Fits::strength_given_lem))]
 fn strength(call: Call, f: i64, q: i64, h: i64) -> i64
     requires pos_bound { (pos 0 ≤ℤ call.dt) × UpTo longest_step call.dt }
     requires pos_bound_2 { (pos 0 ≤ℤ f) × UpTo roughest f }
@@ -32,28 +32,23 @@ fn strength(call: Call, f: i64, q: i64, h: i64) -> i64
     requires h_value { past fastest (speed call.dry q h) ≡ false }
     ensures { result ≡ drag call.dt f h (speed call.dry q h) }
 {
-    let u = speed_of(q, h, call.dry);
-    match friction::strength::strength(Rubbing {
+    friction::strength::strength(Rubbing {
         dt: call.dt,
         rough: f,
-        h: h,
-        u: u,
-    }) {
-        Whole::Is(x) => x,
-        Whole::Refused => 0,
-    }
+        h,
+        u: speed_of(q, h, call.dry),
+    })
+    .unwrap()
 }
 
-// What friction of strength x leaves of a discharge. Both are within the limits, so it is never refused.
+// What friction of strength x leaves of a discharge. Both are within the limits, so there always is one.
+#[tactic(auto, using(friction::proofs::Fits::slowed_given_lem))]
 fn slowed_by(x: i64, q: i64) -> i64
     requires pos_bound { (pos 0 ≤ℤ x) × UpTo strongest x }
     requires up_to { UpTo fullest q }
     ensures { result ≡ slowed x q }
 {
-    match friction::slowed::slowed(x, q) {
-        Whole::Is(left) => left,
-        Whole::Refused => 0,
-    }
+    friction::slowed::slowed(x, q).unwrap()
 }
 
 // What friction of strength d leaves of a cell, whose level stays.

@@ -14,19 +14,16 @@ use crate::cell::{depths, either_fast};
 use crate::rows::Sides;
 use reach::bed::{Bed, under};
 use reach::{Call, Cell, Reach};
-use speeds::answer::Whole;
 
-// The speed of a discharge at a depth. All are within the limits, so it is never refused.
+// The speed of a discharge at a depth. All are within the limits, so there always is one.
+#[tactic(auto, using(speeds::proofs::Fits::speed_given_lem))]
 pub fn speed_of(q: i64, h: i64, dry: i64) -> i64
     requires up_to { UpTo fullest q }
     requires depth_in { DepthIn h }
     requires dry_depth { DryDepth dry }
     ensures { result ≡ speed dry q h }
 {
-    match speeds::speed::speed(q, h, dry) {
-        Whole::Is(u) => u,
-        Whole::Refused => 0,
-    }
+    speeds::speed::speed(q, h, dry).unwrap()
 }
 
 // Depth and speed at two places of a cell, one on each side of its middle: at the depth m - d the

@@ -6,6 +6,7 @@ use Rattle.reach.specs.declared.answer.Refusal.{Refusal}
 use Rattle.reach.specs.declared.answer.Refusal.TheVariants as refusal
 use Rattle.reach.specs.declared.answer.Refused.{Refused}
 use Rattle.reach.specs.Refusals.{number_of, refused_at}
+use Rattle.rules.specs.Found.{at}
 use Rattle.reach.specs.Told.{found_in}
 
 -- a refusal has a number,
@@ -38,6 +39,10 @@ module _ (k : Refusal) where
     where
       different : ◌≡◌ {A = Result (Unit {0}) Refused} (Err (record { refusal = k; place = i })) (Ok x) → ⊥
       different d = let z : ◌≡◌ {A = ℕ} 0 1 = cc in omega arith
+
+  -- and so what is told of it is this refusal there
+  pub told_there : (o : Option ℕ) (e : Refused) → refused_at k o ≡ Err e → found_in {A = Unit {0}} (Err e) ≡ at (number_of k) e.place
+  told_there o e is = ap (λ (m : Refusal). at (number_of m) e.place) (stopped_at o e is).1
 
 -- and what has gone on has none
 pub went_on_none : {A : Type 0} {r : Result A Refused} {x : A} → r ≡ Ok x → (found_in r).no ≡ 0

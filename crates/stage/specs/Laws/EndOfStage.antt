@@ -1,6 +1,6 @@
 -- The end of a stage: its finished cells, and their range, which can be checked because they are not too wide.
 -- Assumes nothing.
-use Rattle.std.specs.Prelude.{◌≡◌, Bool, true, ℕ, ◌<◌, ℤ, Option, None, Some}
+use Rattle.std.specs.Prelude.{◌≡◌, ℕ, ◌<◌, ℤ, Option, None, Some, Result, IsOk}
 use Rattle.std.proofs.Common.{sym, ◌∙◌}
 use Rattle.std.proofs.Math.Path.{ap, subst}
 use mathlib.Core.List.{List}
@@ -19,6 +19,7 @@ use Rattle.reach.specs.Refusals.{refused_at}
 use Rattle.reach.specs.Places.{first_place, found_says, none_says}
 use Rattle.reach.specs.Told.{reach_in, call_on, found_in}
 use Rattle.reach.specs.Ranges.{Grounds, Wide, AllUnfinished}
+use Rattle.finishing.specs.declared.unfit.Unfit.{Unfit}
 use Rattle.finishing.specs.FinishSays.{FinishSays}
 use Rattle.stage.specs.Ranges.{Smalls, Ranged}
 use Rattle.stage.specs.Says.{range_check, EndSays}
@@ -29,8 +30,8 @@ pub unfinished : (bed : List ℤ) (n : ℕ) (s : State) → Grounds bed n → Sm
 unfinished bed n s g w i l = record { grounded = g i l; wide = small_wide (w i l) }
 
 -- a table b that finishing filled from u
-module _ {reach : ToldReach} {call : ToldCall} {bed : List ℤ} {u : List (List ℤ)} {done : Bool} {old b : List (List ℤ)}
-    (says : FinishSays reach call bed u done old b) (works : done ≡ true) (ρ : ℕ → ℤ) where
+module _ {reach : ToldReach} {call : ToldCall} {bed : List ℤ} {u : List (List ℤ)} {done : Result (Unit {0}) Unfit} {old b : List (List ℤ)}
+    (says : FinishSays reach call bed u done old b) (works : IsOk done) (ρ : ℕ → ℤ) where
   abbrev r : Reach
   r = reach_in reach bed
 

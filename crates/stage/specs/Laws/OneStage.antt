@@ -1,6 +1,6 @@
 -- A stage: what it answers by the check that stopped it, and that its faces and its cells are the rule's.
 -- Assumes nothing.
-use Rattle.std.specs.Prelude.{◌≡◌, false, List, [], ℕ, suc, ◌≤◌, ◌<◌, get_or, ℤ, pos, Option, None, Some}
+use Rattle.std.specs.Prelude.{◌≡◌, false, List, [], ℕ, suc, ◌≤◌, ◌<◌, get_or, ℤ, pos, Option, None, Some, Result, Err}
 use Rattle.std.proofs.Common.{sym, ◌∙◌, subst, arith}
 use Rattle.std.proofs.Math.Path.{ap}
 use Rattle.tables.specs.Some.{some}
@@ -17,13 +17,15 @@ use Rattle.rules.proofs.Laws.Verdicts.{stops_at, none_stops}
 use Rattle.reach.specs.declared.Reach.{Reach}
 use Rattle.reach.specs.declared.Call.{Call}
 use Rattle.reach.specs.Places.{first_place, found_says, none_says}
-use Rattle.reach.specs.Told.{reach_in, call_on}
+use Rattle.reach.specs.declared.answer.Refused.{Refused}
+use Rattle.reach.specs.Told.{reach_in, call_on, found_in}
+use Rattle.reach.specs.Laws.Refusals.{refused_some}
 use Rattle.reach.specs.Ranges.{UpTo, Numbers}
 use Rattle.stage.specs.Rows.{Sounds, fast_points_at, momentum_at}
 use Rattle.stage.specs.Rows.{face_row, long_flux, long_at, cross_in, face_row_at, update_at}
 use Rattle.stage.specs.Rows as rows
 use Rattle.stage.specs.Ranges.{most_momentum, Small, Smalls, Ranged, FaceRows, Momenta}
-use Rattle.stage.specs.Says.{SlowFaces, FaceSpeedsSay, FacesOf, StageDone}
+use Rattle.stage.specs.Says.{SlowFaces, FaceSpeedsSay, FacesOf, StageDone, StageSays}
 use Rattle.stage.specs.Laws.Faces.{face_rows}
 use Rattle.stage.specs.Laws.UpdateSizes.{update_small}
 use Rattle.stage.specs.Laws.RowsAreRules.{cross_at_lem, update_is}
@@ -49,6 +51,12 @@ module _ {reach : Reach} {call : Call} {bed : List ℤ} {s : State} {k : Option 
     unfolding stage_checks fast_gauss
     says_points e i is = let fast = found_says _ reach.n i (sym e ∙ is) in stops_at checks 1 i (faces_pass, tt) fast.1 fast.2
 
+-- a stage that a check stopped says no more than what it found
+pub stage_stops : {r : rules.Reach} {c : rules.Call} {s : State} {f u : List (List ℤ)} {k : Result (Unit {0}) Refused} (e : Refused)
+    → k ≡ Err e → found_in k ≡ found (stage_checks r c s) → StageSays r c s (found_in k) f u
+stage_stops e is found = let some = refused_some e.refusal in
+    record { found = found; done = λ z. let no = ap (λ k. (found_in k).no) is in let y : ⊥ = omega (arith, some, z, no) in absurd y }
+
 -- the sides of slow faces are sound
 pub sides_sound : {reach : Reach} {call : Call} {bed : List ℤ} {s : State} {d : List (List ℤ)}
     → SlowFaces reach call bed s d → Ranged bed reach.n s → Sounds d reach.n
@@ -65,6 +73,15 @@ pub record Slowed (reach : Reach) (call : Call) (bed : List ℤ) (s : State) (d 
   pub faces : SlowFaces reach call bed s d
   pub slow_faces : (ρ : ℕ → ℤ) → some (fast_face (reach_in reach bed) (call_on call ρ) s) (suc reach.n) ≡ false
   pub slow_points : some (fast_points_at call.dry bed s) reach.n ≡ false
+
+pub slow_stage : {reach : Reach} {call : Call} {bed : List ℤ} {s : State} {d : List (List ℤ)} {k p : Option ℕ}
+    → FaceSpeedsSay reach call bed s k d → k ≡ None → p ≡ first_place (fast_points_at call.dry bed s) reach.n → p ≡ None
+    → Slowed reach call bed s d
+slow_stage says faces points none = record {
+  faces = says.slow faces;
+  slow_faces = λ ρ. faces_pass says ρ faces;
+  slow_points = none_says _ _ (sym points ∙ none);
+}
 
 module _ {reach : Reach} {call : Call} {bed : List ℤ} {s : State} {d : List (List ℤ)} (p : Slowed reach call bed s d) where
   abbrev n : ℕ

@@ -7,7 +7,7 @@ use mir.Facts.{to_z-of_z}
 use Rattle.whole.specs.Flags.{and_l, and_r}
 use Rattle.whole.specs.Parts.{fit}
 use Rattle.whole.specs.Equal.{eq_z, eq_yes}
-use Rattle.whole.specs.Machine.{v, ◌⊗◌, sized, value}
+use Rattle.whole.specs.Machine.{v, ◌⊗◌, sized, need, value}
 use Rattle.rules.specs.Face.{Side, face}
 use Rattle.rules.specs.Lawful.{resting}
 use Rattle.rules.proofs.Laws.Sizes.{depth_size}
@@ -23,6 +23,9 @@ resting_is l r e =
       eq_yes l.u (pos 0) (and_r (eq_z l.h r.h) (eq_z l.u (pos 0)) p),
       eq_yes r.u (pos 0) (and_r (eq_z l.h r.h && eq_z l.u (pos 0)) (eq_z r.u (pos 0)) e),
     )
+
+pub overflow_mul-result : goal.overflow_mul-result
+overflow_mul-result c = need (sized (depth_size c.requires.0.sound) tt ∷ []) (v 0 ⊗ v 0) tt
 
 pub returns-then-still : goal.returns-then-still
 returns-then-still c =

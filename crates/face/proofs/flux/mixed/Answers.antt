@@ -36,6 +36,9 @@ above = sr ⊗ a ⊗ ul ⊝ sl ⊗ b ⊗ ur ⊕ sl ⊗ sr ⊗ (b ⊝ a)
 abbrev below : X
 below = k (pos 4096) ⊗ (sr ⊝ sl)
 
+pub overflow_mul-result : goal.overflow_mul-result
+overflow_mul-result c = need (env c.requires) (sr ⊗ a) tt
+
 pub overflow_mul-result-2 : goal.overflow_mul-result-2
 overflow_mul-result-2 c = need (env c.requires) (sr ⊗ a ⊗ ul) tt
 

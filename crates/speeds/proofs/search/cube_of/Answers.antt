@@ -1,24 +1,14 @@
 -- The cube-root number that the search finds fits 64 bits with a sign: it is at most that of the deepest water.
 use mathlib.Core.Path.{◌≡◌, ◌∙◌, ap}
-use Prim.Native.Nat.{◌≤◌, ◌<◌, ◌^◌}
+use Prim.Native.Nat.{◌<◌, ◌^◌}
 use native.Mathlib.Omega.{arith}
 use lib.IntN.{pos, nat_abs}
-use lib.Signed.{yes_non_neg}
 use mir.Facts.{to_z-of_z}
 use Rattle.whole.specs.Parts.{of_le, b_nonneg}
 use Rattle.whole.specs.Machine.{as_whole}
 use Rattle.rules.specs.Friction.{cube, cube_of}
 use Rattle.rules.proofs.Laws.Speeds.{cube_most}
 use Rattle.speeds.proofs.search.cube_of.Goals as goal
-
-small : (s : goal.Start) → nat_abs s.args.h ≤ 262144
-small s = (b_nonneg s.requires.0 s.requires.1).abs
-
-pub overflow_cast-h : goal.overflow_cast-h
-overflow_cast-h c = simp (to_z-of_z, c.ranges.h) (yes_non_neg c.requires.0, omega (arith, small c))
-
-pub largest_cube-requires : goal.largest_cube-requires
-largest_cube-requires c = simp (to_z-of_z, c.ranges.h) (small c)
 
 module _ (c : goal.After-largest_cube) where
   found : c.largest_cube.result ≡ cube_of (nat_abs c.args.h)

@@ -2,7 +2,8 @@ use Rattle.std.proofs.Common.{◌≡◌, ◌∙◌, sym, ap, subst, [], suc, ◌
 use Rattle.tables.proofs.Filling.{fill_more, fill_stops, fill_ends}
 use Rattle.rules.specs.Laws.Sizes.{Sized}
 use Rattle.reach.specs.Places.{fill_stopped, fill_ended}
-use Rattle.stage.specs.Rows.{flux_in, face_row, long_flux, long_at, face_row_at}
+use Rattle.face.specs.Sides.{flux_in}
+use Rattle.stage.specs.Rows.{face_row, long_flux, long_at, face_row_at}
 use Rattle.stage.specs.Laws.Faces.{cross_sized}
 use Rattle.stage.proofs.faces.faces.Goals as goal
 
