@@ -1,10 +1,10 @@
-// The lent tables. Beyond a table's end nothing is put, and 0 is found.
-ghost use Rattle.std.specs.Prelude.{◌≡◌, ◌≢◌, ℕ, get_or, length, pos};
-
-use crate::numbers::following;
+// The lent tables. Beyond a table's end nothing is put.
+ghost use Rattle.std.specs.Prelude.{◌≡◌, ◌≢◌, ◌<◌, ℕ, get_or, length, pos};
 
 // The 64 bits x as a number with a sign; one that no i32 holds becomes 0.
-pub fn narrow(x: u64) -> i32 {
+pub fn narrow(x: u64) -> i32
+    ensures low { x < 2147483648 → result ≡ pos x }
+{
     i32::try_from(x.cast_signed()).unwrap_or(0)
 }
 
@@ -24,10 +24,6 @@ pub fn put_friction(table: &mut [u16], i: usize, x: u64)
     if i < table.len() {
         table[i] = (x % 65536) as u16;
     }
-}
-
-pub fn at(table: &[i32], i: usize) -> u64 {
-    table.get(i).map_or(0, |x| i64::from(*x).cast_unsigned())
 }
 
 // What a table holds before a call: another number in each place, and others in each call.

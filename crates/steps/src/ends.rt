@@ -1,7 +1,7 @@
 // The two ends of a call: their kinds, and a Q where an inflow is given.
+use crate::fill::at;
 use crate::spoil::{given, third};
 use draw::numbers::{above, below, following, pick};
-use draw::tables::at;
 use step::End;
 
 // What the ends of a call that is drawn from x are drawn from.

@@ -2,7 +2,12 @@
 use crate::kinds::{cells, drawn_cell, face, first_face, roughness, seed};
 use draw::cell::put_cell;
 use draw::numbers::{following, pick};
-use draw::tables::{at, narrow};
+use draw::tables::narrow;
+
+// Beyond a table's end 0 is found.
+pub fn at(table: &[i32], i: usize) -> u64 {
+    table.get(i).map_or(0, |x| i64::from(*x).cast_unsigned())
+}
 
 // Half of a bed value.
 pub fn found(bed: &[i32], i: usize) -> u64 {
