@@ -106,11 +106,6 @@ pub fn roughness(r: u64, i: u64) -> u64 {
     ranging(x, 0, [0u64, 1, 60, 200][(r % 4) as usize])
 }
 
-// How deep a level stands over a bed, or 0 where it is lower.
-fn depth(level: u64, z: u64) -> u64 {
-    level.saturating_sub(z)
-}
-
 // About one level over a floor with sills: low ones, ones that come out of the water, water about as shallow as the dry
 // depth is, and steps far higher than the water is deep. It runs at up to 1/16, 1/4, 1 or 4 m/s.
 fn sills(r: u64, i: u64) -> Cell {
@@ -119,30 +114,23 @@ fn sills(r: u64, i: u64) -> Cell {
     let x = drawn_apart(r, 7, i);
     let z = ranging(x, floor, [900u64, 6000, 90, 90000][k] >> (x % 4 * 6));
     let deep = floor.wrapping_add([3000u64, 3000, 10, 0][k]);
-    let h = depth(
-        ranging(drawn_apart(r, 8, i), deep, [400u64, 400, 80, 9000][k]),
-        z,
-    );
+    let level = ranging(drawn_apart(r, 8, i), deep, [400u64, 400, 80, 9000][k]);
     if has(r, Refusal::Stage) && i % 3 == 1 {
         // water without a speed that any push makes too much, if it is not dried
         return over(z, ranging(x, 0, dry(r)), turned(8388608, x >> 8));
     }
+    // a level below the bed leaves it dry
+    let h = level.saturating_sub(z);
     let fast = drawn_apart(r, 9, 5000) % 4 * 2;
     over(z, h, either_way(drawn_apart(r, 9, i), (h << fast) >> 4))
 }
 
 // Pools of seven cells, with islands, each of its own level between walls that are dry.
 fn lake(r: u64, i: u64) -> Cell {
-    let z = ranging(
-        drawn_apart(r, 7, i),
-        if i % 8 == 7 { 8001 } else { 0 },
-        9000,
-    );
-    over(
-        z,
-        depth(ranging(drawn_apart(r, 8, i / 8), 2001, 6000), z),
-        0,
-    )
+    let low = if i % 8 == 7 { 8001 } else { 0 };
+    let z = ranging(drawn_apart(r, 7, i), low, 9000);
+    let level = ranging(drawn_apart(r, 8, i / 8), 2001, 6000);
+    over(z, level.saturating_sub(z), 0)
 }
 
 // At the ends of the ranges, with the greatest speed, or the greatest discharge where there is none.
