@@ -1,6 +1,14 @@
 // The lent tables. Beyond a table's end nothing is put.
 ghost use Rattle.std.specs.Prelude.{◌≡◌, ◌≢◌, ◌<◌, ℕ, get_or, length, pos};
 
+#[derive(Clone, Copy, Debug, PartialEq, Eq)]
+pub enum Table {
+    State,
+    Next,
+    Bed,
+    Friction,
+}
+
 // The 64 bits x as a number with a sign; one that no i32 holds becomes 0.
 pub fn narrow(x: u64) -> i32
     ensures low { x < 2147483648 → result ≡ pos x }

@@ -146,13 +146,8 @@ fn sound(r: u64, i: u64) -> Cell {
     match kind(r) {
         15..=16 => limits(r, i),
         17..=19 => lake(r, i),
-        _ => {
-            if has(r, Refusal::Stage) && r % 2 == 0 {
-                limits(r, i)
-            } else {
-                sills(r, i)
-            }
-        }
+        _ if has(r, Refusal::Stage) && r.is_multiple_of(2) => limits(r, i),
+        _ => sills(r, i),
     }
 }
 

@@ -12,7 +12,7 @@ mod numbers;
 ghost use Rattle.std.specs.Prelude.{◌≤◌};
 
 use draw::sums::{mixed, summed};
-use draw::tables::{narrow, put, put_friction};
+use draw::tables::{Table, narrow, put, put_friction};
 use kinds::{cells, drawn_cell, dry, dt, dx, has, roughness, times};
 use numbers::drawn_apart;
 use reach::answer::{Refusal, Refused, Volumes};
@@ -52,28 +52,48 @@ impl Tally {
     }
 }
 
-// A length that is wrong by one, or right for no cell or for 1,025, of table k: state, next, bed or friction; `right` at
-// the tables that have no fault.
-fn spoilt_length(r: u64, k: u64, right: usize) -> usize {
-    match drawn_apart(r, 11, 0) % 10 {
-        8 => 0,
-        9 => [2050, 1025][(k / 2 % 2) as usize],
-        x if x / 2 != k => right,
-        x if x % 2 == 0 => right.wrapping_sub(1),
-        _ => right.wrapping_add(1),
+// How long a table is for n cells.
+fn right_length(table: Table, n: usize) -> usize
+    requires { n ≤ 1025 }
+{
+    match table {
+        Table::State | Table::Next => 2 * n,
+        Table::Bed | Table::Friction => n,
     }
 }
 
-// How much of table k of m is lent.
-fn lent(r: u64, k: u64, m: usize) -> usize
+// One table of a length that is wrong by one, or all of them right for no cell or for 1,025.
+fn spoilt_length(r: u64, table: Table, n: usize) -> usize
+    requires { n ≤ 1025 }
+{
+    let x = drawn_apart(r, 11, 0) % 10;
+    let spoilt = match x {
+        0 | 1 => Table::State,
+        2 | 3 => Table::Next,
+        4 | 5 => Table::Bed,
+        6 | 7 => Table::Friction,
+        8 => return right_length(table, 0),
+        _ => return right_length(table, 1025),
+    };
+    let right = right_length(table, n);
+    if spoilt != table {
+        right
+    } else if x.is_multiple_of(2) {
+        right.wrapping_sub(1)
+    } else {
+        right.wrapping_add(1)
+    }
+}
+
+// How much of a table of m is lent.
+fn lent(r: u64, table: Table, m: usize) -> usize
     ensures { result ≤ m }
 {
     let n = cells(r);
-    let right = if k < 2 { 2 * n } else { n };
-    if !has(r, Refusal::Lengths) {
-        return right.min(m);
+    if has(r, Refusal::Lengths) {
+        return spoilt_length(r, table, n).min(m);
     }
-    spoilt_length(r, k, right).min(m)
+    right_length(table, n).min(m)
 }
 
 // Number k of a call: dx, dt, the dry depth and the kinds of the two ends. It is `right` where it has no fault.
@@ -121,10 +141,10 @@ fn stepped(
         left: given(r, 3, drawn_apart(r, 13, 0) % 2),
         right: given(r, 4, drawn_apart(r, 13, 1) % 2),
     };
-    let a = lent(r, 0, state.len());
-    let b = lent(r, 1, next.len());
-    let c = lent(r, 2, bed.len());
-    let d = lent(r, 3, friction.len());
+    let a = lent(r, Table::State, state.len());
+    let b = lent(r, Table::Next, next.len());
+    let c = lent(r, Table::Bed, bed.len());
+    let d = lent(r, Table::Friction, friction.len());
     let answer = sill::step(&state[..a], &mut next[..b], &bed[..c], &friction[..d], call);
     let u = t.told(answer);
     Tally {
@@ -158,8 +178,8 @@ fn line(
 
 fn run(rt: &impl Print, r: u64) -> io::Result<()> {
     let n = cells(r);
-    let a = lent(r, 0, 2056);
-    let b = lent(r, 1, 2056) + 8;
+    let a = lent(r, Table::State, 2056);
+    let b = lent(r, Table::Next, 2056) + 8;
     let mut state = [0i32; 2064];
     let mut bed = [0i32; 1032];
     let mut friction = [0u16; 1032];

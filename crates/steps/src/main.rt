@@ -13,7 +13,7 @@ mod spoil;
 
 use draw::numbers::{SEED, above, following, pick};
 use draw::sums::{mixed, summed};
-use draw::tables::fill_pattern;
+use draw::tables::{Table, fill_pattern};
 use ends::{left_end, right_end};
 use kinds::{cells, dry, seed};
 use spoil::{given, lent, ready, ready_bed, ready_friction, second, third};
@@ -103,7 +103,7 @@ impl Turn {
         let u = self.begun();
         ready(state, u.reach, self.tries, u.x);
         // some numbers of `next` beyond the lent part too
-        let m = 8 + lent(1, u.reach, 4096, u.x);
+        let m = 8 + lent(Table::Next, u.reach, 4096, u.x);
         let mut next = [0i32; 4104];
         u.called(state, &mut next[..m]).ended()
     }
@@ -182,10 +182,10 @@ fn answer(x: u64, r: u64, dt: u64, state: &[i32], next: &mut [i32]) -> Answer {
     ready_bed(&mut bed, r, x);
     let mut friction = [0u16; 1032];
     ready_friction(&mut friction, r, x);
-    let a = lent(0, r, state.len(), x);
-    let b = lent(1, r, next.len(), x);
-    let c = lent(2, r, 1032, x);
-    let d = lent(3, r, 1032, x);
+    let a = lent(Table::State, r, state.len(), x);
+    let b = lent(Table::Next, r, next.len(), x);
+    let c = lent(Table::Bed, r, 1032, x);
+    let d = lent(Table::Friction, r, 1032, x);
     made(
         x,
         r,

@@ -5,7 +5,7 @@ use crate::fill::{fill_bed, fill_friction, fill_state, found};
 use crate::kinds::{cells, dry};
 use draw::cell::{Cell, over, put_cell};
 use draw::numbers::{above, following, pick, turned};
-use draw::tables::{put, put_friction};
+use draw::tables::{Table, put, put_friction};
 
 // The faults that a call may have. They are the bits of a set, since a call may have two.
 const LENGTHS: u64 = 1;
@@ -35,11 +35,15 @@ pub fn third(x: u64) -> u64 {
     following(second(x))
 }
 
-// How long table k is for n cells: state, next, bed or friction.
-fn right_length(k: u64, n: usize) -> usize
+// How long a table is for n cells.
+fn right_length(table: Table, n: usize) -> usize
     requires { n ≤ 1025 }
 {
-    [4 * n, 4 * n, n + 1, n][(k % 4) as usize]
+    match table {
+        Table::State | Table::Next => 4 * n,
+        Table::Bed => n + 1,
+        Table::Friction => n,
+    }
 }
 
 // A length that is wrong by one or by more, or none.
@@ -53,28 +57,34 @@ fn wrong_length(a: usize, x: u64) -> usize {
 }
 
 // One table of a wrong length, or all of them right for no cell or for 1,025.
-fn spoilt_length(k: u64, n: usize, x: u64) -> usize
+fn spoilt_length(table: Table, n: usize, x: u64) -> usize
     requires { n ≤ 1025 }
 {
-    match x % 8 {
-        6 => right_length(k, 0),
-        7 => right_length(k, 1025),
-        y if [0u64, 0, 1, 1, 2, 3][(y % 6) as usize] == k => {
-            wrong_length(right_length(k, n), x >> 3)
-        }
-        _ => right_length(k, n),
+    let spoilt = match x % 8 {
+        0 | 1 => Table::State,
+        2 | 3 => Table::Next,
+        4 => Table::Bed,
+        5 => Table::Friction,
+        6 => return right_length(table, 0),
+        _ => return right_length(table, 1025),
+    };
+    let right = right_length(table, n);
+    if spoilt == table {
+        wrong_length(right, x >> 3)
+    } else {
+        right
     }
 }
 
-// How much of table k, which has m, is lent of the reach r.
-pub fn lent(k: u64, r: u64, m: usize, x: u64) -> usize
+// How much of a table, which has m, is lent of the reach r.
+pub fn lent(table: Table, r: u64, m: usize, x: u64) -> usize
     ensures { result ≤ m }
 {
     let n = cells(r);
     if has(x, LENGTHS) {
-        return spoilt_length(k, n, third(x)).min(m);
+        return spoilt_length(table, n, third(x)).min(m);
     }
-    right_length(k, n).min(m)
+    right_length(table, n).min(m)
 }
 
 // A number outside its list, just or by much: dx, dx, dt, dt, J, dry depth, dry depth, the kinds of the
