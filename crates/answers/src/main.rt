@@ -9,10 +9,11 @@
 mod read;
 mod show;
 
+use reach::answer::Answer;
 use read::{field, fill, fill_state, given, lent};
 use show::{show_answer, show_next};
 use std::io;
-use step::{Answer, End, Given};
+use step::{End, Given};
 
 fn called(case: &str, state: &[i32], next: &mut [i32], bed: &[i32], friction: &[u16]) -> Answer {
     let left = End {

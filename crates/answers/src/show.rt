@@ -1,6 +1,6 @@
 // An answer, and what `next` holds after it.
+use reach::answer::{Answer, Refused, Volumes};
 use std::io;
-use step::{Answer, Refused, Volumes};
 
 pub fn show_answer(rt: &impl Print, answer: Answer) -> io::Result<()> {
     match answer {

@@ -15,8 +15,8 @@ use draw::sums::{mixed, summed};
 use draw::tables::{Table, narrow, put, put_friction};
 use kinds::{cells, drawn_cell, dry, dt, dx, has, roughness, times};
 use numbers::drawn_apart;
-use reach::answer::{Refusal, Refused, Volumes};
-use sill::{Answer, Given};
+use reach::answer::{Answer, Refusal, Refused, Volumes};
+use sill::Given;
 use std::io;
 
 // What came of the steps of a reach: how many were accepted, what came in and went out, the refusal and its place, and

@@ -16,9 +16,10 @@ use draw::sums::{mixed, summed};
 use draw::tables::{Table, fill_pattern};
 use ends::{left_end, right_end};
 use kinds::{cells, dry, seed};
+use reach::answer::{Answer, Refusal, Refused, Volumes};
 use spoil::{given, lent, ready, ready_bed, ready_friction, second, third};
 use std::io;
-use step::{Answer, Given, Refusal, Refused, Volumes};
+use step::Given;
 
 // Where a block has come to: what the last call was drawn from, its refusal, if there was one, and the
 // running sum; and the reach, which is tried again with another dt while tries are left: `low` was

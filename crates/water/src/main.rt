@@ -14,9 +14,10 @@ use draw::sums::summed;
 use draw::tables::fill_pattern;
 use fill::{fill_bed, fill_state, lent_bed, lent_next, lent_state, lent_sums};
 use kinds::{cells, fault_in};
+use reach::answer::Answer;
+use reach::{End, Given};
 use show::{show_between, show_made, show_reach, show_step, show_sum};
 use std::io;
-use sums::{Answer, End, Given};
 
 // The faces of question j of a reach: its ends; about a block from either end; any in order; and any, or beyond it.
 fn first_face(r: u64, j: u64) -> u32 {

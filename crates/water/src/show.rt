@@ -1,7 +1,8 @@
 // Answers, in words.
 use crate::kinds::Fault;
+use reach::answer::{Answer, Refusal, Refused, Volumes};
 use std::io;
-use sums::{Answer, Refusal, Refused, Volumes, Water};
+use sums::Water;
 
 fn show_refusal(rt: &impl Print, refusal: Refusal) -> io::Result<()> {
     print!(rt; " refused {}", u32::from(refusal))
