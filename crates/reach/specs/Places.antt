@@ -4,6 +4,7 @@
 use Rattle.std.specs.Prelude.{◌≡◌, refl, Bool, true, false, cond, List, ℕ, ◌≤◌, ◌<◌, Option, None, Some, unwrap_or}
 use Rattle.std.proofs.Common.{sym, ◌∙◌, ap, subst, arith}
 use Rattle.whole.specs.Flags.{by}
+use Rattle.std.specs.Option.{is_some}
 use Rattle.tables.specs.Some.{some, lowest, IsLowest}
 use Rattle.tables.specs.Filling.{FillSays}
 use Rattle.tables.proofs.Some.{is_lowest, lowest_is, lowest_below, lowest_past, none_some, yes_some}
@@ -61,3 +62,7 @@ found_says p n i e = by (some p n)
 pub none_says : (p : ℕ → Bool) (n : ℕ) → first_place p n ≡ None → some p n ≡ false
 unfolding first_place
 none_says p n e = by (some p n) (λ d. never (sym (rw d at e))) (λ d. d)
+
+pub is_some_place : (p : ℕ → Bool) (n : ℕ) → is_some (first_place p n) ≡ some p n
+unfolding first_place
+is_some_place p n = by (some p n) (λ d. rw d refl) (λ d. rw d refl)

@@ -12,13 +12,7 @@ use reach::answer::{Refusal, Refused};
 use reach::{Call, Cell, Reach};
 
 // The unfinished state u, finished, into b; an 8 where that is out of range.
-pub fn end(
-    u: &[Cell],
-    bed: &[i32],
-    reach: Reach,
-    call: Call,
-    b: &mut [Cell],
-) -> Result<(), Refused>
+pub fn end(u: &[Cell], bed: &[i32], reach: Reach, call: Call, b: &mut [Cell]) -> Result<(), Refused>
     requires n_le_most_cells { (reach.n ≤ most_cells) × (length bed.now ≡ reach.n + 1) × Room reach u.now × Room reach b.old }
     requires numbers { Numbers reach call }
     requires grounds { Grounds bed.now reach.n × Smalls reach.n (seen u.now) }

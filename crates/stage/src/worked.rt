@@ -1,6 +1,7 @@
 // The whole step, worked on tables of this crate's own and stored in the lent one at its end.
 ghost use Rattle.std.specs.Prelude.{◌≡◌, ◌+◌, ◌*◌, ◌≤◌, ◌<◌, length};
 ghost use Rattle.tables.specs.Cells.{seen};
+ghost use Rattle.rules.specs.Limits.{most_cells};
 ghost use Rattle.rules.specs.Found.{found};
 ghost use Rattle.reach.specs.Told.{found_in};
 ghost use Rattle.reach.specs.Ranges.{DryDepth, Wides};
@@ -28,13 +29,7 @@ const SHORT_CELLS: usize = 128;
 const SHORT_FACES: usize = SHORT_CELLS + 1;
 
 // Checks 3 to 5 and the friction speeds of the lent state in t, in their order.
-fn ready(
-    t: &[Cell],
-    bed: &[i32],
-    friction: &[u16],
-    reach: Reach,
-    call: Call,
-) -> Result<(), Refused>
+fn ready(t: &[Cell], bed: &[i32], friction: &[u16], reach: Reach, call: Call) -> Result<(), Refused>
     requires room { Room reach t.now × (length bed.now ≡ reach.n + 1) × (length friction.now ≡ reach.n) }
     requires wides { Wides reach.n (seen t.now) × DryDepth call.dry }
     ensures { found_in result
@@ -162,7 +157,7 @@ fn on_own_tables<const N: usize, const F: usize>(
 ) -> Answer
     requires in_order { InOrder reach call bed.now × (length state.now ≡ 4 * reach.n)
         × (length next.old ≡ 4 * reach.n) × (length friction.now ≡ reach.n) }
-    requires room { (reach.n ≤ N) × (reach.n < F) }
+    requires room { (reach.n ≤ N) × (reach.n < F) × (N ≤ most_cells) × (F ≤ most_cells + 1) }
     ensures { TablesSay reach call bed.now friction.now state.now
         result next.old next.new }
 {
@@ -209,9 +204,7 @@ pub fn work(state: &[i32], next: &mut [i32], bed: &[i32], friction: &[u16], give
         });
     }
     if n <= SHORT_CELLS {
-        return on_own_tables::<SHORT_CELLS, SHORT_FACES>(
-            state, next, bed, friction, reach, call,
-        );
+        return on_own_tables::<SHORT_CELLS, SHORT_FACES>(state, next, bed, friction, reach, call);
     }
     on_own_tables::<CELLS, FACES>(state, next, bed, friction, reach, call)
 }

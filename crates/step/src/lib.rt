@@ -7,9 +7,9 @@ ghost use Rattle.rules.specs.Lent.{step_of};
 ghost use Rattle.stage.specs.Worked.{lent_by};
 ghost use Rattle.step.specs.Gives.{Gives};
 
-pub use reach::answer::Answer;
+pub use reach::answer::{Answer, Refusal, Refused, Volumes};
 pub use reach::{End, Given};
-use stage::worked::{Worked, work};
+use stage::worked::work;
 
 // The step of 01: `state` is now, `next` where the new state goes, each in four columns of n: level means,
 // level slopes, discharge means, discharge slopes; n is the length of `friction`, and `bed` has n + 1 values. The
@@ -19,8 +19,5 @@ pub fn step(state: &[i32], next: &mut [i32], bed: &[i32], friction: &[u16], call
         (step_of (lent_by state.now (length next.old) bed.now friction.now call))
         result next.old next.new }
 {
-    match work(state, next, bed, friction, call) {
-        Worked::Refused(k, p) => Answer::Refused(k, p),
-        Worked::Done(w, v) => Answer::Accepted(w, v),
-    }
+    work(state, next, bed, friction, call)
 }

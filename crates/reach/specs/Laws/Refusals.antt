@@ -21,6 +21,9 @@ refused_some refusal.TimeStep = omega arith
 refused_some refusal.Stage = omega arith
 refused_some refusal.Faces = omega arith
 
+pub not_none : (k : Refusal) → number_of k ≡ 0 → ⊥
+not_none k z = let some = refused_some k in omega (arith, some, z)
+
 -- a refusal at what a search found tells its place,
 module _ (k : Refusal) where
   pub stopped_at : (o : Option ℕ) (e : Refused) → refused_at k o ≡ Err e → (o ≡ Some e.place) × (e.refusal ≡ k)

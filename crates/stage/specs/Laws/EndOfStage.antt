@@ -65,7 +65,7 @@ module _ {reach : ToldReach} {call : ToldCall} {bed : List ℤ} {u : List (List 
           stops_at (range_check r (finish r c (seen u))) 0 i tt (at_cell.1 ∙ lowest_same _ (off r (finish r c (seen u))) reach.n off_same) at_cell.2
       found None e =
           none_stops (range_check r (finish r c (seen u)))
-              (sym (some_same _ (off r (finish r c (seen u))) reach.n off_same) ∙ none_says _ reach.n (sym e), tt)
+          (sym (some_same _ (off r (finish r c (seen u))) reach.n off_same) ∙ none_says _ reach.n (sym e), tt)
 
 -- an end that passed leaves its cells in range
 pub end_ranged : (reach : ToldReach) (call : ToldCall) (bed : List ℤ) (ρ : ℕ → ℤ) {v : State} {k : Found} {b : List (List ℤ)}

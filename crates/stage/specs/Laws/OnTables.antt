@@ -13,17 +13,18 @@ use Rattle.rules.specs.Limits.{least_dry}
 use Rattle.rules.specs.Reach.{Reach, Call, State, bed_at}
 use Rattle.rules.specs.Step.{rubbed_cell, rubbed, next}
 use Rattle.rules.specs.Refusals.{Check, off, stage_checks, Clear}
-use Rattle.rules.specs.Found.{Found, found}
+use Rattle.rules.specs.Found.{Found, at, found}
 use Rattle.rules.proofs.Laws.Verdicts.{stopped, clear_found, clear_at, went_on}
 use Rattle.rules.proofs.Laws.Alike.{same_found}
 use Rattle.reach.specs.declared.Reach.{Reach as ToldReach}
 use Rattle.reach.specs.declared.Call.{Call as ToldCall}
 use Rattle.reach.specs.declared.answer.Refused.{Refused}
 use Rattle.reach.specs.Told.{reach_in, call_on, found_in}
-use Rattle.reach.specs.Laws.Refusals.{refused_some}
+use Rattle.reach.specs.Refusals.{number_of}
+use Rattle.reach.specs.Laws.Refusals.{refused_some, not_none}
 use Rattle.stage.specs.Rows.{volume_at, rubbed_at}
 use Rattle.stage.specs.Ranges.{Inside, Ranged, Slows}
-use Rattle.stage.specs.Says.{ready_checks, both_checks, Shows, StepSays}
+use Rattle.stage.specs.Says.{ready_checks, both_checks, LoadSays, Shows, StepSays}
 use Rattle.stage.specs.Stored.{Fits, AllFit}
 use Rattle.stage.specs.Worked.{Volume, TablesSay}
 use Rattle.stage.specs.Laws.CellSizes.{cell_sizes, volume_size}
@@ -44,6 +45,11 @@ pub record Loaded (reach : ToldReach) (call : ToldCall) (bed : List ℤ) (fricti
     (k : Checked) : Type 0 where
   pub cells : Holds a reach.n (cell_in reach.n state)
   pub found : found_in k ≡ found (ready_checks call.dry reach.n bed friction (seen a))
+
+pub loaded : (reach : ToldReach) (call : ToldCall) {bed : List ℤ} {friction : List ℕ} {state : List ℤ} {old a : List (List ℤ)} {k : Checked}
+    → LoadSays reach.n state old a → found_in k ≡ found (ready_checks call.dry reach.n bed friction (seen a))
+    → Loaded reach call bed friction state a k
+loaded reach call load ready = record { cells = load.cells.below; found = ready }
 
 module _
     {reach : ToldReach} {call : ToldCall} {bed : List ℤ} {friction : List ℕ} {state : List ℤ} {a : List (List ℤ)} {k : Checked}
@@ -71,7 +77,7 @@ module _
 
   pub ready_stops : (e : Refused) → k ≡ Err e → (old : List ℤ) → TablesSay reach call bed friction state (Err e) old old
   ready_stops e is old = let some = refused_some e.refusal in record {
-    found = stopped ready (both_checks r c s) (found_in (Err e)) (ap found_in (sym is) ∙ found_ready) (λ z. let y : ⊥ = omega (arith, some, z) in y);
+    found = stopped ready (both_checks r c s) (at (number_of e.refusal) e.place) (ap found_in (sym is) ∙ found_ready) (not_none e.refusal);
     some = some;
     kept = λ i. old;
   }
@@ -98,14 +104,15 @@ module _
           (rubbed_inside call.dt call.dry (rough i) (bed_at bed i) (seen a i) p m (loaded_ranged i l))
 
     -- ---- both stages have answered m
-    module _ (o : 0 < n) {m : Checked} {f x b : List (List ℤ)} (both : StepSays r c s (found_in m) f x b) where
-      found_both : found_in m ≡ found (ready ++ both_checks r c s)
+    module _ (o : 0 < n) {m : Found} {f x b : List (List ℤ)} (both : StepSays r c s m f x b) where
+      found_both : m ≡ found (ready ++ both_checks r c s)
       found_both = both.found ∙ went_on ready (both_checks r c s) tt found_ready z
 
-      pub both_stops : (e : Refused) → m ≡ Err e → (old : List ℤ) → TablesSay reach call bed friction state (Err e) old old
-      both_stops e is old = record { found = ap found_in (sym is) ∙ found_both; some = refused_some e.refusal; kept = λ i. old }
+      pub both_stops : (e : Refused) → m ≡ at (number_of e.refusal) e.place → (old : List ℤ)
+          → TablesSay reach call bed friction state (Err e) old old
+      both_stops e is old = record { found = sym is ∙ found_both; some = refused_some e.refusal; kept = λ i. old }
 
-      module _ (y : (found_in m).no ≡ 0) where
+      module _ (y : m.no ≡ 0) where
         volume_in : (i : ℕ) → i < suc n → Volume (volume_at f x i)
         volume_in i l = let d = both.done y in volume_size (d.one.sized i l).vol (d.two.sized i l).vol
 

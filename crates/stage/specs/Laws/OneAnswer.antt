@@ -14,7 +14,7 @@ module _ (r : Reach) (c : Call) (s : State) (k : Found) (old new new' : List ℤ
   pub one_said : (w v : Answer) → Says r c s k w old new → Says r c s k v old new' → (w ≡ v) × (new ≡ new')
   one_said (Err d) (Err e) p q = (
     let same = p.found ∙ sym q.found in
-    ap Err (one_refused d e (ap (λ (f : Found). f.no) same) (ap (λ (f : Found). f.place) same)),
+        ap Err (one_refused d e (ap (λ (f : Found). f.no) same) (ap (λ (f : Found). f.place) same)),
     p.kept ∙ sym q.kept,
   )
   one_said (Err d) (Ok b) p q = never p q

@@ -117,7 +117,7 @@ module _ {reach : Reach} {call : Call} {bed : List ℤ} {s : State} {d : List (L
       says_none is =
           let short = none_says _ (suc n) (sym e ∙ is) in
           none_stops (stage_checks r c s)
-              (p.slow_faces ρ, (p.slow_points, (sym (some_same _ (too_long r c s) (suc n) long_same) ∙ short, tt)))
+          (p.slow_faces ρ, (p.slow_points, (sym (some_same _ (too_long r c s) (suc n) long_same) ∙ short, tt)))
 
     -- ---- what it leaves
     module _ (inside : Ranged bed n s) (num : Numbers reach call) (x : List (List ℤ)) (g : List ℤ)

@@ -1,15 +1,15 @@
 -- What a stage leaves can be finished, and its finished cells are small enough for their range to be checked.
-use Rattle.std.proofs.Common.{◌≡◌, ◌∙◌, ap, true, not, pos, arith}
+use Rattle.std.proofs.Common.{◌∙◌, ap, not, pos}
+use Rattle.std.specs.Result.{is_ok}
 use Rattle.tables.specs.Cells.{seen}
 use Rattle.finishing.specs.Laws.Workable.{works_fit}
-use Rattle.reach.specs.Told.{found_in}
 use Rattle.stage.specs.Laws.EndOfStage.{unfinished, finished_wide, end_says}
 use Rattle.stage.proofs.ending.end.Goals as goal
 
 pub unwrap-requires : goal.unwrap-requires
 unwrap-requires c =
     let a = c.args in let given = c.requires in
-    let works = c.finish.ensures.works ∙ ap not (works_fit a.reach a.call a.bed.now a.u.now _ (record {
+    c.finish.ensures.works ∙ ap not (works_fit a.reach a.call a.bed.now a.u.now _ (record {
       lent = given.n_le_most_cells.2;
       placed = given.n_le_most_cells.3;
       most = given.n_le_most_cells.0;
@@ -18,10 +18,11 @@ unwrap-requires c =
       jump_in = given.numbers.jump_in;
       dry = given.numbers.dry;
       cells = unfinished a.bed.now a.reach.n (seen a.u.now) given.grounds.0 given.grounds.1;
-    })) in ?
+    }))
 
 pub off-requires-clause-all_unfinished : goal.off-requires-clause-all_unfinished
-off-requires-clause-all_unfinished c = finished_wide c.finish.ensures ? (λ i. pos 0) c.requires.grounds.0 c.requires.grounds.1
+off-requires-clause-all_unfinished c =
+    finished_wide c.finish.ensures (ap is_ok c.unwrap.ensures) (λ i. pos 0) c.requires.grounds.0 c.requires.grounds.1
 
 pub returns : goal.returns
-returns c ρ = ?
+returns c ρ = rw c.at.ensures (end_says c.finish.ensures (ap is_ok c.unwrap.ensures) ρ c.off.result c.off.ensures)

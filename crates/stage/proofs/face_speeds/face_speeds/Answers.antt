@@ -14,7 +14,7 @@ pub fast_inflow-requires-clause-depth_in : goal.fast_inflow-requires-clause-dept
 fast_inflow-requires-clause-depth_in c =
     let a = c.args in
     subst (λ (x : rules.Side). DepthIn x.h) (sym c.left_side.ensures)
-        (first_depth a.reach a.call a.bed.now (seen a.t.now) c.requires.n_nonzero.0 c.sides-fast.ensures.fills c.requires.ranged)
+    (first_depth a.reach a.call a.bed.now (seen a.t.now) c.requires.n_nonzero.0 c.sides-fast.ensures.fills c.requires.ranged)
 
 pub returns-then-fast_inflow : goal.returns-then-fast_inflow
 returns-then-fast_inflow c =
@@ -43,15 +43,15 @@ returns-in-Some c =
     let left = sym ((rw dry at c.fast_inflow.ensures) ∙ ap (fast_inflow a.call.dry (end_in a.call.left)) c.left_side.ensures) in
     let at_cell = found_says _ a.reach.n c.in-Some.i (sym c.sides-fast.ensures.stops ∙ c.in-Some.is) in
     says_side a.reach a.call a.bed.now (seen a.t.now) c.requires.n_nonzero.0 (rw c.in-Some.is at c.sides-fast.ensures.fills)
-        (left ∙ c.if-fast_inflow.false) at_cell.2 c.face_beside.ensures
+    (left ∙ c.if-fast_inflow.false) at_cell.2 c.face_beside.ensures
 
 pub fast_inflow-requires-2-clause-depth_in : goal.fast_inflow-requires-2-clause-depth_in
 fast_inflow-requires-2-clause-depth_in c =
     let a = c.args in let dry = back {z = a.call.dry} (omega arith) in
     let left = sym ((rw dry at c.fast_inflow.ensures) ∙ ap (fast_inflow a.call.dry (end_in a.call.left)) c.left_side.ensures) in
     subst (λ (x : rules.Side). DepthIn x.h) (sym c.right_side.ensures)
-        (last_depth a.reach a.call a.bed.now (seen a.t.now) c.requires.n_nonzero.0 (rw c.in_default.is at c.sides-fast.ensures.fills)
-        (left ∙ c.if-fast_inflow.false) (omega arith) c.requires.ranged)
+    (last_depth a.reach a.call a.bed.now (seen a.t.now) c.requires.n_nonzero.0 (rw c.in_default.is at c.sides-fast.ensures.fills)
+    (left ∙ c.if-fast_inflow.false) (omega arith) c.requires.ranged)
 
 pub returns-then-fast_inflow-2 : goal.returns-then-fast_inflow-2
 returns-then-fast_inflow-2 c =
@@ -59,7 +59,7 @@ returns-then-fast_inflow-2 c =
     let left = sym ((rw dry at c.fast_inflow.ensures) ∙ ap (fast_inflow a.call.dry (end_in a.call.left)) c.left_side.ensures) in
     let right = sym ((rw dry at c.fast_inflow-2.ensures) ∙ ap (fast_inflow a.call.dry (end_in a.call.right)) c.right_side.ensures) in
     says_right_inflow a.reach a.call a.bed.now (seen a.t.now) c.requires.n_nonzero.0 (rw c.in_default.is at c.sides-fast.ensures.fills)
-        (left ∙ c.if-fast_inflow.false) (omega arith) (right ∙ c.if-fast_inflow-2.true)
+    (left ∙ c.if-fast_inflow.false) (omega arith) (right ∙ c.if-fast_inflow-2.true)
 
 pub returns : goal.returns
 returns c =
@@ -67,4 +67,4 @@ returns c =
     let left = sym ((rw dry at c.fast_inflow.ensures) ∙ ap (fast_inflow a.call.dry (end_in a.call.left)) c.left_side.ensures) in
     let right = sym ((rw dry at c.fast_inflow-2.ensures) ∙ ap (fast_inflow a.call.dry (end_in a.call.right)) c.right_side.ensures) in
     says_slow a.reach a.call a.bed.now (seen a.t.now) c.requires.n_nonzero.0 (rw c.in_default.is at c.sides-fast.ensures.fills)
-        (left ∙ c.if-fast_inflow.false) (omega arith) (right ∙ c.if-fast_inflow-2.false)
+    (left ∙ c.if-fast_inflow.false) (omega arith) (right ∙ c.if-fast_inflow-2.false)

@@ -11,25 +11,25 @@ pub face_row-requires-clause-sized : goal.face_row-requires-clause-sized
 face_row-requires-clause-sized c =
     let a = c.args in let sided = c.requires.sounds in
     subst Sized (sym c.face_at-x.ensures)
-        (cross_sized a.reach a.call a.d.now c.requires.n_nonzero.0 c.requires.numbers sided.0 sided.1 c.loop-i.i (omega arith))
+    (cross_sized a.reach a.call a.d.now c.requires.n_nonzero.0 c.requires.numbers sided.0 sided.1 c.loop-i.i (omega arith))
 
 pub too_long-requires-clause-sized : goal.too_long-requires-clause-sized
 too_long-requires-clause-sized c =
     let a = c.args in let sided = c.requires.sounds in
     subst Sized (sym c.face_at-x.ensures)
-        (cross_sized a.reach a.call a.d.now c.requires.n_nonzero.0 c.requires.numbers sided.0 sided.1 c.loop-i.i (omega arith))
+    (cross_sized a.reach a.call a.d.now c.requires.n_nonzero.0 c.requires.numbers sided.0 sided.1 c.loop-i.i (omega arith))
 
 pub returns-then-too_long : goal.returns-then-too_long
 returns-then-too_long c =
     let a = c.args in let l = c.loop-i in
     fill_stopped l.i (omega arith) (fill_stops [] _ _ _ _ l.f l.i _ (omega arith) (omega arith) l.invariant
-        (c.face_row.ensures ∙ ap (face_row a.reach.dx a.call.dt) c.face_at-x.ensures)
-        (ap (long_flux a.reach.dx a.call.dt) (sym c.face_at-x.ensures) ∙ sym c.too_long.ensures ∙ c.if-too_long.true))
+    (c.face_row.ensures ∙ ap (face_row a.reach.dx a.call.dt) c.face_at-x.ensures)
+    (ap (long_flux a.reach.dx a.call.dt) (sym c.face_at-x.ensures) ∙ sym c.too_long.ensures ∙ c.if-too_long.true))
 
 pub returns-else-too_long : goal.returns-else-too_long
 returns-else-too_long c =
     let a = c.args in let l = c.loop-i in
     fill_ended (fill_ends [] _ _ _ _ _ (l.i + 1) (omega arith)
-        (fill_more [] _ _ _ _ l.f l.i _ (omega arith) (omega arith) l.invariant
-        (c.face_row.ensures ∙ ap (face_row a.reach.dx a.call.dt) c.face_at-x.ensures)
-        (ap (long_flux a.reach.dx a.call.dt) (sym c.face_at-x.ensures) ∙ sym c.too_long.ensures ∙ c.if-too_long.false)))
+    (fill_more [] _ _ _ _ l.f l.i _ (omega arith) (omega arith) l.invariant
+    (c.face_row.ensures ∙ ap (face_row a.reach.dx a.call.dt) c.face_at-x.ensures)
+    (ap (long_flux a.reach.dx a.call.dt) (sym c.face_at-x.ensures) ∙ sym c.too_long.ensures ∙ c.if-too_long.false)))

@@ -25,3 +25,12 @@ joined_cell-requires-clause-up_to c =
       subst (UpTo widest) (sym (back64 c.end_volume-wl.type_inv c.end_volume-wl.ensures)) (volume_in (rows.0 i (omega arith), rows.1 i (omega arith))),
       subst (UpTo widest) (sym (back64 c.end_volume-wr.type_inv c.end_volume-wr.ensures)) (volume_in (rows.0 (i + 1) (omega arith), rows.1 (i + 1) (omega arith))),
     )
+
+pub loop-i-preserved : goal.loop-i-preserved
+loop-i-preserved c =
+    let a = c.args in let i = c.loop-i.i in let next : i + 1 ≡ suc i = omega arith in
+    let cell = c.loop-i.invariant.above i (omega arith) in
+    let wl = back64 c.end_volume-wl.type_inv c.end_volume-wl.ensures in
+    let wr = back64 c.end_volume-wr.type_inv (c.end_volume-wr.ensures ∙ (λ j. volume_at a.f.now a.g.now (next j))) in
+    filled_more [] a.u.now c.loop-i.u i _ c.joined_cell.result (omega (arith, c.loop-i.invariant.size)) c.loop-i.invariant
+    (c.joined_cell.ensures ∙ (λ j. as_list (joined_cell (seen a.x.now i) (as_cell (cell j)) (wl j) (wr j))))

@@ -19,7 +19,7 @@ returns-then-either_fast c =
     let momentum = back {z = get_or c.points_of-p.result 2 (pos 0)} (omega arith) ∙ ap (λ (r : List ℤ). get_or r 2 (pos 0)) row in
     let fast : fast_points_at a.call.dry a.bed.now (seen a.t.now) l.i ≡ c.either_fast.result = sym (rw (before, behind, row) at c.either_fast.ensures) in
     fill_stopped l.i (omega arith)
-        (fill_stops (pos 0) _ _ _ _ l.g l.i _ (omega arith) (omega arith) l.invariant momentum (fast ∙ c.if-either_fast.true))
+    (fill_stops (pos 0) _ _ _ _ l.g l.i _ (omega arith) (omega arith) l.invariant momentum (fast ∙ c.if-either_fast.true))
 
 pub loop-i-preserved : goal.loop-i-preserved
 unfolding fast_points point_row

@@ -16,7 +16,7 @@ returns-then-either_fast c =
     let right = back {z = get_or c.sides_of-s.result 3 (pos 0)} (omega arith) in
     let fast : fast_sides a.call.dry a.bed.now (seen a.t.now) l.i ≡ c.either_fast.result = sym (rw (left, right, row) at c.either_fast.ensures) in
     fill_stopped l.i (omega arith)
-        (fill_stops [] _ _ _ _ l.d l.i _ (omega arith) (omega arith) l.invariant row (fast ∙ c.if-either_fast.true))
+    (fill_stops [] _ _ _ _ l.d l.i _ (omega arith) (omega arith) l.invariant row (fast ∙ c.if-either_fast.true))
 
 pub loop-i-preserved : goal.loop-i-preserved
 unfolding sides_at fast_sides

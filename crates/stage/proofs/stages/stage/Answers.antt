@@ -52,7 +52,7 @@ pub update-requires-clause-momenta : goal.update-requires-clause-momenta
 update-requires-clause-momenta c =
     let a = c.args in let calm = passed_by Speed c.points.result tt (sym c.at-2.ensures ∙ c.in_ok-at-2.was) in
     momenta a.call.dry a.reach.n a.bed.now (seen a.t.now) c.requires.ranged (none_says _ _ (sym c.points.ensures.stops ∙ calm))
-        c.points.new.g (all_filled (pos 0) _ _ _ (rw calm at c.points.ensures.fills) (omega arith))
+    c.points.new.g (all_filled (pos 0) _ _ _ (rw calm at c.points.ensures.fills) (omega arith))
 
 pub returns : goal.returns
 returns c ρ =
