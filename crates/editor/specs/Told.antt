@@ -1,6 +1,6 @@
 -- To be believed: all above "from an answer to what is told".
 -- What a caller in C is told: a number, and what is written into each table that it lent.
-use Rattle.std.specs.Prelude.{◌≡◌, refl, List, ℕ, ◌≤◌, eqb, length, set, ℤ, pos, Float}
+use Rattle.std.specs.Prelude.{◌≡◌, refl, List, ℕ, ◌≤◌, eqb, length, set, ℤ, pos, Float, Option, Some, None, Result, Ok, Err}
 use Rattle.std.proofs.Common.{sym, ap, ◌∙◌, arith}
 use Rattle.whole.specs.Flags.{cond_ind}
 use Rattle.rules.specs.Limits.{most_cells}
@@ -12,22 +12,14 @@ use Rattle.rules.proofs.Laws.Within.{place_most}
 use Rattle.sill_rules.specs.Lent as sills
 use Rattle.sill_rules.proofs.Laws.Within as sill-places
 use Rattle.reach.specs.declared.Given.{Given}
-use Rattle.speeds.specs.Given.{Perhaps}
-use Rattle.speeds.specs.Given as given
-use Rattle.face.specs.Answers.{flux}
-use Rattle.face.specs.declared.answer.Carried.TheVariants as carried
+use Rattle.reach.specs.Gives.{Answer, answer, number_in, leaves, code, placed, Gives}
 use Rattle.root.specs.Root.{RootIs}
 use Rattle.double.specs.Face.{FaceIs}
-use Rattle.root.specs.declared.RootAnswer.{RootAnswer}
-use Rattle.root.specs.declared.RootAnswer.TheVariants as root
-use Rattle.double.specs.declared.face.DoubleAnswer.{DoubleAnswer}
-use Rattle.double.specs.declared.face.DoubleAnswer.TheVariants as double
+use Rattle.double.specs.declared.face.Flux.{Flux as DoubleFlux}
+use Rattle.double.specs.declared.face.OutOfRange.{OutOfRange}
 use Rattle.root.proofs.Unique.{root_unique}
 use Rattle.double.proofs.face.Unique as doubles
-use Rattle.step.specs.Gives.{answer, leaves, code, placed, Gives}
-use Rattle.reach.specs.declared.answer.Answer.{Answer}
-use Rattle.reach.specs.declared.answer.Answer.TheVariants.{Refused, Accepted}
-use Rattle.sums.specs.Gives.{made_code, made_answer, made_leaves, question_code}
+use Rattle.sums.specs.Gives.{made_number, made_leaves, question_code}
 
 -- ---- the step
 -- what an outcome leaves in the two volumes
@@ -37,7 +29,7 @@ volumes_of (accepted t w v) old = set (set old 0 w) 1 v
 
 -- the number, the new state, the volumes, and the place, which every outcome writes
 pub record StepTold (o : Outcome) (r : ℕ) (old new volumes volumes' : List ℤ) (places places' : List ℕ) : Type 0 where
-  pub number : r ≡ code (answer o)
+  pub number : r ≡ number_in o
   pub table : new ≡ leaves o old
   pub crossed : volumes' ≡ volumes_of o volumes
   pub place : places' ≡ set places 0 (placed (answer o))
@@ -64,7 +56,7 @@ pub record KeepingTold (l : Lent) (r : ℕ) (old new sums sums' volumes volumes'
 
 -- of making them: the number, and the sums
 pub record MakingTold (m : Making) (r : ℕ) (old new : List ℤ) : Type 0 where
-  pub number : r ≡ made_code (made_answer m)
+  pub number : r ≡ made_number m
   pub table : new ≡ made_leaves m old
 
 -- of a question: the number, and the water, the cells and the blocks
@@ -77,28 +69,31 @@ pub record QuestionTold (q : Question) (r : ℕ) (old new : List ℤ) : Type 0 w
   pub reading : new ≡ reading_into q old
 
 -- ---- the face
-unfoldable pub face_code : Perhaps Flux → ℕ
-face_code (given.given f) = 0
-face_code given.refused = 1
+unfoldable pub face_code : Option Flux → ℕ
+face_code (Some f) = 0
+face_code None = 1
 
-unfoldable pub flux_into : Perhaps Flux → List ℤ → List ℤ
-flux_into (given.given f) old = set (set (set (set old 0 f.F) 1 f.K) 2 f.A) 3 f.S
-flux_into given.refused old = old
+unfoldable pub flux_into : Option Flux → List ℤ → List ℤ
+flux_into (Some f) old = set (set (set (set old 0 f.F) 1 f.K) 2 f.A) 3 f.S
+flux_into None old = old
 
-pub record FaceTold (p : Perhaps Flux) (r : ℕ) (old new : List ℤ) : Type 0 where
+pub record FaceTold (p : Option Flux) (r : ℕ) (old new : List ℤ) : Type 0 where
   pub number : r ≡ face_code p
   pub flux : new ≡ flux_into p old
 
 -- ---- the double face, and the root: the answer that the contract leaves, as a number and what is written
+abbrev pub DoubleAnswer : Type 0
+DoubleAnswer = Result (Option DoubleFlux) OutOfRange
+
 unfoldable pub double_code : DoubleAnswer → ℕ
-double_code (double.Flux m p a s) = 0
-double_code double.Dry = 1
-double_code double.Refused = 2
+double_code (Ok (Some f)) = 0
+double_code (Ok None) = 1
+double_code (Err e) = 2
 
 unfoldable pub double_into : DoubleAnswer → List Float → List Float
-double_into (double.Flux m p a s) old = set (set (set (set old 0 m) 1 p) 2 a) 3 s
-double_into double.Dry old = old
-double_into double.Refused old = old
+double_into (Ok (Some f)) old = set (set (set (set old 0 f.mass) 1 f.pressure) 2 f.advection) 3 f.top
+double_into (Ok None) old = old
+double_into (Err e) old = old
 
 pub record DoubleTold (hl ul hr ur : Float) (r : ℕ) (old new : List Float) : Type 0 where
   pub answer : DoubleAnswer
@@ -106,16 +101,16 @@ pub record DoubleTold (hl ul hr ur : Float) (r : ℕ) (old new : List Float) : T
   pub number : r ≡ double_code answer
   pub flux : new ≡ double_into answer old
 
-unfoldable pub root_code : RootAnswer → ℕ
-root_code (root.Root y) = 0
-root_code root.Refused = 1
+unfoldable pub root_code : Option Float → ℕ
+root_code (Some y) = 0
+root_code None = 1
 
-unfoldable pub root_into : RootAnswer → List Float → List Float
-root_into (root.Root y) old = set old 0 y
-root_into root.Refused old = old
+unfoldable pub root_into : Option Float → List Float → List Float
+root_into (Some y) old = set old 0 y
+root_into None old = old
 
 pub record RootTold (x : Float) (r : ℕ) (old new : List Float) : Type 0 where
-  pub answer : RootAnswer
+  pub answer : Option Float
   pub is : RootIs x answer
   pub number : r ≡ root_code answer
   pub root : new ≡ root_into answer old
@@ -134,31 +129,13 @@ given_by dx dt jump dry left right leftQ rightQ = record {
 
 -- what an answer leaves in the two volumes; and all that is told of it
 unfoldable pub volumes_in : Answer → List ℤ → List ℤ
-volumes_in (Refused k p) old = old
-volumes_in (Accepted w v) old = set (set old 0 w) 1 v
+volumes_in (Err e) old = old
+volumes_in (Ok v) old = set (set old 0 v.first) 1 v.last
 
 pub record AnswerTold (a : Answer) (r : ℕ) (volumes volumes' : List ℤ) (places places' : List ℕ) : Type 0 where
   pub number : r ≡ code a
   pub crossed : volumes' ≡ volumes_in a volumes
   pub place : places' ≡ set places 0 (placed a)
-
-pub refused_told : {a : Answer} (k p : ℕ) (old : List ℤ) (places : List ℕ) → Refused k p ≡ a
-    → AnswerTold a k old old places (set places 0 p)
-unfolding code volumes_in placed
-refused_told k p old places e = record {
-  number = ap code e;
-  crossed = ap (λ (x : Answer). volumes_in x old) e;
-  place = ap (λ (x : Answer). set places 0 (placed x)) e;
-}
-
-pub accepted_told : {a : Answer} (w v : ℤ) (old : List ℤ) (places : List ℕ) → Accepted w v ≡ a
-    → AnswerTold a 0 old (set (set old 0 w) 1 v) places (set places 0 0)
-unfolding code volumes_in placed
-accepted_told w v old places e = record {
-  number = ap code e;
-  crossed = ap (λ (x : Answer). volumes_in x old) e;
-  place = ap (λ (x : Answer). set places 0 (placed x)) e;
-}
 
 same_volumes : (o : Outcome) (old : List ℤ) → volumes_in (answer o) old ≡ volumes_of o old
 unfolding answer volumes_in volumes_of
@@ -168,7 +145,7 @@ same_volumes (accepted t w v) old = refl
 pub step_told : {o : Outcome} {a : Answer} {r : ℕ} {old new volumes volumes' : List ℤ} {places places' : List ℕ}
     → Gives o a old new → AnswerTold a r volumes volumes' places places' → StepTold o r old new volumes volumes' places places'
 step_told {o} {volumes = vs} {places = ps} g t = record {
-  number = t.number ∙ ap code g.says;
+  number = t.number ∙ g.number;
   table = g.table;
   crossed = t.crossed ∙ ap (λ (a : Answer). volumes_in a vs) g.says ∙ same_volumes o vs;
   place = t.place ∙ ap (λ (a : Answer). set ps 0 (placed a)) g.says;
@@ -193,24 +170,6 @@ sill_place l {a} e = rw e (cond_ind (eqb (verdict (sills.all_checks l)) 0)
     (refused (verdict (sills.all_checks l)) (spot (sills.all_checks l)))
     (λ (o : Outcome). placed (answer o) ≤ most_cells) (λ b. omega arith) (λ b. sill-places.place_most l))
 
--- the two counts of a question
-pub read_told : (q : Question) (w : ℤ) (c b : ℕ) (old : List ℤ) → answered (record { water = w; cells = c; blocks = b }) ≡ q
-    → QuestionTold q 0 old (set (set (set old 0 w) 1 (pos c)) 2 (pos b))
-unfolding question_code reading_into
-read_told q w c b old e = record { number = ap question_code e; reading = ap (λ (x : Question). reading_into x old) e }
-
-pub unread_told : (q : Question) (k : ℕ) (old : List ℤ) → unanswered k ≡ q → QuestionTold q k old old
-unfolding question_code reading_into
-unread_told q k old e = record { number = ap question_code e; reading = ap (λ (x : Question). reading_into x old) e }
-
-pub face_flux : (f k a s : ℤ) (old : List ℤ) → FaceTold (flux (carried.Flux f k a s)) 0 old (set (set (set (set old 0 f) 1 k) 2 a) 3 s)
-unfolding flux face_code flux_into
-face_flux f k a s old = record { number = refl; flux = refl }
-
-pub face_none : (old : List ℤ) → FaceTold (flux carried.Refused) 1 old old
-unfolding flux face_code flux_into
-face_none old = record { number = refl; flux = refl }
-
 -- ---- one number, and one content of each table
 pub step_one : {o : Outcome} {r r' : ℕ} {old new new' w v v' : List ℤ} {x y y' : List ℕ}
     → StepTold o r old new w v x y → StepTold o r' old new' w v' x y' → (r ≡ r') × (new ≡ new') × (v ≡ v') × (y ≡ y')
@@ -230,7 +189,7 @@ pub question_one : {x : Question} {r r' : ℕ} {old new new' : List ℤ} → Que
     → (r ≡ r') × (new ≡ new')
 question_one p q = (p.number ∙ sym q.number, p.reading ∙ sym q.reading)
 
-pub face_one : {p : Perhaps Flux} {r r' : ℕ} {old new new' : List ℤ} → FaceTold p r old new → FaceTold p r' old new'
+pub face_one : {p : Option Flux} {r r' : ℕ} {old new new' : List ℤ} → FaceTold p r old new → FaceTold p r' old new'
     → (r ≡ r') × (new ≡ new')
 face_one p q = (p.number ∙ sym q.number, p.flux ∙ sym q.flux)
 
@@ -241,4 +200,4 @@ double_one {hl} {ul} {hr} {ur} {old = old} p q = let e = doubles.face_unique hl 
 
 pub root_one : {x : Float} {r r' : ℕ} {old new new' : List Float} → RootTold x r old new → RootTold x r' old new' → (r ≡ r') × (new ≡ new')
 root_one {old = old} p q = let e = root_unique p.is q.is in
-    (p.number ∙ ap root_code e ∙ sym q.number, p.root ∙ ap (λ (x : RootAnswer). root_into x old) e ∙ sym q.root)
+    (p.number ∙ ap root_code e ∙ sym q.number, p.root ∙ ap (λ (x : Option Float). root_into x old) e ∙ sym q.root)

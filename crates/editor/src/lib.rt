@@ -12,11 +12,7 @@ ghost use Rattle.step.specs.Gives.{end, lend, placed};
 ghost use Rattle.editor.specs.Told.{sill_lend, given_by, AnswerTold, StepTold, KeepingTold, MakingTold, QuestionTold};
 ghost use Rattle.editor.specs.Told.{FaceTold, DoubleTold, RootTold};
 
-use double::face::DoubleAnswer;
-use face::answer::Carried;
-use root::RootAnswer;
 use step::{Answer, End, Given};
-use sums::{Amount, Made};
 
 // The numbers of a call, as the step takes them.
 fn given(
@@ -56,15 +52,15 @@ fn tell(a: Answer, volumes: &mut [i64; 2], place: &mut [u32; 1]) -> u32
     ensures { AnswerTold a result volumes.old volumes.new place.old place.new }
 {
     match a {
-        Answer::Refused(k, p) => {
-            place[0] = p as u32;
-            k
-        }
-        Answer::Accepted(w, v) => {
-            volumes[0] = w;
-            volumes[1] = v;
+        Ok(crossed) => {
+            volumes[0] = crossed.first;
+            volumes[1] = crossed.last;
             place[0] = 0;
             0
+        }
+        Err(refused) => {
+            place[0] = refused.place as u32;
+            u32::from(refused.refusal)
         }
     }
 }
@@ -167,8 +163,8 @@ pub fn bassoonsun_sums(state: &[i32], bed: &[i32], sums: &mut [i32]) -> u32
         result sums.old sums.new }
 {
     match sums::make(state, bed, sums) {
-        Made::Refused(k) => k,
-        Made::Done => 0,
+        Ok(()) => 0,
+        Err(refusal) => u32::from(refusal),
     }
 }
 
@@ -187,13 +183,13 @@ pub fn bassoonsun_between(
         result answer.old answer.new }
 {
     match sums::between(state, bed, sums, a, b) {
-        Amount::Refused(k) => k,
-        Amount::Water(water, cells, blocks) => {
-            answer[0] = water;
-            answer[1] = cells as i64;
-            answer[2] = blocks as i64;
+        Ok(water) => {
+            answer[0] = water.depth;
+            answer[1] = water.cells as i64;
+            answer[2] = water.blocks as i64;
             0
         }
+        Err(refusal) => u32::from(refusal),
     }
 }
 
@@ -201,16 +197,17 @@ pub fn bassoonsun_between(
 pub fn bassoonsun_face(hl: i64, ul: i64, hr: i64, ur: i64, flux: &mut [i64; 4]) -> u32
     ensures { FaceTold (face_given (side hl ul) (side hr ur)) result flux.old flux.new }
 {
-    let c = face::flux::face(hl, ul, hr, ur);
-    match c {
-        Carried::Flux(f, k, a, s) => {
-            flux[0] = f;
-            flux[1] = k;
-            flux[2] = a;
-            flux[3] = s;
+    let left = face::sides::Side { h: hl, u: ul };
+    let right = face::sides::Side { h: hr, u: ur };
+    match face::flux::face(left, right) {
+        Some(carried) => {
+            flux[0] = carried.f;
+            flux[1] = carried.k;
+            flux[2] = carried.a;
+            flux[3] = carried.s;
             0
         }
-        Carried::Refused => 1,
+        None => 1,
     }
 }
 
@@ -219,17 +216,18 @@ pub fn bassoonsun_face(hl: i64, ul: i64, hr: i64, ur: i64, flux: &mut [i64; 4]) 
 pub fn bassoonsun_face_double(hl: f64, ul: f64, hr: f64, ur: f64, flux: &mut [f64; 4]) -> u32
     ensures { DoubleTold hl ul hr ur result flux.old flux.new }
 {
-    let c = double::face::face(hl, ul, hr, ur);
-    match c {
-        DoubleAnswer::Flux(m, p, a, s) => {
-            flux[0] = m;
-            flux[1] = p;
-            flux[2] = a;
-            flux[3] = s;
+    let left = double::face::Side { h: hl, u: ul };
+    let right = double::face::Side { h: hr, u: ur };
+    match double::face::face(left, right) {
+        Ok(Some(carried)) => {
+            flux[0] = carried.mass;
+            flux[1] = carried.pressure;
+            flux[2] = carried.advection;
+            flux[3] = carried.top;
             0
         }
-        DoubleAnswer::Dry => 1,
-        DoubleAnswer::Refused => 2,
+        Ok(None) => 1,
+        Err(_) => 2,
     }
 }
 
@@ -237,12 +235,9 @@ pub fn bassoonsun_face_double(hl: f64, ul: f64, hr: f64, ur: f64, flux: &mut [f6
 pub fn bassoonsun_root(x: f64, root: &mut [f64; 1]) -> u32
     ensures { RootTold x result root.old root.new }
 {
-    let c = root::root(x);
-    match c {
-        RootAnswer::Root(y) => {
-            root[0] = y;
-            0
-        }
-        RootAnswer::Refused => 1,
-    }
+    let Some(y) = root::root(x) else {
+        return 1;
+    };
+    root[0] = y;
+    0
 }

@@ -89,6 +89,15 @@ one_refused d e p q =
     let same : d.refusal ≡ e.refusal = sym (number_back d.refusal) ∙ ap refusal_of p ∙ number_back e.refusal in
     λ i. record { refusal = same i; place = q i }
 
+-- so an outcome with the number and the place of a refusal gives just that,
+pub answer_refused : (e : Refused) → Err e ≡ answer (refused (number_of e.refusal) e.place)
+unfolding answer
+answer_refused e = let back = sym (number_back e.refusal) in λ i. Err (record { refusal = back i; place = e.place })
+
+pub gives_refused : (e : Refused) {o : Outcome} → o ≡ refused (number_of e.refusal) e.place → (old : List ℤ) → Gives o (Err e) old old
+unfolding number_in leaves code
+gives_refused e is old = rw is (record { says = answer_refused e; number = refl; table = refl })
+
 -- and a number of a step's list its own refusal
 pub numbered : (k : ℕ) → 0 < k → k < 9 → number_of (refusal_of k) ≡ k
 unfolding refusal_of

@@ -2,8 +2,8 @@
 use Rattle.std.specs.Prelude.{List, ℕ, ℤ}
 use Rattle.rules.specs.Ends.{End}
 use Rattle.rules.specs.Lent.{Lent}
-pub use Rattle.reach.specs.Gives.{Volumes, absent, both, Gives, one_answer, one_table}
-unfoldable pub use Rattle.reach.specs.Gives.{code, placed, volumes, answer, leaves}
+pub use Rattle.reach.specs.Gives.{Answer, Volumes, absent, both, Gives, one_answer, one_table, gives_refused}
+unfoldable pub use Rattle.reach.specs.Gives.{code, placed, volumes, answer, number_in, leaves}
 
 -- an end, by its kind and its Q; and what is lent and given
 abbrev pub end : ℕ → ℕ → End

@@ -1,26 +1,30 @@
 -- To be believed: all but the laws at the end.
 -- What the calls say: one answer each, and one content of each lent table.
-use Rattle.std.specs.Prelude.{◌≡◌, refl, List, ℕ, length, ℤ}
-use Rattle.std.proofs.Common.{sym, ap, ◌∙◌}
+use Rattle.std.specs.Prelude.{◌≡◌, refl, List, ℕ, length, ℤ, Result, Ok, Err}
+use Rattle.std.proofs.Common.{sym, ap, ◌∙◌, arith}
 use Rattle.rules.specs.Lent.{Lent}
-use Rattle.rules.specs.Sums.{Making, unmade, made, Question, unanswered, answered, keeping_of, sums_after}
-use Rattle.step.specs.Gives.{Gives, one_answer, one_table}
-use Rattle.reach.specs.declared.answer.Answer.{Answer}
-use Rattle.sums.specs.declared.Made.{Made}
-use Rattle.sums.specs.declared.Made.TheVariants as made_is
-use Rattle.sums.specs.declared.Amount.{Amount}
-use Rattle.sums.specs.declared.Amount.TheVariants as amount
+use Rattle.rules.specs.Sums.{Making, unmade, made, Reading, Question, unanswered, answered, keeping_of, sums_after}
+use Rattle.reach.specs.declared.answer.Refusal.{Refusal}
+use Rattle.reach.specs.declared.answer.Refused.{Refused}
+use Rattle.reach.specs.Refusals.{number_of, told_number}
+use Rattle.reach.specs.Gives.{Answer, refusal_of, Gives, one_answer, one_table, one_refused}
+use Rattle.sums.specs.declared.Water.{Water}
+
+-- of making, the sums are all filled; and of a question, the water
+abbrev pub Made : Type 0
+Made = Result (Unit {0}) Refusal
+
+abbrev pub Amount : Type 0
+Amount = Result Water Refusal
+
+abbrev pub water_in : Water → Reading
+water_in x = record { water = x.depth; cells = x.cells; blocks = x.blocks }
 
 -- ---- the document's number and values of each answer
--- of making: the number of a refusal, or 0;
-unfoldable pub made_code : Made → ℕ
-made_code (made_is.Refused k) = k
-made_code made_is.Done = 0
-
 -- of a question: the number of a refusal, or what was read
 unfoldable pub asked : Amount → Question
-asked (amount.Refused k) = unanswered k
-asked (amount.Water w c b) = answered (record { water = w; cells = c; blocks = b })
+asked (Err k) = unanswered (number_of k)
+asked (Ok x) = answered (water_in x)
 
 -- and its number, 0 when it is answered
 unfoldable pub question_code : Question → ℕ
@@ -28,10 +32,14 @@ question_code (unanswered k) = k
 question_code (answered x) = 0
 
 -- ---- what the calls give
--- the answer of making, and what it leaves in the lent table
+-- the answer of making, its number, and what it leaves in the lent table
 unfoldable pub made_answer : Making → Made
-made_answer (unmade k) = made_is.Refused k
-made_answer (made t) = made_is.Done
+made_answer (unmade k) = Err (refusal_of k)
+made_answer (made t) = Ok tt
+
+unfoldable pub made_number : Making → ℕ
+made_number (unmade k) = k
+made_number (made t) = 0
 
 unfoldable pub made_leaves : Making → List ℤ → List ℤ
 made_leaves (unmade k) old = old
@@ -39,6 +47,7 @@ made_leaves (made t) old = t
 
 pub record MakingGives (m : Making) (a : Made) (old new : List ℤ) : Type 0 where
   pub says : a ≡ made_answer m
+  pub number : told_number a ≡ made_number m
   pub table : new ≡ made_leaves m old
 
 -- the step that keeps the sums: the step's answer and table, and the sums
@@ -53,15 +62,16 @@ one_making p q = (p.says ∙ sym q.says, p.table ∙ sym q.table)
 
 pub one_amount : {q : Question} (a b : Amount) → asked a ≡ q → asked b ≡ q → a ≡ b
 unfolding asked
-one_amount a b p q = sym (same a) ∙ ap back (p ∙ sym q) ∙ same b
+one_amount a b p q = same a b (p ∙ sym q)
   where
-    back : Question → Amount
-    back (unanswered k) = amount.Refused k
-    back (answered x) = amount.Water x.water x.cells x.blocks
-
-    same : (x : Amount) → back (asked x) ≡ x
-    same (amount.Refused k) = refl
-    same (amount.Water w c b) = refl
+    same : (a b : Amount) → asked a ≡ asked b → a ≡ b
+    same (Err k) (Err m) e =
+        let number : number_of k ≡ number_of m = cc in
+        ap (λ (r : Refused). Err r.refusal) (one_refused (record { refusal = k; place = 0 }) (record { refusal = m; place = 0 }) number refl)
+    same (Err k) (Ok y) e = let z : ◌≡◌ {A = ℕ} 0 1 = cc in let f : ⊥ = omega arith in absurd f
+    same (Ok x) (Err m) e = let z : ◌≡◌ {A = ℕ} 0 1 = cc in let f : ⊥ = omega arith in absurd f
+    same (Ok x) (Ok y) e =
+        let p : water_in x ≡ water_in y = cc in λ i. Ok (record { depth = (p i).water; cells = (p i).cells; blocks = (p i).blocks })
 
 pub one_keeping : {l : Lent} {a b : Answer} {old new new' sums s s' : List ℤ} → KeepingGives l a old new sums s
     → KeepingGives l b old new' sums s' → (a ≡ b) × (new ≡ new') × (s ≡ s')

@@ -5,16 +5,15 @@ ghost use Rattle.rules.specs.Limits.{most_cells};
 ghost use Rattle.rules.specs.StateAndBed.{depth_in};
 ghost use Rattle.sums.specs.Ranges.{Added, Addend};
 
-use reach::bed::{Bed, z0};
+use reach::bed::{under, z0};
 
 // The mean depth of cell i.
 fn depth(state: &[i32], bed: &[i32], i: usize) -> i64
     requires { (i < length state.now) × (i + 1 < length bed.now) }
     ensures { (result ≡ depth_in bed.now state.now i) × Addend result }
 {
-    let zl = bed[i];
-    let zr = bed[i + 1];
-    state[i] as i64 - z0(Bed { zl, zr })
+    let b = under(bed, i);
+    i64::from(state[i]) - z0(b)
 }
 
 // The sum of the mean depths of the cells from a up to b.
@@ -22,11 +21,9 @@ pub fn depths(state: &[i32], bed: &[i32], a: usize, b: usize) -> i64
     requires { (a ≤ b) × (b ≤ most_cells) × (b ≤ length state.now) × (b < length bed.now) }
     ensures { Added (depth_in bed.now state.now) a b result }
 {
-    let mut water: i64 = 0;
-    let mut i = a;
-    while i < b {
+    let mut water = 0;
+    for i in a..b {
         water += depth(state, bed, i);
-        i += 1;
     }
     water
 }
@@ -36,11 +33,9 @@ pub fn added(sums: &[i32], a: usize, b: usize) -> i64
     requires { (a ≤ b) × (b ≤ most_cells) × (b ≤ length sums.now) }
     ensures { Added (λ k. get_or sums.now k (pos 0)) a b result }
 {
-    let mut water: i64 = 0;
-    let mut k = a;
-    while k < b {
-        water += sums[k] as i64;
-        k += 1;
+    let mut water = 0;
+    for k in a..b {
+        water += i64::from(sums[k]);
     }
     water
 }

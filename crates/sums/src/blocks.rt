@@ -5,11 +5,11 @@ ghost use Rattle.rules.specs.Sums.{blocks_of, misfit_sums, block_to};
 
 use reach::limits::BLOCK_CELLS;
 
-// How many blocks n cells make. The part of one is added apart, so that no n is too large.
+// How many blocks n cells make.
 pub fn blocks(n: usize) -> usize
     ensures { result ≡ blocks_of n }
 {
-    n / BLOCK_CELLS + (n % BLOCK_CELLS + (BLOCK_CELLS - 1)) / BLOCK_CELLS
+    n.div_ceil(BLOCK_CELLS)
 }
 
 // 1: is a sums table of this length not that of n cells?
@@ -24,9 +24,5 @@ pub fn block_to(n: usize, k: usize) -> usize
     requires { k ≤ most_cells }
     ensures { result ≡ block_to n k }
 {
-    let next = BLOCK_CELLS * (k + 1);
-    if next <= n {
-        return next;
-    }
-    n
+    (BLOCK_CELLS * (k + 1)).min(n)
 }

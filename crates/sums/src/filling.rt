@@ -26,9 +26,7 @@ pub fn fill(state: &[i32], bed: &[i32], sums: &mut [i32])
     ensures { sums.new ≡ sums_of bed.now state.now }
 {
     let n = cells_over(bed);
-    let mut k: usize = 0;
-    while k < sums.len() {
+    for k in 0..sums.len() {
         sums[k] = block_sum(state, bed, n, k);
-        k += 1;
     }
 }

@@ -1,35 +1,17 @@
 -- The double face's answer, as a number and what is written.
-use mathlib.Core.Path.{sym, ap}
-use Rattle.double.specs.declared.face.DoubleAnswer.{DoubleAnswer}
+use Rattle.std.proofs.Common.{refl, Some, None, Ok, Err}
 use Rattle.editor.specs.Told.{double_code, double_into}
 use Rattle.editor.proofs.bassoonsun_face_double.Goals as goal
 
-pub returns-in-Flux : goal.returns-in-Flux
+pub returns-in-Ok-Some : goal.returns-in-Ok-Some
 unfolding double_code double_into
-returns-in-Flux c = let e = sym c.in-Flux.is in
-    record {
-      answer = c.face-c.result;
-      is = c.face-c.ensures;
-      number = ap double_code e;
-      flux = ap (λ (x : DoubleAnswer). double_into x c.args.flux.now) e;
-    }
+returns-in-Ok-Some c = let i = c.in-Ok-Some in
+    record { answer = Ok (Some i.carried); is = rw i.field-0-is at i.ensures; number = refl; flux = refl }
 
-pub returns-in-Dry : goal.returns-in-Dry
+pub returns-in-Ok-None : goal.returns-in-Ok-None
 unfolding double_code double_into
-returns-in-Dry c = let e = sym c.in-Dry.is in
-    record {
-      answer = c.face-c.result;
-      is = c.face-c.ensures;
-      number = ap double_code e;
-      flux = ap (λ (x : DoubleAnswer). double_into x c.args.flux.now) e;
-    }
+returns-in-Ok-None c = let i = c.in-Ok-None in record { answer = Ok None; is = rw i.field-0-is at i.ensures; number = refl; flux = refl }
 
-pub returns-in-Refused : goal.returns-in-Refused
+pub returns-in-Err : goal.returns-in-Err
 unfolding double_code double_into
-returns-in-Refused c = let e = sym c.in-Refused.is in
-    record {
-      answer = c.face-c.result;
-      is = c.face-c.ensures;
-      number = ap double_code e;
-      flux = ap (λ (x : DoubleAnswer). double_into x c.args.flux.now) e;
-    }
+returns-in-Err c = record { answer = Err c.in-Err.field-0; is = c.in-Err.ensures; number = refl; flux = refl }

@@ -1,25 +1,12 @@
 -- The root's answer, as a number and what is written.
-use mathlib.Core.Path.{sym, ap}
-use Rattle.root.specs.declared.RootAnswer.{RootAnswer}
+use Rattle.std.proofs.Common.{refl, Some, None}
 use Rattle.editor.specs.Told.{root_code, root_into}
 use Rattle.editor.proofs.bassoonsun_root.Goals as goal
 
-pub returns-in-Root : goal.returns-in-Root
+pub returns-in_default : goal.returns-in_default
 unfolding root_code root_into
-returns-in-Root c = let e = sym c.in-Root.is in
-    record {
-      answer = c.root-c.result;
-      is = c.root-c.ensures;
-      number = ap root_code e;
-      root = ap (λ (x : RootAnswer). root_into x c.args.root.now) e;
-    }
+returns-in_default c = record { answer = None; is = c.in_default.ensures; number = refl; root = refl }
 
-pub returns-in-Refused : goal.returns-in-Refused
+pub returns : goal.returns
 unfolding root_code root_into
-returns-in-Refused c = let e = sym c.in-Refused.is in
-    record {
-      answer = c.root-c.result;
-      is = c.root-c.ensures;
-      number = ap root_code e;
-      root = ap (λ (x : RootAnswer). root_into x c.args.root.now) e;
-    }
+returns c = record { answer = Some c.in-Some.y; is = c.in-Some.ensures; number = refl; root = refl }

@@ -1,11 +1,8 @@
 -- The step, and then the sums of what it wrote.
-use mathlib.Core.Path.{◌≡◌, ◌∙◌, sym}
-use mathlib.Core.Bool.{false}
-use lib.ListN.{length}
-use Rattle.whole.specs.Machine.{back}
-use Rattle.rules.specs.Lent.{Lent, cells_of, step_of}
-use Rattle.rules.specs.Sums.{misfit_sums, keeping_of}
+use Rattle.std.proofs.Common.{sym, ◌∙◌, length}
+use Rattle.rules.specs.Lent.{Lent}
 use Rattle.rules.proofs.Laws.Questions.{unkept, kept_step}
+use Rattle.reach.specs.Laws.Checks.{handed_on}
 use Rattle.stage.specs.Worked.{lent_by}
 use Rattle.sums.specs.Answered.{keeping_ready, keeping_none, keeping_refused, keeping_accepted}
 use Rattle.sums.proofs.step.Goals as goal
@@ -16,24 +13,20 @@ returns-then-bad_sums c =
     let sums = p.sums.now in let old = p.next.now in
     keeping_none call old old sums (unkept call (length sums) (sym c.bad_sums.ensures ∙ c.if-bad_sums.true))
 
+pub returns-in_err-volumes : goal.returns-in_err-volumes
+returns-in_err-volumes c =
+    let p = c.args in let call : Lent = lent_by p.state.now (length p.next.now) p.bed.now p.friction.now p.call in
+    let e = c.in_err-volumes.field-0.0 in
+    rw (handed_on c.from_residual.result e c.from_residual.ensures.1)
+    (keeping_refused call p.next.now _ p.sums.now (kept_step call (length p.sums.now) (sym c.if-bad_sums.ensures)) c.step.ensures e c.in_err-volumes.was)
+
 pub fill-requires : goal.fill-requires
 fill-requires c =
     let p = c.args in let call : Lent = lent_by p.state.now (length p.next.now) p.bed.now p.friction.now p.call in
-    let fit : misfit_sums (length p.sums.now) (cells_of call) ≡ false = sym c.bad_sums.ensures ∙ c.if-bad_sums.false in
-    keeping_ready call p.next.now _ p.sums.now c.in-Accepted.w c.in-Accepted.v c.step.ensures c.in-Accepted.is fit
+    keeping_ready call p.next.now _ p.sums.now c.in_ok-volumes.volumes c.step.ensures c.in_ok-volumes.was (sym c.if-bad_sums.ensures)
 
-pub returns-in-Refused : goal.returns-in-Refused
-returns-in-Refused c =
+pub returns : goal.returns
+returns c =
     let p = c.args in let call : Lent = lent_by p.state.now (length p.next.now) p.bed.now p.friction.now p.call in
-    let fit : misfit_sums (length p.sums.now) (cells_of call) ≡ false = sym c.bad_sums.ensures ∙ c.if-bad_sums.false in
-    keeping_refused call p.next.now _ p.sums.now (kept_step call (length p.sums.now) fit) c.step.ensures
-    c.in-Refused.k c.in-Refused.p c.in-Refused.is
-
-pub returns-in-Accepted : goal.returns-in-Accepted
-returns-in-Accepted c =
-    let p = c.args in let call : Lent = lent_by p.state.now (length p.next.now) p.bed.now p.friction.now p.call in
-    let fit : misfit_sums (length p.sums.now) (cells_of call) ≡ false = sym c.bad_sums.ensures ∙ c.if-bad_sums.false in
-    let t = c.in-Accepted.known_told-in-Accepted-1-own.given in
-    rw (back {z = c.in-Accepted.w} t.0.1, back {z = c.in-Accepted.v} t.1.0.1)
-    (keeping_accepted call p.next.now _ p.sums.now (kept_step call (length p.sums.now) fit) c.step.ensures
-    c.in-Accepted.w c.in-Accepted.v c.in-Accepted.is _ c.fill.ensures)
+    keeping_accepted call p.next.now _ p.sums.now (kept_step call (length p.sums.now) (sym c.if-bad_sums.ensures)) c.step.ensures
+    c.in_ok-volumes.volumes c.in_ok-volumes.was _ c.fill.ensures

@@ -1,0 +1,35 @@
+-- The level less the mean of the bed, each of 32 bits: 64 have room for it.
+use Rattle.std.proofs.Common.{◌≡◌, ◌∙◌, ap, ap₂, List, [], ◌∷◌, ℤ, get_or, pos, ◌-ℤ◌, ◌<◌, ◌^◌, rules}
+use Rattle.std.specs.Int.Signed.{mag}
+use Rattle.whole.specs.Machine.{v, ◌⊝◌, Entry, entry, read32, within32, need, value}
+use Rattle.rules.specs.Reach.{z0}
+use Rattle.sums.specs.Laws.Depths.{Word, mean_bed, level_less_bed, mean_depth}
+use Rattle.sums.proofs.adding.depth.Goals as goal
+
+module _ (c : goal.After-z0) where
+  abbrev level : ℤ
+  level = get_or c.args.state.now c.args.i (pos 0)
+
+  word : mag level < 2 ^ 31
+  word = search rules
+
+  level_is : c.from.result ≡ level
+  level_is = c.from.ensures ∙ read32 level word
+
+  level_in : Word c.from.result
+  level_in = rw level_is (within32 word)
+
+  mean_in : Word c.z0.result
+  mean_in = rw c.z0.ensures (mean_bed _ (within32 (search rules)) (within32 (search rules)))
+
+  abbrev env : List Entry
+  env = entry (record { sfits = c.from.type_inv }) level_in ∷ entry (record { sfits = c.z0.type_inv }) mean_in ∷ []
+
+pub overflow_sub-result : goal.overflow_sub-result
+overflow_sub-result c = need (env c) (v 0 ⊝ v 1) tt
+
+pub returns : goal.returns
+returns c =
+    let less = value (env c) (v 0 ⊝ v 1) tt in
+    let is = ap₂ ◌-ℤ◌ (level_is c) (c.z0.ensures ∙ ap z0 c.under-b.ensures) ∙ level_less_bed c.args.bed.now c.args.state.now c.args.i in
+    (less ∙ is, rw less (mean_depth c.from.result c.z0.result (level_in c) (mean_in c)))
