@@ -5,6 +5,8 @@
 #![tactic(auto)]
 
 use double::face::{Side, face};
+use draw::numbers::{SEED, following};
+use draw::sums::{double_bits, rolled};
 use std::io;
 
 // What a block has come to.
@@ -14,22 +16,6 @@ struct Tally {
     dry: u64,
     refused: u64,
     sum: u64,
-}
-
-// 64 bits that look drawn at random, and are the same on every run.
-fn next(x: u64) -> u64 {
-    let a = x ^ (x << 13);
-    let b = a ^ (a >> 7);
-    b ^ (b << 17)
-}
-
-fn mix(sum: u64, b: u64) -> u64 {
-    sum.rotate_left(1) ^ b
-}
-
-// The bits of x. No flux is a NaN; 2 would show one.
-fn bits(x: f64) -> u64 {
-    if x.is_nan() { 2 } else { x.to_bits() }
 }
 
 // From 0 up to 1, by 52 of the bits of x.
@@ -50,7 +36,7 @@ fn depth(x: u64) -> f64 {
         18 => f64::NAN,
         19 => f64::INFINITY,
         20..=25 => 1.0,
-        26..=76 => 0.5 * unit(x) * unit(next(x)),
+        26..=76 => 0.5 * unit(x) * unit(following(x)),
         _ => 64.0 * unit(x),
     }
 }
@@ -73,18 +59,18 @@ fn speed(x: u64) -> f64 {
 
 impl Tally {
     fn add(&mut self, b: u64) {
-        self.sum = mix(self.sum, b);
+        self.sum = rolled(self.sum, b);
     }
 
-    // One more face, by its answer.
+    // One more face, by its answer. No number of a flux is a NaN; 2 would show one.
     fn tell(&mut self, l: Side, r: Side) {
         match face(l, r) {
             Ok(Some(flux)) => {
                 self.fluxes = self.fluxes.wrapping_add(1);
-                self.add(bits(flux.mass));
-                self.add(bits(flux.pressure));
-                self.add(bits(flux.advection));
-                self.add(bits(flux.top));
+                self.add(double_bits(flux.mass));
+                self.add(double_bits(flux.pressure));
+                self.add(double_bits(flux.advection));
+                self.add(double_bits(flux.top));
             }
             Ok(None) => {
                 self.dry = self.dry.wrapping_add(1);
@@ -106,13 +92,13 @@ fn side(a: u64, b: u64) -> Side {
 }
 
 fn run(block: u64) -> Tally {
-    let mut x = 88172645463325252 ^ (block << 32);
+    let mut x = SEED ^ (block << 32);
     let mut t = Tally::default();
     for _ in 0..1000 {
-        let a = next(x);
-        let b = next(a);
-        let c = next(b);
-        x = next(c);
+        let a = following(x);
+        let b = following(a);
+        let c = following(b);
+        x = following(c);
         t.tell(side(a, b), side(c, x));
     }
     t

@@ -18,7 +18,7 @@ fn is_beyond(mean: i64, slope: i64) -> bool
     mean < slope || slope < -mean
 }
 
-// The slope cut to lie within the mean. No `clamp`: it asks that -mean is at most the mean, which a mean below nought is not.
+// The slope cut to lie within the mean. Not by `clamp`, which asks for a mean that is not below nought.
 fn clip(mean: i64, slope: i64) -> i64
     requires { UpTo widest_depth mean }
     ensures { result ≡ clipped mean slope }

@@ -34,7 +34,7 @@ fn jumps(x: Cell, y: Cell, call: Call) -> bool
     past(call.jump, y[0] - y[1] - (x[0] + x[1]))
 }
 
-impl<'a> UnfinishedTable<'a> {
+impl UnfinishedTable<'_> {
     // Is the inner face right of cell i parted? The last cell has none.
     fn parted(self, i: usize) -> bool
         requires { HasCell self i }

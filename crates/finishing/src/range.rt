@@ -31,19 +31,14 @@ fn too_large(b: Bed, x: Cell) -> bool
         || either_past(WIDEST, x[2], x[3])
 }
 
-impl<'a> UnfinishedTable<'a> {
+impl UnfinishedTable<'_> {
     // Is some cell of the table too large, or its bed?
     fn has_too_large(self) -> bool
         requires { self.reach.n ≤ length self.cells.now }
         ensures { let u = self.entry in
             result ≡ some (λ i. too_large (bed_at u.bed.now i) (state_of u i)) u.reach.n }
     {
-        for i in 0..self.reach.n {
-            if too_large(under(self.bed, i), self.cells[i]) {
-                return true;
-            }
-        }
-        false
+        (0..self.reach.n).any(|i| too_large(under(self.bed, i), self.cells[i]))
     }
 
     // Can the table not be finished: the lengths, the jump, the dry depth, or a number in it?

@@ -9,7 +9,7 @@ use crate::cell::is_shallow;
 use crate::unfinished::UnfinishedTable;
 use reach::bed::under;
 
-impl<'a> UnfinishedTable<'a> {
+impl UnfinishedTable<'_> {
     // Is cell i shallow?
     fn shallow_at(self, i: usize) -> bool
         requires { HasCell self i }

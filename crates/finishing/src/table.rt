@@ -10,14 +10,15 @@ use crate::unfinished::UnfinishedTable;
 use reach::Cell;
 use reach::bed::under;
 
-impl<'a> UnfinishedTable<'a> {
+impl UnfinishedTable<'_> {
     // Cell i, finished.
     fn finished(self, i: usize) -> Cell
         requires { HasCell self i }
         ensures { (ρ : ℕ → ℤ) → let u = self.entry in result ≡ finished_cell u.reach u.call u.bed.now u.cells.now ρ i }
     {
         let b = under(self.bed, i);
-        dried_cell(b, cut_cell(b, self.limit(i)), self.call.dry)
+        let cut = cut_cell(b, self.limit(i));
+        dried_cell(b, cut, self.call.dry)
     }
 
     // Every cell, finished, into t.

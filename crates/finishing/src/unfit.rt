@@ -1,6 +1,3 @@
-// What `finish` answers where it cannot work.
-
-// The table is beyond the limits, or does not fit its bed or the table it is to be finished into: a caller's error,
-// as no stage leaves one so.
+// What `finish` says of a table that it cannot work, for one of the reasons there. No stage leaves a table so.
 #[derive(Clone, Copy, Debug, PartialEq, Eq)]
 pub struct Unfit;

@@ -7,7 +7,7 @@ use Rattle.reach.specs.declared.answer.Refusal.{Refusal}
 use Rattle.reach.specs.declared.answer.Refusal.TheVariants as refusal
 use Rattle.reach.specs.declared.answer.Refused.{Refused}
 use Rattle.reach.specs.declared.answer.Volumes.{Volumes as Crossed}
-use Rattle.reach.specs.Refusals.{number_of}
+use Rattle.reach.specs.Refusals.{number_of, told_number}
 
 abbrev pub Answer : Type 0
 Answer = Result Crossed Refused
@@ -88,6 +88,29 @@ pub one_refused : (d e : Refused) → number_of d.refusal ≡ number_of e.refusa
 one_refused d e p q =
     let same : d.refusal ≡ e.refusal = sym (number_back d.refusal) ∙ ap refusal_of p ∙ number_back e.refusal in
     λ i. record { refusal = same i; place = q i }
+
+-- so what is told by its number leaves one answer;
+pub one_told : (a b : Result (Unit {0}) Refusal) → told_number a ≡ told_number b → a ≡ b
+unfolding refusal_of
+one_told a b e = sym (back a) ∙ ap told e ∙ back b
+  where
+    told : ℕ → Result (Unit {0}) Refusal
+    told k = cond (eqb k 0) (Ok tt) (Err (refusal_of k))
+
+    numbered_back : (k : Refusal) → told (number_of k) ≡ Err k
+    numbered_back refusal.Lengths = refl
+    numbered_back refusal.Numbers = refl
+    numbered_back refusal.Bed = refl
+    numbered_back refusal.Friction = refl
+    numbered_back refusal.State = refl
+    numbered_back refusal.Speed = refl
+    numbered_back refusal.TimeStep = refl
+    numbered_back refusal.Stage = refl
+    numbered_back refusal.Faces = refl
+
+    back : (r : Result (Unit {0}) Refusal) → told (told_number r) ≡ r
+    back (Ok x) = refl
+    back (Err k) = numbered_back k
 
 -- so an outcome with the number and the place of a refusal gives just that,
 pub answer_refused : (e : Refused) → Err e ≡ answer (refused (number_of e.refusal) e.place)

@@ -3,6 +3,8 @@
 // found within that block. What it must write comes from tests/reference/roots.py.
 #![tactic(auto)]
 
+use draw::numbers::{SEED, following};
+use draw::sums::{double_bits, rolled};
 use root::root;
 use std::io;
 
@@ -11,17 +13,6 @@ const TOP: u64 = 0x7ff0_0000_0000_0000; // the bits of an infinity
 const SIGN: u64 = 0x8000_0000_0000_0000;
 
 const FRACTION: u64 = 0xf_ffff_ffff_ffff; // every bit of the fraction
-
-// 64 bits that look drawn at random, and are the same on every run.
-fn next(x: u64) -> u64 {
-    let a = x ^ (x << 13);
-    let b = a ^ (a >> 7);
-    b ^ (b << 17)
-}
-
-fn mix(sum: u64, b: u64) -> u64 {
-    sum.rotate_left(1) ^ b
-}
 
 // The double with the bits b; the bits of every NaN give the one NaN.
 #[tactic(auto, using(std::proofs::lemmas::Float::not_nan_f64_bits))]
@@ -34,17 +25,9 @@ fn double(b: u64) -> f64 {
     if b < SIGN { x } else { -x }
 }
 
-// The bits of x. No root is a NaN; 2 would show one.
-fn bits(x: f64) -> u64 {
-    if x.is_nan() { 2 } else { x.to_bits() }
-}
-
-// The bits of the root, or 1 where there is none: no root has those.
+// The bits of the root, or 1 where there is none: no root has those. No root is a NaN either; 2 would show one.
 fn answer(b: u64) -> u64 {
-    match root(double(b)) {
-        Some(r) => bits(r),
-        None => 1,
-    }
+    root(double(b)).map_or(1, double_bits)
 }
 
 // 32 exponents to a block, each with the ends of the fraction's range first. The last exponent is
@@ -73,10 +56,10 @@ fn square(x: u64) -> f64 {
 
 // The roots of a square and of the doubles just below and just above it.
 fn around(x: u64) -> u64 {
-    let b = bits(square(x));
+    let b = double_bits(square(x));
     let below = answer(b.wrapping_sub(1));
     let above = answer(b.wrapping_add(1));
-    mix(mix(below, answer(b)), above)
+    rolled(rolled(below, answer(b)), above)
 }
 
 fn item(block: u64, i: u64, x: u64) -> u64 {
@@ -89,11 +72,11 @@ fn item(block: u64, i: u64, x: u64) -> u64 {
 }
 
 fn sum(block: u64) -> u64 {
-    let mut x = 88172645463325252 ^ (block << 32);
+    let mut x = SEED ^ (block << 32);
     let mut sum = 0u64;
     for i in 0..1000 {
-        x = next(x);
-        sum = mix(sum, item(block, i, x));
+        x = following(x);
+        sum = rolled(sum, item(block, i, x));
     }
     sum
 }

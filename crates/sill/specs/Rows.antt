@@ -10,8 +10,7 @@ use Rattle.rules.specs.Refusals.{is_long}
 use Rattle.sill_rules.specs.Reach.{Reach, State, crest_left, crest_right, over, pace}
 use Rattle.sill_rules.specs.Step.{dried_pool}
 use Rattle.sill.specs.declared.rows.Call.{Call}
-use Rattle.sill.specs.declared.rows.Side.{Side}
-use Rattle.sill.specs.declared.rows.Flux.{Flux}
+use Rattle.sill.specs.Told.{kind_of}
 
 -- ---- a cell: its level and discharge, its depths over the two crests, and its speed at the dry depth d
 abbrev pub row_by : Reach → ℤ → ℕ → Pool → List ℤ
@@ -30,13 +29,7 @@ left_of l = record { h = get_or l 2 (pos 0); u = get_or l 4 (pos 0) }
 abbrev pub right_of : List ℤ → faces.Side
 right_of l = record { h = get_or l 3 (pos 0); u = get_or l 4 (pos 0) }
 
-abbrev pub side_in : Side → faces.Side
-side_in x = record { h = x.h; u = x.u }
-
--- ---- faces: mass, pressure, advection and top speed; then the row that is kept, with the volume in the place of the mass
-abbrev pub flux_in : Flux → faces.Flux
-flux_in x = record { F = x.f; K = x.k; A = x.a; S = x.s }
-
+-- ---- faces: the row that is kept, with the volume in the place of the mass
 abbrev pub face_row : ℤ → ℤ → faces.Flux → List ℤ
 face_row dx dt x = volume dx dt x ∷ x.K ∷ x.A ∷ []
 
@@ -54,8 +47,8 @@ abbrev pub shown_in : Call → List (List ℤ) → Shown
 shown_in c b = record {
   n = c.n;
   face = face;
-  left = λ x. face (outer c.left x) x;
-  right = λ x. face x (outer c.right x);
+  left = λ x. face (outer (kind_of c.left) x) x;
+  right = λ x. face x (outer (kind_of c.right) x);
   to_left = λ i. left_of (get_or b i []);
   to_right = λ i. right_of (get_or b i []);
 }

@@ -1,6 +1,5 @@
 -- What the functions of the step answer: the checks in their order, and what the tables then hold.
-use Rattle.std.specs.Prelude.{◌≡◌, List, [], ◌∷◌, ◌++◌, ℕ, suc, ◌≤◌, ◌<◌, get_or, ℤ, pos}
-use Rattle.tables.specs.Some.{lowest}
+use Rattle.std.specs.Prelude.{◌≡◌, List, [], ◌∷◌, ◌++◌, ℕ, suc, ◌<◌, get_or, ℤ, pos, Option, None}
 use Rattle.tables.specs.Rows.{Written}
 use Rattle.tables.specs.Pools.{as_row, pool_in, pool_table}
 use Rattle.rules.specs.Refusals.{bad_rough, Check, each}
@@ -9,6 +8,7 @@ use Rattle.rules.specs.Lent.{Outcome, outcome}
 use Rattle.sill_rules.specs.Reach.{Reach, Call, State}
 use Rattle.sill_rules.specs.Step.{rubbed, face_at, next, carry}
 use Rattle.sill_rules.specs.Refusals.{bad_bed, off_pool, off, fast_friction, fast_face, too_long}
+use Rattle.reach.specs.Places.{first_place}
 use Rattle.sill.specs.declared.rows.Call.{Call as ToldCall}
 use Rattle.sill.specs.Told.{reach_in, call_in}
 use Rattle.sill.specs.Rows.{row_at, face_row}
@@ -31,10 +31,10 @@ stage_checks r c s =
     ∷ each 8 r.n (off r (next r c s))
     ∷ []
 
--- the check of the friction speeds of s: the lowest cell that it refuses, or n; and then the rows of the cells after friction, in b
-pub record RubSays (r : Reach) (c : Call) (s : State) (k : ℕ) (b : List (List ℤ)) : Type 0 where
-  pub stops : k ≡ lowest (fast_friction r c s) r.n
-  pub rows : r.n ≤ k → Written [] b r.n (row_at r c.dry (rubbed r c s))
+-- the check of the friction speeds of s: the lowest cell that it refuses, or none; and then the rows of the cells after friction, in b
+pub record RubSays (r : Reach) (c : Call) (s : State) (k : Option ℕ) (b : List (List ℤ)) : Type 0 where
+  pub stops : k ≡ first_place (fast_friction r c s) r.n
+  pub rows : k ≡ None → Written [] b r.n (row_at r c.dry (rubbed r c s))
 
 -- the stage from s: what its checks found, and where that is none the rows of its faces in f and the end state in a
 pub record StageDone (r : Reach) (c : Call) (s : State) (f a : List (List ℤ)) : Type 0 where

@@ -9,14 +9,8 @@ ghost use Rattle.sill.specs.Told.{reach_in};
 use crate::rows::Call;
 use reach::bed::bed_at;
 
-// The higher of two beds.
-fn higher(a: i64, b: i64) -> i64
-    ensures { result ≡ max_z a b }
-{
-    if a <= b { b } else { a }
-}
-
 // The bed that counts at the left face of cell i, and at its right face: at an end the cell's own.
+#[tactic(auto, using(face::proofs::Choice::max_is), unfolding(sill_rules::specs::Reach::crest_left, sill_rules::specs::Reach::higher))]
 pub fn crest_left(bed: &[i32], call: Call, i: usize) -> i64
     requires { (i < call.n) × (call.n ≤ most_cells) }
     ensures { result ≡ crest_left (reach_in call bed.now) i }
@@ -25,9 +19,10 @@ pub fn crest_left(bed: &[i32], call: Call, i: usize) -> i64
     if i == 0 {
         return own;
     }
-    higher(bed_at(bed, i - 1), own)
+    bed_at(bed, i - 1).max(own)
 }
 
+#[tactic(auto, using(face::proofs::Choice::max_is), unfolding(sill_rules::specs::Reach::crest_right, sill_rules::specs::Reach::higher))]
 pub fn crest_right(bed: &[i32], call: Call, i: usize) -> i64
     requires { (i < call.n) × (call.n ≤ most_cells) }
     ensures { result ≡ crest_right (reach_in call bed.now) i }
@@ -36,14 +31,14 @@ pub fn crest_right(bed: &[i32], call: Call, i: usize) -> i64
     if i + 1 == call.n {
         return own;
     }
-    higher(own, bed_at(bed, i + 1))
+    own.max(bed_at(bed, i + 1))
 }
 
 // The level e less the crest z, or nought.
+#[tactic(auto, using(face::proofs::Choice::max_is), unfolding(whole::specs::Choice::max_z))]
 pub fn over(z: i64, e: i64) -> i64
     requires { UpTo highest_bed z × UpTo widest e }
     ensures { result ≡ max_z (pos 0) (e -ℤ z) }
 {
-    let h = e - z;
-    if 0 <= h { h } else { 0 }
+    (e - z).max(0)
 }

@@ -1,47 +1,45 @@
 // What crosses each face of the reach: worked once, and kept with its volume.
 ghost use Rattle.std.specs.Prelude.{◌≡◌, [], suc, ◌≤◌, ◌<◌, length};
-ghost use Rattle.tables.specs.Filling.{FillSays};
 ghost use Rattle.rules.specs.Face.{face};
 ghost use Rattle.rules.specs.Ends as rules;
 ghost use Rattle.rules.specs.Refusals.{is_long};
 ghost use Rattle.rules.specs.Laws.Sizes.{Sound, Sized};
-ghost use Rattle.sill.specs.Rows.{side_in, flux_in, face_row, cross_in, long_at, face_row_at};
+ghost use Rattle.reach.specs.Places.{FillStops};
+ghost use Rattle.face.specs.Sides.{side_in, flux_in};
+ghost use Rattle.sill.specs.Told.{kind_of};
+ghost use Rattle.sill.specs.Rows.{face_row, cross_in, long_at, face_row_at};
 ghost use Rattle.sill.specs.Ranges.{Numbers, Rows};
 
-use crate::rows::{Call, FaceRow, Flux, Row, Side, left_side, right_side};
-use face::answer::Carried;
+use crate::rows::{Call, End, FaceRow, Row, left_side, right_side};
+use face::sides::{Flux, Side};
 
-// What crosses between two sides. Both are within the limits, so the face crate never refuses. A side of
+// What crosses between two sides. Both are within the limits, so there always is a flux. A side of
 // no depth may have a speed: that of its cell, which does not reach over the crest.
+#[tactic(auto, using(face::proofs::Fits::face_given_lem))]
 fn crossing(l: Side, r: Side) -> Flux
     requires { Sound (side_in l) × Sound (side_in r) }
     ensures { flux_in result ≡ face (side_in l) (side_in r) }
 {
-    match face::flux::face(l.h, l.u, r.h, r.u) {
-        Carried::Flux(f, k, a, s) => Flux { f, k, a, s },
-        Carried::Refused => Flux {
-            f: 0,
-            k: 0,
-            a: 0,
-            s: 0,
-        },
-    }
+    face::flux::face(l, r).unwrap()
 }
 
 // The outer side of an end: as deep as the inner; its speed is reversed at a wall, the same at an open end.
-fn outer(kind: u32, x: Side) -> Side
+#[tactic(auto, unfolding(rules::specs::Ends::outer))]
+fn outer(end: End, x: Side) -> Side
     requires { Sound (side_in x) }
-    ensures { (side_in result ≡ rules.outer kind (side_in x)) × Sound (side_in result) }
+    ensures { (side_in result ≡ rules.outer (kind_of end) (side_in x)) × Sound (side_in result) }
 {
-    if kind == 0 {
-        return Side { h: x.h, u: -x.u };
+    match end {
+        End::Wall => Side { h: x.h, u: -x.u },
+        End::Open => x,
     }
-    x
 }
 
 // What crosses face i, between the cells in b.
+#[tactic(auto, using(crate::specs::Laws::FaceSizes::at_each))]
 fn face_at(b: &[Row], call: Call, i: usize) -> Flux
-    requires numbers { Numbers call × (call.n ≤ length b.now) × (i ≤ call.n) }
+    requires numbers { Numbers call }
+    requires room { (call.n ≤ length b.now) × (i ≤ call.n) }
     requires rows { Rows b.now call.n }
     ensures { flux_in result ≡ cross_in call b.now i }
 {
@@ -74,21 +72,19 @@ fn face_row(x: Flux, call: Call) -> FaceRow
     [x.f * call.dt / call.dx, x.k, x.a]
 }
 
-// 7: the rows of the n + 1 faces into f, up to the lowest at which the step is too long: that face, or n + 1.
-pub fn faces(b: &[Row], call: Call, f: &mut [FaceRow]) -> usize
-    requires numbers { Numbers call × (call.n ≤ length b.now) × (call.n < length f.old) }
+// 7: the rows of the n + 1 faces into f, up to the lowest at which the step is too long, which it gives.
+pub fn faces(b: &[Row], call: Call, f: &mut [FaceRow]) -> Option<usize>
+    requires numbers { Numbers call }
+    requires room { (call.n ≤ length b.now) × (call.n < length f.old) }
     requires rows { Rows b.now call.n }
-    ensures { FillSays [] (suc call.n) (long_at call b.now) (face_row_at call b.now) result f.new }
+    ensures { FillStops [] (suc call.n) (long_at call b.now) (face_row_at call b.now) result f.new }
 {
-    let n = call.n;
-    let mut i: usize = 0;
-    while i <= n {
+    for i in 0..=call.n {
         let x = face_at(b, call, i);
         f[i] = face_row(x, call);
         if too_long(x, call) {
-            return i;
+            return Some(i);
         }
-        i += 1;
     }
-    n + 1
+    None
 }

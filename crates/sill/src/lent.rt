@@ -12,5 +12,5 @@ pub fn pool_of(s: &[i32], n: usize, i: usize) -> Pool
     requires { (n ≤ most_cells) × (i < n) × (length s.now ≡ 2 * n) }
     ensures { (result ≡ as_row (pool_in n s.now i)) × Wide (pool_in n s.now i) }
 {
-    [s[i] as i64, s[n + i] as i64]
+    [i64::from(s[i]), i64::from(s[n + i])]
 }

@@ -19,15 +19,14 @@ ghost use Rattle.sill_rules.specs.Lent.{step_of};
 ghost use Rattle.reach.specs.Gives.{Gives};
 ghost use Rattle.sill.specs.Told.{lent_by};
 
-use crate::checks::{bad_lengths, bad_numbers};
-use crate::rows::Call;
-use crate::worked::{SHORT_CELLS, long_step, short_step};
+use crate::checks::{bad_lengths, call_of};
+use crate::worked::work;
 pub use reach::answer::Answer;
-use reach::lent::widened;
+use reach::answer::{Refusal, Refused};
 
 // The numbers of a call as its caller gives them, each still to be held against its list. The kinds of the
 // two ends are 0 a wall and 1 open.
-#[derive(Clone, Copy)]
+#[derive(Clone, Copy, Debug, PartialEq, Eq)]
 pub struct Given {
     pub dx: u32,
     pub dt: u32,
@@ -45,21 +44,16 @@ pub fn step(state: &[i32], next: &mut [i32], bed: &[i32], friction: &[u16], give
 {
     let n = friction.len();
     if bad_lengths(state.len(), next.len(), bed.len(), n) {
-        return Answer::Refused(1, 0);
+        return Err(Refused {
+            refusal: Refusal::Lengths,
+            place: 0,
+        });
     }
-    let call = Call {
-        dx: widened(given.dx),
-        dt: widened(given.dt),
-        dry: widened(given.dry),
-        n,
-        left: given.left,
-        right: given.right,
+    let Some(call) = call_of(given, n) else {
+        return Err(Refused {
+            refusal: Refusal::Numbers,
+            place: 0,
+        });
     };
-    if bad_numbers(call) {
-        return Answer::Refused(2, 0);
-    }
-    if n <= SHORT_CELLS {
-        return short_step(state, next, bed, friction, call);
-    }
-    long_step(state, next, bed, friction, call)
+    work(state, next, bed, friction, call)
 }

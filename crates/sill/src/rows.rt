@@ -1,6 +1,9 @@
 // The numbers that travel together, and the rows that the step keeps in its tables: each has one meaning.
 ghost use Rattle.std.specs.Prelude.{◌≡◌};
-ghost use Rattle.sill.specs.Rows.{side_in, left_of, right_of};
+ghost use Rattle.face.specs.Sides.{side_in};
+ghost use Rattle.sill.specs.Rows.{left_of, right_of};
+
+use face::sides::Side;
 
 // A cell: its level and its discharge.
 pub type Pool = [i64; 2];
@@ -12,32 +15,23 @@ pub type Row = [i64; 5];
 // What is kept of a face: the volume V, the pressure K and the advection A.
 pub type FaceRow = [i64; 3];
 
-// One side of a face: its depth and its speed.
-#[derive(Clone, Copy)]
-pub struct Side {
-    pub h: i64,
-    pub u: i64,
+// An end: a wall, which turns water back, or open, which lets it through.
+#[derive(Clone, Copy, Debug, PartialEq, Eq)]
+pub enum End {
+    Wall,
+    Open,
 }
 
-// What crosses a face: mass F, pressure K, advection A, and the top speed S.
-#[derive(Clone, Copy)]
-pub struct Flux {
-    pub f: i64,
-    pub k: i64,
-    pub a: i64,
-    pub s: i64,
-}
-
-// The numbers of a call: the length of a cell, the time step, the dry depth, how many cells there are, and
-// the kinds of the two ends.
-#[derive(Clone, Copy)]
+// The numbers of a call, each in its list: the length of a cell, the time step, the dry depth and how many cells
+// there are; and the two ends.
+#[derive(Clone, Copy, Debug, PartialEq, Eq)]
 pub struct Call {
     pub dx: i64,
     pub dt: i64,
     pub dry: i64,
     pub n: usize,
-    pub left: u32,
-    pub right: u32,
+    pub left: End,
+    pub right: End,
 }
 
 // The two sides of a cell's row.

@@ -4,6 +4,7 @@ ghost use Rattle.tables.specs.Pools.{as_pool, as_row, pool_in};
 ghost use Rattle.rules.specs.Limits.{least_dry, deepest, fullest, fastest, roughest, longest_step};
 ghost use Rattle.rules.specs.Friction.{drag, slowed};
 ghost use Rattle.reach.specs.Ranges.{UpTo};
+ghost use Rattle.friction.specs.Strength as strength;
 ghost use Rattle.sill_rules.specs.Reach.{pace};
 ghost use Rattle.sill_rules.specs.Step.{rubbed_pool};
 ghost use Rattle.sill_rules.specs.Refusals.{fast_pool};
@@ -16,49 +17,54 @@ use crate::crests::{crest_left, crest_right, over};
 use crate::lent::pool_of;
 use crate::pool::{depth_of, speed_of};
 use crate::rows::{Call, Pool, Row};
-use friction::strength::Rubbing;
+use friction::slowed::slowed;
+use friction::strength::{Rubbing, strength};
 use reach::bed::bed_at;
 use reach::friction::rough_at;
 use reach::limits::{FASTEST, past};
-use speeds::answer::Whole;
 
-// What friction of the Manning value f leaves of a discharge q, at a depth h and a speed u that are within
-// the limits: neither answer is a refusal.
-fn slowed_of(dt: i64, f: i64, h: i64, u: i64, q: i64) -> i64
-    requires pos_bound { (pos 0 ≤ℤ dt) × UpTo longest_step dt }
-    requires pos_bound_2 { (pos 0 ≤ℤ f) × UpTo roughest f }
-    requires least_dry_lt_h { (least_dry <ℤ h) × (h ≤ℤ deepest) }
-    requires up_to { UpTo fastest u × UpTo fullest q }
-    ensures { result ≡ slowed (drag dt f h u) q }
+// What friction leaves of a discharge q, at a place that is within the limits: there always is a strength, and what
+// it leaves.
+fn slowed_of(at: Rubbing, q: i64) -> i64
+    requires ranged { strength.Ranged at }
+    requires slow { UpTo fastest at.u }
+    requires full { UpTo fullest q }
+    ensures { result ≡ slowed (drag at.dt at.rough at.h at.u) q }
 {
-    match friction::strength::strength(Rubbing { dt, rough: f, h, u }) {
-        Whole::Is(x) => match friction::slowed::slowed(x, q) {
-            Whole::Is(r) => r,
-            Whole::Refused => 0,
-        },
-        Whole::Refused => 0,
-    }
+    let x = strength(at).unwrap();
+    slowed(x, q).unwrap()
 }
 
 // A cell over the bed z after friction of the Manning value f, whose speed before it is u. Shallow and calm
 // cells keep what they have, with no root and no division worked for them.
+#[tactic(auto, unfolding(sill_rules::specs::Step::rubbed_pool, sill_rules::specs::Reach::pace))]
 fn rubbed_pool(call: Call, f: i64, z: i64, x: Pool, u: i64) -> Pool
     requires numbers { Numbers call }
-    requires pos_bound { (pos 0 ≤ℤ f) × UpTo roughest f }
+    requires rough { (pos 0 ≤ℤ f) × UpTo roughest f }
     requires inside { Inside z (as_pool x) }
-    requires u_value { (u ≡ pace call.dry z (as_pool x)) × (fast_pool call.dry z (as_pool x) ≡ false) }
+    requires paced { u ≡ pace call.dry z (as_pool x) }
+    requires slow { fast_pool call.dry z (as_pool x) ≡ false }
     ensures { result ≡ as_row (rubbed_pool call.dt call.dry f z (as_pool x)) }
 {
     let h = depth_of(z, x);
     if h <= call.dry || x[1] == 0 {
         return x;
     }
-    [x[0], slowed_of(call.dt, f, h, u, x[1])]
+    let at = Rubbing {
+        dt: call.dt,
+        rough: f,
+        h,
+        u,
+    };
+    [x[0], slowed_of(at, x[1])]
 }
 
 // The row of cell i, which is x after friction.
+#[tactic(auto, using(crate::specs::Laws::CrestSizes::row_sizes), unfolding(sill_rules::specs::Reach::over, sill_rules::specs::Reach::pace))]
 fn row_of(call: Call, bed: &[i32], i: usize, x: Pool) -> Row
-    requires numbers { Numbers call × (i < call.n) × Grounds bed.now call.n }
+    requires numbers { Numbers call }
+    requires of_reach { i < call.n }
+    requires grounds { Grounds bed.now call.n }
     requires inside { Inside (get_or bed.now i (pos 0)) (as_pool x) }
     ensures { result ≡ row_by (reach_in call bed.now) call.dry i (as_pool x) }
 {
@@ -68,22 +74,23 @@ fn row_of(call: Call, bed: &[i32], i: usize, x: Pool) -> Row
     [x[0], x[1], l, r, u]
 }
 
-// 6: the rows of the cells of a lent state into b, up to the lowest that is too fast for friction: that
-// cell, or n. Checked also where friction is 0. Friction speeds no water up, so no face is too fast then.
-pub fn rub(state: &[i32], bed: &[i32], friction: &[u16], call: Call, b: &mut [Row]) -> usize
-    requires numbers { Numbers call × Grounds bed.now call.n × (length state.now ≡ 2 * call.n) × (call.n ≤ length b.old) }
-    requires smooth { Smooth friction.now call.n × Ranged bed.now call.n state.now }
+// 6: the rows of the cells of a lent state into b, up to the lowest that is too fast for friction, which it
+// gives. Checked also where friction is 0. Friction speeds no water up, so no face is too fast then.
+pub fn rub(state: &[i32], bed: &[i32], friction: &[u16], call: Call, b: &mut [Row]) -> Option<usize>
+    requires numbers { Numbers call }
+    requires room { (length state.now ≡ 2 * call.n) × (call.n ≤ length b.old) }
+    requires grounds { Grounds bed.now call.n }
+    requires smooth { Smooth friction.now call.n }
+    requires ranged { Ranged bed.now call.n state.now }
     ensures { RubSays (reach_in call bed.now) (call_in call (λ i. pos (get_or friction.now i 0)))
         (pool_in call.n state.now) result b.new }
 {
-    let n = call.n;
-    let mut i: usize = 0;
-    while i < n {
-        let x = pool_of(state, n, i);
+    for i in 0..call.n {
+        let x = pool_of(state, call.n, i);
         let z = bed_at(bed, i);
         let u = speed_of(x[1], depth_of(z, x), call.dry);
         if past(FASTEST, u) {
-            return i;
+            return Some(i);
         }
         b[i] = row_of(
             call,
@@ -91,7 +98,6 @@ pub fn rub(state: &[i32], bed: &[i32], friction: &[u16], call: Call, b: &mut [Ro
             i,
             rubbed_pool(call, rough_at(friction, i), z, x, u),
         );
-        i += 1;
     }
-    n
+    None
 }

@@ -16,14 +16,13 @@ fn put_pool(next: &mut [i32], n: usize, i: usize, x: Pool)
 }
 
 // The first n cells of y, as the whole lent table.
+#[tactic(auto, using(tables::specs::Pools::pools_all))]
 pub fn store(y: &[Pool], n: usize, next: &mut [i32])
-    requires n_in_bounds { (n ≤ length y.now) × (n ≤ most_cells) × (length next.old ≡ 2 * n) }
-    requires by_index { (i : ℕ) → i < n → Fits (pools_seen y.now i) }
+    requires room { (n ≤ length y.now) × (n ≤ most_cells) × (length next.old ≡ 2 * n) }
+    requires fits { (i : ℕ) → i < n → Fits (pools_seen y.now i) }
     ensures { next.new ≡ pool_table n (pools_seen y.now) }
 {
-    let mut i: usize = 0;
-    while i < n {
+    for i in 0..n {
         put_pool(next, n, i, y[i]);
-        i += 1;
     }
 }

@@ -6,14 +6,17 @@
 // `next` held after each call. What it must write comes from tests/reference/sills.py.
 #![tactic(auto)]
 
-mod draw;
 mod kinds;
+mod numbers;
 
 ghost use Rattle.std.specs.Prelude.{◌≤◌};
 
-use draw::{bits, drawn, mixed, narrow, wide};
+use draw::sums::{mixed, summed};
+use draw::tables::{Table, narrow, put, put_friction};
 use kinds::{cells, drawn_cell, dry, dt, dx, has, roughness, times};
-use sill::{Answer, Given};
+use numbers::drawn_apart;
+use reach::answer::{Answer, Refusal, Refused, Volumes};
+use sill::Given;
 use std::io;
 
 // What came of the steps of a reach: how many were accepted, what came in and went out, the refusal and its place, and
@@ -21,66 +24,85 @@ use std::io;
 #[derive(Clone, Copy)]
 struct Tally {
     made: u64,
-    came: u64,
-    went: u64,
-    number: u64,
-    place: u64,
+    came: i64,
+    went: i64,
+    refused: Option<Refused>,
     sum: u64,
 }
 
-fn least(a: usize, m: usize) -> usize
-    ensures { result ≤ m }
-{
-    if m < a { m } else { a }
+impl Tally {
+    fn told(self, answer: Answer) -> Tally {
+        match answer {
+            Ok(Volumes { first, last }) => Tally {
+                made: self.made.wrapping_add(1),
+                came: self.came.wrapping_add(first),
+                went: self.went.wrapping_add(last),
+                sum: mixed(mixed(self.sum, first.cast_unsigned()), last.cast_unsigned()),
+                ..self
+            },
+            Err(refused) => Tally {
+                refused: Some(refused),
+                sum: mixed(
+                    mixed(self.sum, u64::from(u32::from(refused.refusal))),
+                    refused.place as u64,
+                ),
+                ..self
+            },
+        }
+    }
 }
 
-// How much of table k of m is lent: state, next, bed or friction. At a fault one of them is wrong by one, or all are
-// right for no cell or for 1,025.
-fn lent(r: u64, k: u64, m: usize) -> usize
+// How long a table is for n cells.
+fn right_length(table: Table, n: usize) -> usize
+    requires { n ≤ 1025 }
+{
+    match table {
+        Table::State | Table::Next => 2 * n,
+        Table::Bed | Table::Friction => n,
+    }
+}
+
+// One table of a length that is wrong by one, or all of them right for no cell or for 1,025.
+fn spoilt_length(r: u64, table: Table, n: usize) -> usize
+    requires { n ≤ 1025 }
+{
+    let x = drawn_apart(r, 11, 0) % 10;
+    let spoilt = match x {
+        0 | 1 => Table::State,
+        2 | 3 => Table::Next,
+        4 | 5 => Table::Bed,
+        6 | 7 => Table::Friction,
+        8 => return right_length(table, 0),
+        _ => return right_length(table, 1025),
+    };
+    let right = right_length(table, n);
+    if spoilt != table {
+        right
+    } else if x.is_multiple_of(2) {
+        right.wrapping_sub(1)
+    } else {
+        right.wrapping_add(1)
+    }
+}
+
+// How much of a table of m is lent.
+fn lent(r: u64, table: Table, m: usize) -> usize
     ensures { result ≤ m }
 {
-    let x = drawn(r, 11, 0) % 10;
-    let n = least(cells(r), 1024);
-    let a = if k < 2 { 2 * n } else { n };
-    if !has(r, 1) {
-        return least(a, m);
+    let n = cells(r);
+    if has(r, Refusal::Lengths) {
+        return spoilt_length(r, table, n).min(m);
     }
-    if 7 < x {
-        return least([0usize, 0, 2050, 1025][(x % 2 * 2 + k / 2 % 2) as usize], m);
-    }
-    if x / 2 != k {
-        return least(a, m);
-    }
-    if x % 2 == 0 {
-        return least(a.wrapping_sub(1), m);
-    }
-    least(a.wrapping_add(1), m)
+    right_length(table, n).min(m)
 }
 
 // Number k of a call: dx, dt, the dry depth and the kinds of the two ends. It is `right` where it has no fault.
 fn given(r: u64, k: u64, right: u64) -> u32 {
-    let x = drawn(r, 12, 0) % 10;
-    if has(r, 2) && x / 2 == k {
+    let x = drawn_apart(r, 12, 0) % 10;
+    if has(r, Refusal::Numbers) && x / 2 == k {
         return [0u32, 1048577, 0, 4097, 0, 65, 2, 0xffff_ffff, 2, 3][x as usize];
     }
     (right % 0x1_0000_0000) as u32
-}
-
-// Beyond a table's end nothing is put, and 0 is found.
-fn put(t: &mut [i32], i: usize, x: u64) {
-    if i < t.len() {
-        t[i] = narrow(x);
-    }
-}
-
-fn put_friction(t: &mut [u16], i: usize, x: u64) {
-    if i < t.len() {
-        t[i] = (x % 65536) as u16;
-    }
-}
-
-fn at(t: &[i32], i: usize) -> u64 {
-    if i < t.len() { bits(wide(t[i])) } else { 0 }
 }
 
 fn fill(state: &mut [i32], bed: &mut [i32], friction: &mut [u16], r: u64) {
@@ -89,48 +111,21 @@ fn fill(state: &mut [i32], bed: &mut [i32], friction: &mut [u16], r: u64) {
         let c = drawn_cell(r, i as u64);
         put(bed, i, c.z);
         put(state, i, c.e);
-        put(state, n.wrapping_add(i), c.q);
+        put(state, n + i, c.q);
         put_friction(friction, i, roughness(r, i as u64));
     }
 }
 
 // The water of n cells: the sum of their depths.
-fn water(state: &[i32], bed: &[i32], n: usize) -> u64 {
-    let mut w: u64 = 0;
-    for i in 0..n {
-        w = w.wrapping_add(at(state, i).wrapping_sub(at(bed, i)));
+fn water(state: &[i32], bed: &[i32], n: usize) -> i64 {
+    let mut water = 0i64;
+    for (level, z) in state.iter().zip(bed).take(n) {
+        water = water.wrapping_add(i64::from(*level) - i64::from(*z));
     }
-    w
+    water
 }
 
-// The running sum with the numbers of a table.
-fn summed(sum: u64, t: &[i32]) -> u64 {
-    let mut s = sum;
-    for x in t {
-        s = mixed(s, bits(wide(*x)));
-    }
-    s
-}
-
-fn told(t: Tally, a: Answer) -> Tally {
-    let mut u = t;
-    match a {
-        Answer::Refused(k, p) => {
-            u.number = k as u64;
-            u.place = p as u64;
-            u.sum = mixed(mixed(t.sum, u.number), u.place);
-        }
-        Answer::Accepted(v, w) => {
-            u.made = t.made.wrapping_add(1);
-            u.came = t.came.wrapping_add(bits(v));
-            u.went = t.went.wrapping_add(bits(w));
-            u.sum = mixed(mixed(t.sum, bits(v)), bits(w));
-        }
-    }
-    u
-}
-
-// A step, unless one was refused, on what is lent of the tables. What `next` has beyond that is summed too.
+// A step on what is lent of the tables. What `next` has beyond that is summed too.
 fn stepped(
     t: Tally,
     r: u64,
@@ -139,99 +134,76 @@ fn stepped(
     bed: &[i32],
     friction: &[u16],
 ) -> Tally {
-    if t.number != 0 {
-        return t;
-    }
     let call = Given {
         dx: given(r, 0, dx(r)),
         dt: given(r, 1, dt(r)),
         dry: given(r, 2, dry(r)),
-        left: given(r, 3, drawn(r, 13, 0) % 2),
-        right: given(r, 4, drawn(r, 13, 1) % 2),
+        left: given(r, 3, drawn_apart(r, 13, 0) % 2),
+        right: given(r, 4, drawn_apart(r, 13, 1) % 2),
     };
-    let a = lent(r, 0, state.len());
-    let b = lent(r, 1, next.len());
-    let c = lent(r, 2, bed.len());
-    let d = lent(r, 3, friction.len());
-    let mut u = told(
-        t,
-        sill::step(
-            &state[0..a],
-            &mut next[0..b],
-            &bed[0..c],
-            &friction[0..d],
-            call,
-        ),
-    );
-    u.sum = summed(u.sum, next);
-    u
-}
-
-// A number after some words; x is its 64 bits.
-fn show(rt: &impl Print, words: &str, x: u64) -> io::Result<()> {
-    if x < 0x8000_0000_0000_0000 {
-        print!(rt; "{words}{x}")
-    } else {
-        let size = 0u64.wrapping_sub(x);
-        print!(rt; "{words}-{size}")
+    let a = lent(r, Table::State, state.len());
+    let b = lent(r, Table::Next, next.len());
+    let c = lent(r, Table::Bed, bed.len());
+    let d = lent(r, Table::Friction, friction.len());
+    let answer = sill::step(&state[..a], &mut next[..b], &bed[..c], &friction[..d], call);
+    let u = t.told(answer);
+    Tally {
+        sum: summed(u.sum, next),
+        ..u
     }
 }
 
-fn line(rt: &impl Print, n: u64, t: Tally, before: u64, after: u64, still: bool) -> io::Result<()> {
-    show(rt, "cells ", n)?;
-    show(rt, ", steps ", t.made)?;
-    show(rt, ": ", before)?;
-    show(rt, " + ", t.came)?;
-    show(rt, " - ", t.went)?;
-    show(rt, " = ", after)?;
-    if t.number != 0 {
-        show(rt, ", refused ", t.number)?;
-        show(rt, " at ", t.place)?;
-    } else if still {
-        print!(rt; ", as it was")?;
+// A line of n cells: the water `before` the steps and `after` them, and whether the state is `still` as it was.
+fn line(
+    rt: &impl Print,
+    n: usize,
+    t: Tally,
+    before: i64,
+    after: i64,
+    still: bool,
+) -> io::Result<()> {
+    print!(rt;
+        "cells {n}, steps {}: {before} + {} - {} = {after}",
+        t.made, t.came, t.went
+    )?;
+    match t.refused {
+        Some(Refused { refusal, place }) => {
+            print!(rt; ", refused {} at {place}", u32::from(refusal))?
+        }
+        None if still => print!(rt; ", as it was")?,
+        None => {}
     }
-    let sum = t.sum;
-    println!(rt; "; {sum:016x}")
-}
-
-// The state from which the next step would go on.
-fn newest(number: u64, state: [i32; 2064], next: [i32; 2064]) -> [i32; 2064] {
-    if number == 0 { next } else { state }
+    println!(rt; "; {:016x}", t.sum)
 }
 
 fn run(rt: &impl Print, r: u64) -> io::Result<()> {
     let n = cells(r);
-    let a = lent(r, 0, 2056);
-    let b = lent(r, 1, 2056) + 8;
+    let a = lent(r, Table::State, 2056);
+    let b = lent(r, Table::Next, 2056) + 8;
     let mut state = [0i32; 2064];
     let mut bed = [0i32; 1032];
     let mut friction = [0u16; 1032];
     fill(&mut state, &mut bed, &mut friction, r);
     let before = water(&state, &bed, n);
-    let first = summed(1, &state[0..a]);
+    let first = summed(1, &state[..a]);
     let mut t = Tally {
         made: 0,
         came: 0,
         went: 0,
-        number: 0,
-        place: 0,
+        refused: None,
         sum: 1,
     };
-    for i in 0u64..times(r) {
+    for i in 0..times(r) {
         // another number before each call, to be found again where it is refused
-        let mut next = [narrow(drawn(r, 14, i) >> 17); 2064];
-        t = stepped(t, r, &state, &mut next[0..b], &bed, &friction);
-        state = newest(t.number, state, next);
+        let mut next = [narrow(drawn_apart(r, 14, i) >> 17); 2064];
+        t = stepped(t, r, &state, &mut next[..b], &bed, &friction);
+        if t.refused.is_some() {
+            break;
+        }
+        state = next;
     }
     let after = water(&state, &bed, n);
-    line(
-        rt,
-        n as u64,
-        t,
-        before,
-        after,
-        summed(1, &state[0..a]) == first,
-    )
+    line(rt, n, t, before, after, summed(1, &state[..a]) == first)
 }
 
 fn main(rt: HostRuntime) -> io::Result<()> {

@@ -1,7 +1,7 @@
 // The two ends of a call: their kinds, and a Q where an inflow is given.
-use crate::draw::{above, below, following, least, pick};
 use crate::fill::at;
 use crate::spoil::{given, third};
+use draw::numbers::{above, below, following, pick};
 use step::End;
 
 // What the ends of a call that is drawn from x are drawn from.
@@ -12,14 +12,14 @@ fn fourth(x: u64) -> u64 {
 // The depth that the first of n cells shows at the left end; the greatest where that is out of range.
 fn depth_at_left(state: &[i32], bed: &[i32], n: usize) -> u64 {
     let level = at(state, 0).wrapping_sub(at(state, n));
-    least(level.wrapping_sub(at(bed, 0)), 262144)
+    level.wrapping_sub(at(bed, 0)).min(262144)
 }
 
 // The same of the last cell at the right end.
 fn depth_at_right(state: &[i32], bed: &[i32], n: usize) -> u64 {
     let k = n.wrapping_sub(1);
     let level = at(state, k).wrapping_add(at(state, n.wrapping_add(k)));
-    least(level.wrapping_sub(at(bed, n)), 262144)
+    level.wrapping_sub(at(bed, n)).min(262144)
 }
 
 // An inflow into water of depth h: none, little, one of ordinary water so deep, one that does not look
@@ -39,7 +39,7 @@ fn inflow(h: u64, x: u64) -> u64 {
 // Q at an end of some kind, where the water is h deep.
 fn q_at(kind: u64, h: u64, x: u64) -> u64 {
     if kind == 2 {
-        least(inflow(h, x), 8388608)
+        inflow(h, x).min(8388608)
     } else {
         0
     }

@@ -1,17 +1,13 @@
 // What a reach is drawn from: one number, from which each of its kinds follows, and one face of its bed
 // or one cell of its state.
-use crate::draw::{above, below, either, following, half, least, pick, turned};
+ghost use Rattle.std.specs.Prelude.{◌≤◌};
 
-// Level and discharge, means and slopes, as 64 bits each.
-#[derive(Clone, Copy)]
-pub struct Cell {
-    pub e0: u64,
-    pub e1: u64,
-    pub q0: u64,
-    pub q1: u64,
-}
+use draw::cell::{Cell, over};
+use draw::numbers::{above, below, either, following, pick, turned};
 
-pub fn cells(r: u64) -> usize {
+pub fn cells(r: u64) -> usize
+    ensures { result ≤ 1024 }
+{
     match r % 128 {
         0..=29 => 1,
         30..=65 => 2,
@@ -77,7 +73,7 @@ pub fn seed(r: u64) -> u64 {
 // Half a bed value moved by at most m either way, within the range of a bed.
 fn rolled(z: u64, x: u64, m: u64) -> u64 {
     let y = z.wrapping_add(either(x, m));
-    if 0x8000_0000 < y { 0 } else { least(y, 524288) }
+    if 0x8000_0000 < y { 0 } else { y.min(524288) }
 }
 
 // Half the first bed value; under the kinds with a level, low enough for one that covers it.
@@ -87,19 +83,15 @@ pub fn first_face(r: u64) -> u64 {
 
 // Half a bed value after z: flat, rolling, broken, free, or one of the limits.
 pub fn face(r: u64, z: u64, x: u64) -> u64 {
-    let k = kind(r, 0, 0, 6);
-    if k < 11 {
-        rolled(
+    match kind(r, 0, 0, 6) {
+        k @ 0..=10 => rolled(
             z,
             x,
             [0u64, 0, 0, 0, 0, 2, 2, 40, 40, 1000, 1000][k as usize],
-        )
-    } else if k < 13 {
-        above(x, 9000, x % 2 * 3000)
-    } else if k < 15 {
-        pick(x, 524288)
-    } else {
-        [0u64, 1, 524287, 524288][(x % 4) as usize]
+        ),
+        11..=12 => above(x, 9000, x % 2 * 3000),
+        13..=14 => pick(x, 524288),
+        _ => [0u64, 1, 524287, 524288][(x % 4) as usize],
     }
 }
 
@@ -113,7 +105,7 @@ fn kind_in(mix: u64, x: u64) -> u64 {
 
 // A depth about the dry depth.
 fn thin(dry: u64, x: u64) -> u64 {
-    above(x, if dry < 4 { 0 } else { dry.wrapping_sub(4) }, 12)
+    above(x, dry.saturating_sub(4), 12)
 }
 
 // A depth at a face where half the bed is z.
@@ -128,16 +120,7 @@ fn depth(kind: u64, dry: u64, base: u64, z: u64, x: u64) -> u64 {
         6 => above(x, base, base / 32),
         7 => base,
         // under one level for all
-        _ => level_depth(base.wrapping_add(18000), z),
-    }
-}
-
-fn level_depth(level: u64, z: u64) -> u64 {
-    let bed = z << 1;
-    if level < bed {
-        0
-    } else {
-        level.wrapping_sub(bed)
+        _ => base.wrapping_add(18000).saturating_sub(z << 1),
     }
 }
 
@@ -159,7 +142,7 @@ fn greatest(kind: u64, most: u64, x: u64) -> u64 {
     if kind < 15 {
         below(x, most, 3).wrapping_add((x >> 9) % 8 / 7)
     } else {
-        below(x, least(most, 8388608), 2)
+        below(x, most.min(8388608), 2)
     }
 }
 
@@ -174,17 +157,12 @@ fn right_depth(kind: u64, left: u64, own: u64, x: u64) -> u64 {
     if kind < 4 { 0 } else { own }
 }
 
-// A cell of the given depths and discharges over half beds zl and zr.
-pub fn over(zl: u64, zr: u64, h0: u64, h1: u64, q0: u64, q1: u64) -> Cell {
-    Cell {
-        e0: h0.wrapping_add(zl.wrapping_add(zr)),
-        e1: h1.wrapping_add(zr.wrapping_sub(zl)),
-        q0: q0,
-        q1: q1,
-    }
+// Half of a number with a sign, rounded downward.
+fn half(x: u64) -> u64 {
+    (x.wrapping_add(0x100_0000_0000) >> 1).wrapping_sub(0x80_0000_0000)
 }
 
-// The same of the depths and discharges at the two faces; in some cells no slope of discharge.
+// A cell of the depths and discharges at its two faces; in some cells no slope of discharge.
 fn between(zl: u64, zr: u64, hl: u64, hr: u64, ql: u64, qr: u64, x: u64) -> Cell {
     let h0 = hl.wrapping_add(hr).wrapping_add(1) >> 1;
     let q0 = half(ql.wrapping_add(qr));

@@ -6,32 +6,108 @@
 // must write comes from tests/reference/steps.py.
 #![tactic(auto)]
 
-mod draw;
 mod ends;
 mod fill;
 mod kinds;
 mod spoil;
 
-use draw::{above, bits, following, mixed, pick};
+use draw::numbers::{SEED, above, following, pick};
+use draw::sums::{mixed, summed};
+use draw::tables::{Table, fill_pattern};
 use ends::{left_end, right_end};
-use fill::{fill_pattern, summed};
 use kinds::{cells, dry, seed};
+use reach::answer::{Answer, Refusal, Refused, Volumes};
 use spoil::{given, lent, ready, ready_bed, ready_friction, second, third};
 use std::io;
-use step::{Answer, Given};
+use step::Given;
 
-// Where a block has come to: what the last call was drawn from, its answer, 0 for accepted, and the
+// Where a block has come to: what the last call was drawn from, its refusal, if there was one, and the
 // running sum; and the reach, which is tried again with another dt while tries are left: `low` was
 // accepted and `high` was not.
 #[derive(Clone, Copy)]
 struct Turn {
     x: u64,
-    number: u64,
+    refusal: Option<Refusal>,
     sum: u64,
     reach: u64,
     tries: u64,
     low: u64,
     high: u64,
+}
+
+impl Turn {
+    // The next call, on another reach where no tries are left.
+    fn begun(self) -> Turn {
+        let x = following(self.x);
+        if self.tries != 0 {
+            return Turn { x, ..self };
+        }
+        Turn {
+            x,
+            reach: x,
+            tries: times(x),
+            low: 0,
+            high: 4097,
+            ..self
+        }
+    }
+
+    // The first of a reach, a far shorter dt until one is accepted, then the one halfway between the
+    // longest that was accepted and the shortest that was not.
+    fn dt(self) -> u64 {
+        if self.low != 0 {
+            return self.low.wrapping_add(self.high) >> 1;
+        }
+        if self.high == 4097 {
+            return first_dt(following(seed(self.reach)));
+        }
+        if 16 < self.high {
+            self.high >> 4
+        } else {
+            self.high >> 1
+        }
+    }
+
+    // One call, with its answer and the sum after it.
+    fn called(self, state: &[i32], next: &mut [i32]) -> Turn {
+        fill_pattern(next, second(self.x));
+        let answer = answer(self.x, self.reach, self.dt(), state, next);
+        Turn {
+            refusal: answer.err().map(|refused| refused.refusal),
+            sum: summed(told(self.sum, answer), next),
+            ..self
+        }
+    }
+
+    // What an answer leaves to be tried.
+    fn ended(self) -> Turn {
+        let tried = self.dt();
+        let u = if self.refusal.is_none() {
+            Turn { low: tried, ..self }
+        } else {
+            Turn {
+                high: tried,
+                ..self
+            }
+        };
+        // none is left between the two
+        let tries = if u.dt() == u.low {
+            0
+        } else {
+            tries_left(u.tries, u.refusal)
+        };
+        Turn { tries, ..u }
+    }
+
+    // A call more: on the same reach with another dt, or on another reach.
+    fn another(self, state: &mut [i32]) -> Turn {
+        let u = self.begun();
+        ready(state, u.reach, self.tries, u.x);
+        // some numbers of `next` beyond the lent part too
+        let m = 8 + lent(Table::Next, u.reach, 4096, u.x);
+        let mut next = [0i32; 4104];
+        u.called(state, &mut next[..m]).ended()
+    }
 }
 
 // Short ones mostly, as a long one is refused in nearly every reach.
@@ -44,18 +120,6 @@ fn first_dt(x: u64) -> u64 {
     )
 }
 
-// The first of a reach, a far shorter dt until one is accepted, then the one halfway between the
-// longest that was accepted and the shortest that was not.
-fn dt(reach: u64, low: u64, high: u64) -> u64 {
-    if low != 0 {
-        return low.wrapping_add(high) >> 1;
-    }
-    if high == 4097 {
-        return first_dt(following(seed(reach)));
-    }
-    if 16 < high { high >> 4 } else { high >> 1 }
-}
-
 fn times(reach: u64) -> u64 {
     let k = (second(seed(reach)) >> 8) % 4;
     if 16 < cells(reach) {
@@ -65,46 +129,14 @@ fn times(reach: u64) -> u64 {
     }
 }
 
-// The next call, on another reach where no tries are left.
-fn begun(t: Turn) -> Turn {
-    let x = following(t.x);
-    let mut u = t;
-    u.x = x;
-    if t.tries == 0 {
-        u.reach = x;
-        u.tries = times(x);
-        u.low = 0;
-        u.high = 4097;
-    }
-    u
-}
-
 // Fewer tries are left. One is enough where no dt helps: a fault, or a state out of range.
-fn tries_left(tries: u64, number: u64) -> u64 {
-    match number {
-        0 | 7 | 8 => tries.wrapping_sub(1),
+fn tries_left(tries: u64, refusal: Option<Refusal>) -> u64 {
+    match refusal {
+        None | Some(Refusal::TimeStep | Refusal::Stage) => tries.saturating_sub(1),
         // in stage two a shorter dt helps, before it none does
-        6 => tries >> 1,
-        _ => 0,
+        Some(Refusal::Speed) => tries >> 1,
+        Some(_) => 0,
     }
-}
-
-// What an answer leaves to be tried.
-fn ended(t: Turn) -> Turn {
-    let mut u = t;
-    let tried = dt(t.reach, t.low, t.high);
-    if t.number == 0 {
-        u.low = tried;
-    } else {
-        u.high = tried;
-    }
-    // none is left between the two
-    u.tries = if dt(t.reach, u.low, u.high) == u.low {
-        0
-    } else {
-        tries_left(t.tries, t.number)
-    };
-    u
 }
 
 fn dx(reach: u64) -> u64 {
@@ -151,59 +183,39 @@ fn answer(x: u64, r: u64, dt: u64, state: &[i32], next: &mut [i32]) -> Answer {
     ready_bed(&mut bed, r, x);
     let mut friction = [0u16; 1032];
     ready_friction(&mut friction, r, x);
-    let a = lent(0, r, state.len(), x);
-    let b = lent(1, r, next.len(), x);
-    let c = lent(2, r, 1032, x);
-    let d = lent(3, r, 1032, x);
+    let a = lent(Table::State, r, state.len(), x);
+    let b = lent(Table::Next, r, next.len(), x);
+    let c = lent(Table::Bed, r, 1032, x);
+    let d = lent(Table::Friction, r, 1032, x);
     made(
         x,
         r,
         dt,
-        &state[0..a],
-        &mut next[0..b],
-        &bed[0..c],
-        &friction[0..d],
+        &state[..a],
+        &mut next[..b],
+        &bed[..c],
+        &friction[..d],
     )
 }
 
-// The number of a refusal, or 0.
-fn number(a: Answer) -> u64 {
-    match a {
-        Answer::Refused(k, _) => k as u64,
-        Answer::Accepted(_, _) => 0,
+fn told(sum: u64, answer: Answer) -> u64 {
+    match answer {
+        Ok(Volumes { first, last }) => mixed(
+            mixed(mixed(sum, 0), first.cast_unsigned()),
+            last.cast_unsigned(),
+        ),
+        Err(Refused { refusal, place }) => {
+            mixed(mixed(sum, u64::from(u32::from(refusal))), place as u64)
+        }
     }
 }
 
-fn told(sum: u64, a: Answer) -> u64 {
-    match a {
-        Answer::Refused(k, p) => mixed(mixed(sum, k as u64), p as u64),
-        Answer::Accepted(w, v) => mixed(mixed(mixed(sum, 0), bits(w)), bits(v)),
+// How many calls were accepted, and how many refused with each number.
+fn count(counts: &mut [u64; 9], refusal: Option<Refusal>) {
+    let k = refusal.map_or(0, u32::from);
+    if let Some(count) = counts.get_mut(k as usize) {
+        *count = count.wrapping_add(1);
     }
-}
-
-// One call, with its answer and the sum after it.
-fn called(t: Turn, state: &[i32], next: &mut [i32]) -> Turn {
-    fill_pattern(next, second(t.x));
-    let a = answer(t.x, t.reach, dt(t.reach, t.low, t.high), state, next);
-    let mut u = t;
-    u.number = number(a);
-    u.sum = summed(told(t.sum, a), next);
-    u
-}
-
-// A call more: on the same reach with another dt, or on another reach.
-fn another(t: Turn, state: &mut [i32]) -> Turn {
-    let u = begun(t);
-    ready(state, u.reach, t.tries, u.x);
-    // some numbers of `next` beyond the lent part too
-    let m = 8 + lent(1, u.reach, 4096, u.x);
-    let mut next = [0i32; 4104];
-    ended(called(u, state, &mut next[0..m]))
-}
-
-fn count(counts: &mut [u64; 9], number: u64) {
-    let k = (number % 9) as usize;
-    counts[k] = counts[k].wrapping_add(1);
 }
 
 fn show_counts(rt: &impl Print, counts: &[u64; 9]) -> io::Result<()> {
@@ -221,8 +233,8 @@ fn line(rt: &impl Print, block: u64, counts: &[u64; 9], sum: u64) -> io::Result<
 
 fn run(rt: &impl Print, block: u64) -> io::Result<()> {
     let mut t = Turn {
-        x: 88172645463325252 ^ (block << 32),
-        number: 0,
+        x: SEED ^ (block << 32),
+        refusal: None,
         sum: 1,
         reach: 0,
         tries: 0,
@@ -233,9 +245,9 @@ fn run(rt: &impl Print, block: u64) -> io::Result<()> {
     // kept from call to call, as a reach is tried again with what was spoilt in it; a spoilt bed or
     // friction ends its reach, so those are made anew
     let mut state = [0i32; 4112];
-    for i in 0u64..200 {
-        t = another(t, &mut state);
-        count(&mut counts, t.number);
+    for _ in 0..200 {
+        t = t.another(&mut state);
+        count(&mut counts, t.refusal);
     }
     line(rt, block, &counts, t.sum)
 }

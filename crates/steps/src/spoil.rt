@@ -1,10 +1,13 @@
 // Faults, one or two in a call, so that the order of the refusals is tried too.
 ghost use Rattle.std.specs.Prelude.{◌≤◌};
 
-use crate::draw::{above, following, pick, turned};
-use crate::fill::{fill_bed, fill_friction, fill_over, found, put, put_cell, put_friction, upto};
-use crate::kinds::{Cell, cells, dry, over};
+use crate::fill::{fill_bed, fill_friction, fill_state, found};
+use crate::kinds::{cells, dry};
+use draw::cell::{Cell, over, put_cell};
+use draw::numbers::{above, following, pick, turned};
+use draw::tables::{Table, put, put_friction};
 
+// The faults that a call may have. They are the bits of a set, since a call may have two.
 const LENGTHS: u64 = 1;
 
 const NUMBERS: u64 = 2;
@@ -15,13 +18,11 @@ const FRICTION: u64 = 8;
 
 const STATE: u64 = 16;
 
-// Which faults a call has, a bit for each: in most calls none, else one or two.
-fn faults(x: u64) -> u64 {
+// Has a call this fault? In most calls there is none, else one or two.
+fn has(x: u64, fault: u64) -> bool {
     let a = following(x);
-    if a % 12 != 0 {
-        return 0;
-    }
-    (1 << ((a >> 3) % 5)) | (1 << ((a >> 8) % 16))
+    let faults = (1 << ((a >> 3) % 5)) | (1 << ((a >> 8) % 16));
+    a.is_multiple_of(12) && faults & fault != 0
 }
 
 // What a call that is drawn from x draws the numbers in its tables from.
@@ -34,10 +35,15 @@ pub fn third(x: u64) -> u64 {
     following(second(x))
 }
 
-// How long table k is for n cells: state, next, bed or friction.
-fn right_length(k: u64, n: usize) -> usize {
-    let m = upto(n, 1025);
-    [4 * m, 4 * m, m + 1, m][(k % 4) as usize]
+// How long a table is for n cells.
+fn right_length(table: Table, n: usize) -> usize
+    requires { n ≤ 1025 }
+{
+    match table {
+        Table::State | Table::Next => 4 * n,
+        Table::Bed => n + 1,
+        Table::Friction => n,
+    }
 }
 
 // A length that is wrong by one or by more, or none.
@@ -51,30 +57,34 @@ fn wrong_length(a: usize, x: u64) -> usize {
 }
 
 // One table of a wrong length, or all of them right for no cell or for 1,025.
-fn spoilt_length(k: u64, n: usize, x: u64) -> usize {
-    match x % 8 {
-        6 => right_length(k, 0),
-        7 => right_length(k, 1025),
-        y => {
-            let a = right_length(k, n);
-            if [0u64, 0, 1, 1, 2, 3][(y % 6) as usize] == k {
-                wrong_length(a, x >> 3)
-            } else {
-                a
-            }
-        }
+fn spoilt_length(table: Table, n: usize, x: u64) -> usize
+    requires { n ≤ 1025 }
+{
+    let spoilt = match x % 8 {
+        0 | 1 => Table::State,
+        2 | 3 => Table::Next,
+        4 => Table::Bed,
+        5 => Table::Friction,
+        6 => return right_length(table, 0),
+        _ => return right_length(table, 1025),
+    };
+    let right = right_length(table, n);
+    if spoilt == table {
+        wrong_length(right, x >> 3)
+    } else {
+        right
     }
 }
 
-// How much of table k, which has m, is lent of the reach r.
-pub fn lent(k: u64, r: u64, m: usize, x: u64) -> usize
+// How much of a table, which has m, is lent of the reach r.
+pub fn lent(table: Table, r: u64, m: usize, x: u64) -> usize
     ensures { result ≤ m }
 {
     let n = cells(r);
-    if faults(x) & LENGTHS == 0 {
-        return upto(right_length(k, n), m);
+    if has(x, LENGTHS) {
+        return spoilt_length(table, n, third(x)).min(m);
     }
-    upto(spoilt_length(k, n, third(x)), m)
+    right_length(table, n).min(m)
 }
 
 // A number outside its list, just or by much: dx, dx, dt, dt, J, dry depth, dry depth, the kinds of the
@@ -107,7 +117,7 @@ fn wrong_number(x: u64) -> u64 {
 pub fn given(k: u64, right: u64, x: u64) -> u32 {
     let y = third(x) >> 10;
     let wrong = [0u64, 0, 1, 1, 2, 3, 3, 4, 5, 6, 7, 6, 7][(y % 13) as usize];
-    let g = if faults(x) & NUMBERS != 0 && wrong == k {
+    let g = if has(x, NUMBERS) && wrong == k {
         wrong_number(y)
     } else {
         right
@@ -118,7 +128,7 @@ pub fn given(k: u64, right: u64, x: u64) -> u32 {
 // A bed value that is odd or out of range; z is half of what it was.
 fn wrong_bed(z: u64, x: u64) -> u64 {
     match x % 8 {
-        0 => 0u64.wrapping_sub(2),
+        0 => 2u64.wrapping_neg(),
         1 => 1048575,
         2 => 1048578,
         3 => 1048577,
@@ -128,26 +138,25 @@ fn wrong_bed(z: u64, x: u64) -> u64 {
     }
 }
 
-// Where a call's fault is in a table of n and one more: the first, the last or any. With no such fault
-// it is beyond every table, where nothing is put.
-fn place(fault: u64, n: usize, x: u64) -> usize {
-    if faults(x) & fault == 0 {
-        return 0xffff_ffff;
+// Where a call has a fault in a table of n and one more: the first, the last or any.
+fn place(fault: u64, n: usize, x: u64) -> Option<usize> {
+    if !has(x, fault) {
+        return None;
     }
-    let m = upto(n, 1024);
     let y = second(x) >> 3;
-    match y % 4 {
+    Some(match y % 4 {
         0 => 0,
-        1 => m,
-        _ => pick(y, m as u64) as usize,
-    }
+        1 => n,
+        _ => pick(y, n as u64) as usize,
+    })
 }
 
 // The bed of a call, with its fault.
 pub fn ready_bed(bed: &mut [i32], r: u64, x: u64) {
     fill_bed(bed, r);
-    let k = place(BED, cells(r), x);
-    put(bed, k, wrong_bed(found(bed, k), second(x)));
+    if let Some(i) = place(BED, cells(r), x) {
+        put(bed, i, wrong_bed(found(bed, i), second(x)));
+    }
 }
 
 fn wrong_friction(x: u64) -> u64 {
@@ -160,8 +169,9 @@ fn wrong_friction(x: u64) -> u64 {
 
 pub fn ready_friction(friction: &mut [u16], r: u64, x: u64) {
     fill_friction(friction, r);
-    let k = place(FRICTION, cells(r).wrapping_sub(1), x);
-    put_friction(friction, k, wrong_friction(second(x)));
+    if let Some(i) = place(FRICTION, cells(r).wrapping_sub(1), x) {
+        put_friction(friction, i, wrong_friction(second(x)));
+    }
 }
 
 // A cell with one face depth or discharge just out of range, or a number as wide as an i32.
@@ -170,7 +180,7 @@ fn wrong_cell(zl: u64, zr: u64, x: u64) -> Cell {
     match x % 8 {
         0..=1 => over(zl, zr, h, turned(h.wrapping_add(1), x), 0, 0),
         2 => over(zl, zr, 262136, turned(9, x >> 3), 0, 0),
-        3 => over(zl, zr, 0u64.wrapping_sub(1), 0, 0, 0),
+        3 => over(zl, zr, 1u64.wrapping_neg(), 0, 0, 0),
         4 => over(zl, zr, 262144, 0, turned(8388609, x >> 3), 0),
         5 => over(
             zl,
@@ -214,18 +224,21 @@ fn spoilt_cell(dry: u64, zl: u64, zr: u64, x: u64) -> Cell {
     }
 }
 
-fn spoil_over(state: &mut [i32], bed: &[i32], r: u64, x: u64) {
+fn spoil_state(state: &mut [i32], bed: &[i32], r: u64, x: u64) {
     let n = cells(r);
-    let k = place(STATE, n.wrapping_sub(1), x);
-    let zl = found(bed, k);
-    let zr = found(bed, k.wrapping_add(1));
-    put_cell(state, n, k, spoilt_cell(dry(r), zl, zr, second(x)));
+    if let Some(i) = place(STATE, n.wrapping_sub(1), x) {
+        let zl = found(bed, i);
+        let zr = found(bed, i.wrapping_add(1));
+        put_cell(state, n, i, spoilt_cell(dry(r), zl, zr, second(x)));
+    }
 }
 
-// The state of a call: of another reach where no tries are left, and with its fault.
+// The state of a call: of another reach where no tries are left of the last, and with its fault.
 pub fn ready(state: &mut [i32], r: u64, tries: u64, x: u64) {
     let mut bed = [0i32; 1025];
     fill_bed(&mut bed, r);
-    fill_over(state, &bed, r, tries);
-    spoil_over(state, &bed, r, x);
+    if tries == 0 {
+        fill_state(state, &bed, r);
+    }
+    spoil_state(state, &bed, r, x);
 }

@@ -1,18 +1,14 @@
 // What a reach is drawn from: its number r, from which its length, its fault and each number of its tables follow.
-use crate::draw::{above, either, following, pick};
+ghost use Rattle.std.specs.Prelude.{◌≤◌};
 
-// Level and discharge, means and slopes, as 64 bits each.
-#[derive(Clone, Copy)]
-pub struct Cell {
-    pub e0: u64,
-    pub e1: u64,
-    pub q0: u64,
-    pub q1: u64,
-}
+use draw::cell::{Cell, over};
+use draw::numbers::{above, drawn, either, pick};
 
 // About one block, two and three, so that the last is whole, or short by one cell or by all but one; and about
 // the most cells.
-pub fn cells(r: u64) -> usize {
+pub fn cells(r: u64) -> usize
+    ensures { result ≤ 1024 }
+{
     match r % 12 {
         0 => 1,
         1 => 2,
@@ -29,33 +25,38 @@ pub fn cells(r: u64) -> usize {
     }
 }
 
-pub const SUMS_SHORT: u64 = 1;
-
-pub const SUMS_LONG: u64 = 2;
-
-pub const STATE_SHORT: u64 = 3;
-
-pub const BED_LONG: u64 = 4;
-
-pub const ODD_BED: u64 = 5;
-
-pub const LOW_LEVEL: u64 = 6;
-
-pub const ANY_NUMBERS: u64 = 7;
-
-// What is wrong with a reach; 0 where nothing is.
-pub fn fault(r: u64) -> u64 {
-    r / 12 % 8
+// What is wrong with a reach, by the number that is written of it.
+#[derive(Clone, Copy, Debug, PartialEq, Eq)]
+pub enum Fault {
+    SumsShort = 1,
+    SumsLong = 2,
+    StateShort = 3,
+    BedLong = 4,
+    OddBed = 5,
+    LowLevel = 6,
+    // the numbers of the state and the bed are of any size
+    AnyNumbers = 7,
 }
 
-// What number i of a table or column is drawn from.
-pub fn drawn(r: u64, column: u64, i: u64) -> u64 {
-    let x = following(88172645463325252 ^ (r << 40) ^ (column << 24) ^ i);
-    following(following(x))
+pub fn fault_in(r: u64) -> Option<Fault> {
+    match r / 12 % 8 {
+        1 => Some(Fault::SumsShort),
+        2 => Some(Fault::SumsLong),
+        3 => Some(Fault::StateShort),
+        4 => Some(Fault::BedLong),
+        5 => Some(Fault::OddBed),
+        6 => Some(Fault::LowLevel),
+        7 => Some(Fault::AnyNumbers),
+        _ => None,
+    }
+}
+
+fn has(r: u64, one: Fault) -> bool {
+    fault_in(r) == Some(one)
 }
 
 // Where a fault is among n: the first, the last or any.
-pub fn place(r: u64) -> u64 {
+fn place(r: u64) -> u64 {
     let n = cells(r) as u64;
     let x = drawn(r, 1, 0);
     match x % 3 {
@@ -70,8 +71,8 @@ fn any(x: u64) -> u64 {
     match x % 8 {
         0 => 0xffff_ffff_8000_0000,
         1 => 0x7fff_ffff,
-        2 => 0u64.wrapping_sub(1),
-        3 => 0u64.wrapping_sub(3),
+        2 => 1u64.wrapping_neg(),
+        3 => 3u64.wrapping_neg(),
         _ => either(x, 0x3fff_ffff),
     }
 }
@@ -83,11 +84,11 @@ fn half_bed(r: u64, i: u64) -> u64 {
 
 // The bed at face i.
 pub fn face(r: u64, i: u64) -> u64 {
-    if fault(r) == ANY_NUMBERS {
+    if has(r, Fault::AnyNumbers) {
         return any(drawn(r, 2, i));
     }
     let z = half_bed(r, i) << 1;
-    if fault(r) == ODD_BED && i == place(r) {
+    if has(r, Fault::OddBed) && i == place(r) {
         z | 1
     } else {
         z
@@ -95,20 +96,15 @@ pub fn face(r: u64, i: u64) -> u64 {
 }
 
 // The cell of mean depth h0, slope h1 and discharge q0 between faces i and i + 1.
-fn over(r: u64, i: u64, h0: u64, h1: u64, q0: u64) -> Cell {
+fn even_cell(r: u64, i: u64, h0: u64, h1: u64, q0: u64) -> Cell {
     let zl = half_bed(r, i);
     let zr = half_bed(r, i.wrapping_add(1));
-    Cell {
-        e0: h0.wrapping_add(zl.wrapping_add(zr)),
-        e1: h1.wrapping_add(zr.wrapping_sub(zl)),
-        q0: q0,
-        q1: 0,
-    }
+    over(zl, zr, h0, h1, q0, 0)
 }
 
 // Cell i of the state.
 pub fn drawn_cell(r: u64, i: u64) -> Cell {
-    if fault(r) == ANY_NUMBERS {
+    if has(r, Fault::AnyNumbers) {
         return Cell {
             e0: any(drawn(r, 3, i)),
             e1: any(drawn(r, 4, i)),
@@ -116,10 +112,10 @@ pub fn drawn_cell(r: u64, i: u64) -> Cell {
             q1: any(drawn(r, 6, i)),
         };
     }
-    if fault(r) == LOW_LEVEL && i == place(r) {
-        return over(r, i, 0u64.wrapping_sub(1), 0, 0);
+    if has(r, Fault::LowLevel) && i == place(r) {
+        return even_cell(r, i, 1u64.wrapping_neg(), 0, 0);
     }
-    over(
+    even_cell(
         r,
         i,
         above(drawn(r, 3, i), 1500, 3000),

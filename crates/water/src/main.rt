@@ -5,19 +5,19 @@
 // may write, after each and beyond what was lent. What it must write comes from tests/reference/water.py.
 #![tactic(auto)]
 
-mod draw;
 mod fill;
 mod kinds;
 mod show;
 
-use draw::{above, least, pick};
-use fill::{
-    fill_bed, fill_pattern, fill_state, lent_bed, lent_next, lent_state, lent_sums, summed, upto,
-};
-use kinds::{cells, drawn, fault};
+use draw::numbers::{above, below, drawn, pick};
+use draw::sums::summed;
+use draw::tables::fill_pattern;
+use fill::{fill_bed, fill_state, lent_bed, lent_next, lent_state, lent_sums};
+use kinds::{cells, fault_in};
+use reach::answer::Answer;
+use reach::{End, Given};
 use show::{show_between, show_made, show_reach, show_step, show_sum};
 use std::io;
-use step::{Answer, End, Given};
 
 // The faces of question j of a reach: its ends; about a block from either end; any in order; and any, or beyond it.
 fn first_face(r: u64, j: u64) -> u32 {
@@ -37,31 +37,20 @@ fn second_face(r: u64, j: u64) -> u32 {
     let x = drawn(r, 8, j);
     let b = match j % 4 {
         0 => n,
-        1 => n.wrapping_sub(pick(x, least(n / 2, 17))),
+        1 => below(x, n, (n / 2).min(17)),
         2 => above(x, n / 2, n / 2),
         _ => pick(x, n.wrapping_add(2)),
     };
     (b % 0x1_0000_0000) as u32
 }
 
-fn asked(
-    rt: &impl Print,
-    r: u64,
-    j: u64,
-    state: &[i32],
-    bed: &[i32],
-    kept: &[i32],
-) -> io::Result<()> {
-    let a = first_face(r, j);
-    let b = second_face(r, j);
-    show_between(rt, a, b, sums::between(state, bed, kept, a, b))
-}
-
-fn asked_all(rt: &impl Print, r: u64, state: &[i32], bed: &[i32], kept: &[i32]) -> io::Result<()> {
-    asked(rt, r, 0, state, bed, kept)?;
-    asked(rt, r, 1, state, bed, kept)?;
-    asked(rt, r, 2, state, bed, kept)?;
-    asked(rt, r, 3, state, bed, kept)
+fn asked(rt: &impl Print, r: u64, state: &[i32], bed: &[i32], kept: &[i32]) -> io::Result<()> {
+    for j in 0..4 {
+        let a = first_face(r, j);
+        let b = second_face(r, j);
+        show_between(rt, a, b, sums::between(state, bed, kept, a, b))?;
+    }
+    Ok(())
 }
 
 // An inflow at the left and a wall at the right, cells of 1 m and 1/100 s.
@@ -97,21 +86,21 @@ fn called(
 ) -> io::Result<u64> {
     let m = lent_next(r, next.len());
     let b = lent_sums(r, kept.len());
-    show_made(rt, sums::make(state, bed, &mut kept[0..b]))?;
+    show_made(rt, sums::make(state, bed, &mut kept[..b]))?;
     let made = summed(1, kept);
-    asked_all(rt, r, state, bed, &kept[0..b])?;
+    asked(rt, r, state, bed, &kept[..b])?;
     show_step(
         rt,
-        stepped(state, &mut next[0..m], bed, friction, &mut kept[0..b]),
+        stepped(state, &mut next[..m], bed, friction, &mut kept[..b]),
     )?;
-    asked_all(rt, r, &next[0..m], bed, &kept[0..b])?;
+    asked(rt, r, &next[..m], bed, &kept[..b])?;
     Ok(summed(summed(made, next), kept))
 }
 
 // One reach. The tables are as long as the longest that are lent, and a little more.
 fn reach(rt: &impl Print, r: u64) -> io::Result<()> {
-    let n = upto(cells(r), 1024);
-    show_reach(rt, n as u64, fault(r))?;
+    let n = cells(r);
+    show_reach(rt, n, fault_in(r))?;
     let mut state = [0i32; 4104];
     fill_state(&mut state, r);
     let mut bed = [0i32; 1032];
@@ -126,9 +115,9 @@ fn reach(rt: &impl Print, r: u64) -> io::Result<()> {
     let sum = called(
         rt,
         r,
-        &state[0..a],
-        &bed[0..b],
-        &friction[0..n],
+        &state[..a],
+        &bed[..b],
+        &friction[..n],
         &mut next,
         &mut kept,
     )?;

@@ -1,50 +1,53 @@
 // Answers, in words.
+use crate::kinds::Fault;
+use reach::answer::{Answer, Refusal, Refused, Volumes};
 use std::io;
-use step::Answer;
-use sums::{Amount, Made};
+use sums::Water;
 
-fn show(rt: &impl Print, x: i64) -> io::Result<()> {
-    print!(rt; " {x}")
+fn show_refusal(rt: &impl Print, refusal: Refusal) -> io::Result<()> {
+    print!(rt; " refused {}", u32::from(refusal))
 }
 
-fn show_refused(rt: &impl Print, k: u32) -> io::Result<()> {
-    print!(rt; " refused {k}")
+// The length of a reach and the number of its fault, 0 for none.
+pub fn show_reach(rt: &impl Print, n: usize, fault: Option<Fault>) -> io::Result<()> {
+    let number = fault.map_or(0, |fault| fault as u32);
+    print!(rt; "{n} cells, fault {number}:")
 }
 
-pub fn show_reach(rt: &impl Print, n: u64, fault: u64) -> io::Result<()> {
-    print!(rt; "{n} cells, fault {fault}:")
-}
-
-pub fn show_made(rt: &impl Print, a: Made) -> io::Result<()> {
-    match a {
-        Made::Refused(k) => show_refused(rt, k),
-        Made::Done => print!(rt; " made"),
+pub fn show_made(rt: &impl Print, made: Result<(), Refusal>) -> io::Result<()> {
+    match made {
+        Ok(()) => print!(rt; " made"),
+        Err(refusal) => show_refusal(rt, refusal),
     }
 }
 
 // A question and its answer: the water, and how many cells and blocks were read.
-pub fn show_between(rt: &impl Print, a: u32, b: u32, w: Amount) -> io::Result<()> {
+pub fn show_between(
+    rt: &impl Print,
+    a: u32,
+    b: u32,
+    water: Result<Water, Refusal>,
+) -> io::Result<()> {
     print!(rt; "; {a} to {b}")?;
-    match w {
-        Amount::Refused(k) => show_refused(rt, k),
-        Amount::Water(water, cells, blocks) => {
-            show(rt, water)?;
-            print!(rt; " by {cells} and {blocks}")
-        }
+    match water {
+        Ok(
+            Water {
+                depth,
+                cells,
+                blocks,
+            },
+        ) => print!(rt; " {depth} by {cells} and {blocks}"),
+        Err(refusal) => show_refusal(rt, refusal),
     }
 }
 
-pub fn show_step(rt: &impl Print, a: Answer) -> io::Result<()> {
-    match a {
-        Answer::Refused(k, p) => {
-            print!(rt; "; step")?;
-            show_refused(rt, k)?;
-            print!(rt; " at {p}")
-        }
-        Answer::Accepted(w, v) => {
-            print!(rt; "; step accepted")?;
-            show(rt, w)?;
-            show(rt, v)
+pub fn show_step(rt: &impl Print, answer: Answer) -> io::Result<()> {
+    print!(rt; "; step")?;
+    match answer {
+        Ok(Volumes { first, last }) => print!(rt; " accepted {first} {last}"),
+        Err(Refused { refusal, place }) => {
+            show_refusal(rt, refusal)?;
+            print!(rt; " at {place}")
         }
     }
 }

@@ -5,16 +5,11 @@
 ghost use Rattle.std.specs.Prelude.{◌<◌, ◌≤◌};
 ghost use Rattle.whole.specs.Parts.{Within};
 
+use draw::numbers::{SEED, following};
+use draw::sums::rolled;
 use face::flux::face;
 use face::sides::{Flux, Side};
 use std::io;
-
-// The next number drawn, by shifts and exclusive ors.
-fn drawn(x: u64) -> u64 {
-    let a = x ^ (x << 13);
-    let b = a ^ (a >> 7);
-    b ^ (b << 17)
-}
 
 // The top 31 bits of x, brought below span.
 fn part(x: u64, span: u64) -> u64
@@ -70,42 +65,36 @@ fn against(right: bool, x: u64) -> i64 {
     chosen(x, 4, 1, 131070)
 }
 
-fn mixed(h: u64, v: u64) -> u64 {
-    (h << 1) ^ (h >> 63) ^ v
-}
-
-// The sum after one more face: its four values by their bits, or 1 for a refusal.
-fn after(h: u64, answer: Option<Flux>) -> u64 {
-    let Some(x) = answer else {
-        return mixed(h, 1);
-    };
-    let mut sum = h;
-    for v in [x.f, x.k, x.a, x.s] {
-        sum = mixed(sum, v.cast_unsigned());
+// The sum after one more face: its four values, or 1 for a refusal.
+fn after(sum: u64, answer: Option<Flux>) -> u64 {
+    match answer {
+        Some(flux) => [flux.f, flux.k, flux.a, flux.s]
+            .into_iter()
+            .fold(sum, |s, x| rolled(s, x.cast_unsigned())),
+        None => rolled(sum, 1),
     }
-    sum
 }
 
 fn main(rt: HostRuntime) -> io::Result<()> {
-    let mut x = 88172645463325252u64;
-    let mut h = 0u64;
+    let mut x = SEED;
+    let mut sum = 0u64;
     for i in 0u64..20000 {
-        let c = i % 10;
-        let x1 = drawn(x);
-        let x2 = drawn(x1);
-        let x3 = drawn(x2);
-        x = drawn(x3);
-        let l = Side {
-            h: depth(c, 1, x1),
-            u: speed(c, false, x2),
+        let x1 = following(x);
+        let x2 = following(x1);
+        let x3 = following(x2);
+        x = following(x3);
+        let kind = i % 10;
+        let left = Side {
+            h: depth(kind, 1, x1),
+            u: speed(kind, false, x2),
         };
-        let r = Side {
-            h: depth(c, 2, x3),
-            u: speed(c, true, x),
+        let right = Side {
+            h: depth(kind, 2, x3),
+            u: speed(kind, true, x),
         };
-        h = after(h, face(l, r));
+        sum = after(sum, face(left, right));
         if i % 200 == 199 {
-            println!(rt; "{h}")?;
+            println!(rt; "{sum}")?;
         }
     }
     Ok(())

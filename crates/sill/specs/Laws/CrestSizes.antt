@@ -12,6 +12,7 @@ use Rattle.sill_rules.specs.Reach.{higher, crest_left, crest_right}
 use Rattle.sill.specs.declared.rows.Call.{Call}
 use Rattle.sill.specs.Told.{reach_in}
 use Rattle.sill.specs.Ranges.{Grounds}
+use Rattle.sill.specs.Laws.PoolSizes.{pool_wide}
 
 module _ (call : Call) (bed : List ℤ) (grounded : Grounds bed call.n) where
   pub left_size : (i : ℕ) → i < call.n → UpTo highest_bed (crest_left (reach_in call bed) i)
@@ -23,3 +24,6 @@ module _ (call : Call) (bed : List ℤ) (grounded : Grounds bed call.n) where
   unfolding crest_right higher
   right_size i l = by (eqb (suc i) call.n) (λ e. rw e (grounded i l))
       (λ e. rw e (b_max _ _ (grounded i l) (grounded (suc i) (inside i call.n l e))))
+
+-- the sizes that a row is worked from
+pub ruleset row_sizes = (left_size, right_size, pool_wide)

@@ -18,6 +18,7 @@ use Rattle.rules.specs.Laws.Sizes.{Sound, Sized}
 use Rattle.rules.proofs.Laws.Sizes.{face_sized}
 use Rattle.reach.specs.Ranges.{UpTo}
 use Rattle.sill.specs.declared.rows.Call.{Call}
+use Rattle.sill.specs.Told.{kind_of}
 use Rattle.sill.specs.Rows.{left_of, right_of, face_row, cross_in, face_row_at}
 use Rattle.sill.specs.Ranges.{Numbers, Rows, FaceRow, FaceRows}
 
@@ -48,11 +49,11 @@ module _ (call : Call) (b : List (List ℤ)) where
   abbrev right : ℕ → Side
   right i = right_of (get_or b i [])
 
-  pub at_left : (i : ℕ) → i ≡ 0 → cross_in call b i ≡ face (outer call.left (left 0)) (left 0)
+  pub at_left : (i : ℕ) → i ≡ 0 → cross_in call b i ≡ face (outer (kind_of call.left) (left 0)) (left 0)
   unfolding cross_at
   at_left i e = rw e
 
-  pub at_right : (i : ℕ) → (i ≡ 0 → ⊥) → i ≡ n → cross_in call b i ≡ face (right (i - 1)) (outer call.right (right (i - 1)))
+  pub at_right : (i : ℕ) → (i ≡ 0 → ⊥) → i ≡ n → cross_in call b i ≡ face (right (i - 1)) (outer (kind_of call.right) (right (i - 1)))
   unfolding cross_at cross_right
   at_right zero f e = absurd (f refl)
   at_right (suc i) f e = let l : suc i - 1 ≡ i = omega arith in rw (eq-eqb (suc i) n e, l)
@@ -69,9 +70,9 @@ module _ (call : Call) (b : List (List ℤ)) where
       where
         go : Dec (i ≡ 0) → Dec (i ≡ n) → Sized (cross_in call b i)
         go (yes e) q = let x = (s 0 num.some).left in
-            subst Sized (sym (at_left i e)) (face_sized _ _ (outer_sound call.left x) x)
+            subst Sized (sym (at_left i e)) (face_sized _ _ (outer_sound (kind_of call.left) x) x)
         go (no f) (yes e) = let x = (s (i - 1) (omega (arith, f))).right in
-            subst Sized (sym (at_right i f e)) (face_sized _ _ x (outer_sound call.right x))
+            subst Sized (sym (at_right i f e)) (face_sized _ _ x (outer_sound (kind_of call.right) x))
         go (no f) (no e) =
             subst Sized (sym (at_inner i f e)) (face_sized _ _ (s (i - 1) (omega (arith, f))).right (s i (omega (arith, e))).left)
 
@@ -79,3 +80,6 @@ module _ (call : Call) (b : List (List ℤ)) where
     pub face_rows : (f : List (List ℤ)) → Written [] f (suc n) (face_row_at call b) → FaceRows f n
     face_rows f w i h =
         subst FaceRow (sym (w i h)) (row_sized call.dx call.dt (cross_in call b i) num.dt_in (cross_sized i (omega arith)))
+
+-- a face at each of the places
+pub ruleset at_each = (at_left, at_right, at_inner)

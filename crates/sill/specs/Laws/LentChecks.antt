@@ -63,3 +63,6 @@ module _ (n : ℕ) (bed : List ℤ) (friction : List ℕ) (state : List ℤ) (cl
     grounded = lent_grounds i l;
     range = some_none (λ i. off_pool (get_or bed i (pos 0)) (pool_in n state i)) n (passed 2) i l;
   }
+
+-- what values that passed are
+pub ruleset lent = (lent_grounds, lent_smooth)

@@ -1,74 +1,52 @@
--- Within the limits the crate of friction answers with the rule's numbers, both times.
-use mathlib.Core.Path.{◌≡◌, ◌∙◌, refl}
-use lib.IntN.{ℤ, pos}
-use lib.Signed.{◌≤ℤ◌, ◌<ℤ◌}
+-- Within the limits the crate of friction gives the rule's numbers, both times.
+use Rattle.std.proofs.Common.{◌≡◌, ◌∙◌, ℤ, pos, ◌≤ℤ◌}
+use Rattle.std.specs.Prelude.{Some}
 use mir.Facts.{to_z-of_z}
 use Rattle.std.proofs.Math.Nat as NatL
-use Rattle.whole.specs.Parts.{lt_le, le_lt_trans, le_lit}
-use Rattle.whole.specs.Machine.{back_in, rd}
-use Rattle.rules.specs.Limits.{least_dry, deepest, fastest, fullest, roughest, longest_step}
+use Rattle.whole.specs.Parts.{lt_le}
+use Rattle.whole.specs.Machine.{back_in}
+use Rattle.rules.specs.Limits.{fullest, fastest}
 use Rattle.rules.specs.Friction.{drag, slowed}
 use Rattle.rules.proofs.Laws.Friction.{drag_nonneg, slowed_size}
 use Rattle.reach.specs.Ranges.{UpTo}
-use Rattle.speeds.specs.Answers.{told, untold}
-use Rattle.friction.specs.Given.{strongest}
-use Rattle.friction.specs.Strength.{drag_most}
+use Rattle.friction.specs.declared.strength.Rubbing.{Rubbing}
+use Rattle.friction.specs.Given.{strongest, strength_given}
+use Rattle.friction.specs.Strength.{Ranged, wet, drag_most}
 use Rattle.friction.proofs.Fits.{strength_given_lem, slowed_given_lem}
 use Rattle.sill.proofs.rubbing.slowed_of.Goals as goal
-use Rattle.sill.proofs.rubbing.slowed_of.Goals.{In-Is}
 
--- how strongly friction acts
-strong_in : (dt f h u : ℤ) → (pos 0 ≤ℤ dt) × UpTo longest_step dt → UpTo roughest f → (least_dry <ℤ h) × (h ≤ℤ deepest)
-    → UpTo fastest u → (pos 0 ≤ℤ drag dt f h u) × UpTo strongest (drag dt f h u)
-strong_in dt f h u step rough wet fast = (
-  drag_nonneg dt f h u step.0 (lt_le (le_lt_trans (le_lit (pos 0) least_dry tt) wet.0)),
-  drag_most h wet.0 wet.1 dt f u step.1 rough fast,
-)
-
--- what it leaves is no larger
-slowed_in : (x q : ℤ) → pos 0 ≤ℤ x → UpTo fullest q → UpTo fullest (slowed x q)
-slowed_in x q p w = record { abs = NatL.le_trans (slowed_size x q p) w.abs }
-
--- ---- the strength that was answered
-module _ (c : In-Is) where
+-- the strength, and its size; what it leaves is no larger than what there was
+module _ {at : Rubbing} (r : Ranged at) (slow : UpTo fastest at.u) where
   abbrev strong : ℤ
-  strong = let a = c.args in drag a.dt a.f a.h a.u
+  strong = drag at.dt at.rough at.h at.u
+
+  given : strength_given at.dt at.rough at.h at.u ≡ Some strong
+  given = strength_given_lem at.dt at.rough at.h at.u r.step r.rough r.wet slow
 
   within : (pos 0 ≤ℤ strong) × UpTo strongest strong
-  within = let a = c.args in let r = c.requires in
-      strong_in a.dt a.f a.h a.u r.pos_bound r.pos_bound_2.1 r.least_dry_lt_h r.up_to.0
+  within = (
+    drag_nonneg at.dt at.rough at.h at.u r.step.0 (lt_le (wet at.h r.wet.0 r.wet.1)),
+    drag_most at.h r.wet.0 r.wet.1 at.dt at.rough at.u r.step.1 r.rough.1 slow,
+  )
 
-  -- as it is read back, it is the rule's
-  x_is : rd c.in-Is.x ≡ strong
-  x_is = let a = c.args in let r = c.requires in
-      back_in
-      (told _ _ strong refl
-      ((simp (to_z-of_z, c.ranges.dt, c.ranges.f, c.ranges.h, c.ranges.u) at c.in-Is.ensures)
-      ∙ strength_given_lem a.dt a.f a.h a.u r.pos_bound r.pos_bound_2 r.least_dry_lt_h r.up_to.0))
-      within.1 tt
+  slowed_in : (q : ℤ) → UpTo fullest q → UpTo fullest (slowed strong q)
+  slowed_in q full = record { abs = NatL.le_trans (slowed_size strong q within.0) full.abs }
 
-pub returns-in-Is-slowed : goal.returns-in-Is-slowed
-returns-in-Is-slowed c =
-    let t = c.before.before in
-    let q = c.args.q in
-    back_in
-    (told _ _ (slowed (strong t) q) refl
-    ((rw (x_is t, to_z-of_z c.ranges.q) at c.in-Is-slowed.ensures) ∙ slowed_given_lem (strong t) q (within t) c.requires.up_to.1))
-    (slowed_in (strong t) q (within t).0 c.requires.up_to.1)
-    tt
+pub unwrap-x-requires : goal.unwrap-x-requires
+unwrap-x-requires c = rw (c.strength.ensures ∙ given c.requires.ranged c.requires.slow) (search)
 
-pub returns-in-Refused-slowed : goal.returns-in-Refused-slowed
-returns-in-Refused-slowed c =
-    let t = c.before.before in
-    let q = c.args.q in
-    untold _ (slowed (strong t) q) refl
-    ((rw (x_is t, to_z-of_z c.ranges.q) at c.in-Refused-slowed.ensures)
-    ∙ slowed_given_lem (strong t) q (within t) c.requires.up_to.1)
+left : (c : goal.After-slowed) → c.slowed.result ≡ Some (slowed (strong c.requires.ranged c.requires.slow) c.args.q)
+left c =
+    let r = c.requires.ranged in let s = c.requires.slow in let e = c.strength.ensures ∙ given r s in let u = c.unwrap-x.ensures in
+    let x : c.unwrap-x.result ≡ strong r s = cc in
+    (rw (back_in x (within r s).1 tt, to_z-of_z c.ranges.q) at c.slowed.ensures)
+    ∙ slowed_given_lem (strong r s) c.args.q (within r s) c.requires.full
 
-pub returns-in-Refused : goal.returns-in-Refused
-returns-in-Refused c =
-    let a = c.args in
-    let r = c.requires in
-    untold _ (drag a.dt a.f a.h a.u) refl
-    ((simp (to_z-of_z, c.ranges.dt, c.ranges.f, c.ranges.h, c.ranges.u) at c.in-Refused.ensures)
-    ∙ strength_given_lem a.dt a.f a.h a.u r.pos_bound r.pos_bound_2 r.least_dry_lt_h r.up_to.0)
+pub unwrap-requires : goal.unwrap-requires
+unwrap-requires c = rw (left c) (search)
+
+pub returns : goal.returns
+returns c =
+    let r = c.requires.ranged in let s = c.requires.slow in let e = left c.before in let u = c.unwrap.ensures in
+    let is : c.unwrap.result ≡ slowed (strong r s) c.args.q = cc in
+    back_in is (slowed_in r s c.args.q c.requires.full) tt

@@ -27,15 +27,6 @@ below = k (pos 819200) ⊗ v 1
 wide_pos : (dx : ℤ) → pos 0 <ℤ dx → pos 0 <ℤ (pos 819200 *ℤ dx)
 wide_pos dx h = lt! (lit 0) (lit 819200 ⊠ at dx) (omega (arith, of_lt h))
 
-pub overflow_mul-result : goal.overflow_mul-result
-overflow_mul-result c = need (env c.ranges.e c.requires.up_to c.requires.numbers) (k (pos 981) ⊗ v 0) tt
-
-pub overflow_mul-result-2 : goal.overflow_mul-result-2
-overflow_mul-result-2 c = need (env c.ranges.e c.requires.up_to c.requires.numbers) above tt
-
-pub overflow_mul-result-3 : goal.overflow_mul-result-3
-overflow_mul-result-3 c = need (env c.ranges.e c.requires.up_to c.requires.numbers) below tt
-
 pub nonzero_div-result : goal.nonzero_div-result
 nonzero_div-result c = let num = c.requires.numbers in
     let ρ : List Entry = env c.ranges.e c.requires.up_to num in

@@ -1,8 +1,5 @@
 -- Below i every cell is the rule's, and none is out of range.
-use mathlib.Core.List.{[]}
-use Prim.Native.Nat.{◌-◌}
-use lib.ListN.{get_or}
-use lib.IntN.{pos}
+use Rattle.std.proofs.Common.{[], get_or, pos}
 use Rattle.tables.proofs.Filling.{Filling}
 use Rattle.tables.specs.Pools.{as_row}
 use Rattle.sill_rules.specs.Refusals.{off_pool}
@@ -11,8 +8,5 @@ use Rattle.sill.proofs.update.update.Given as goal
 
 abbrev pub invariant-loop-i : goal.invariant-loop-i
 invariant-loop-i l =
-    Filling [] l.n (λ k. off_pool (get_or l.bed k (pos 0)) (end_at l.call l.bed l.b l.f k)) (λ k. as_row (end_at l.call l.bed l.b l.f k))
-    l.initial.a l.a l.i
-
-abbrev pub decreases-loop-i : goal.decreases-loop-i
-decreases-loop-i l = l.n - l.i
+    Filling [] l.call.n (λ k. off_pool (get_or l.bed k (pos 0)) (end_at l.call l.bed l.b l.f k))
+    (λ k. as_row (end_at l.call l.bed l.b l.f k)) l.initial.a l.a l.i

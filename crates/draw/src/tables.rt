@@ -1,0 +1,42 @@
+// The lent tables. Beyond a table's end nothing is put.
+ghost use Rattle.std.specs.Prelude.{◌≡◌, ◌≢◌, ◌<◌, ℕ, get_or, length, pos};
+
+#[derive(Clone, Copy, Debug, PartialEq, Eq)]
+pub enum Table {
+    State,
+    Next,
+    Bed,
+    Friction,
+}
+
+// The 64 bits x as a number with a sign; one that no i32 holds becomes 0.
+pub fn narrow(x: u64) -> i32
+    ensures low { x < 2147483648 → result ≡ pos x }
+{
+    i32::try_from(x.cast_signed()).unwrap_or(0)
+}
+
+pub fn put(table: &mut [i32], i: usize, x: u64)
+    ensures elsewhere { (k : ℕ) → k ≢ i → get_or table.new k (pos 0) ≡ get_or table.old k (pos 0) }
+    ensures len { length table.new ≡ length table.old }
+{
+    if i < table.len() {
+        table[i] = narrow(x);
+    }
+}
+
+pub fn put_friction(table: &mut [u16], i: usize, x: u64)
+    ensures elsewhere { (k : ℕ) → k ≢ i → get_or table.new k 0 ≡ get_or table.old k 0 }
+    ensures len { length table.new ≡ length table.old }
+{
+    if i < table.len() {
+        table[i] = (x % 65536) as u16;
+    }
+}
+
+// What a table holds before a call: another number in each place, and others in each call.
+pub fn fill_pattern(table: &mut [i32], x: u64) {
+    for (place, i) in table.iter_mut().zip(0u64..) {
+        *place = narrow((x >> 34).wrapping_add(i));
+    }
+}
