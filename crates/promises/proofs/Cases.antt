@@ -2,7 +2,7 @@
 -- water, one is refused with each number from 1 to 8, and one is lent a lake at rest with a shore, and keeps it. Sums are made of seventeen
 -- cells, and are refused with each number that there is for them; questions read blocks and cells, and are refused with 1 and with 10.
 -- Assumes nothing.
-use Rattle.std.specs.Prelude.{◌≡◌, refl, List, [], ◌∷◌, ◌⊎◌, ℕ, zero, suc, ◌<◌, length, ℤ, pos, neg_ℤ, ◌+ℤ◌, ◌-ℤ◌, ◌≤ℤ◌}
+use Rattle.std.specs.Prelude.{◌≡◌, refl, List, [], ◌∷◌, ◌⊎◌, ℕ, zero, suc, ◌<◌, length, ℤ, pos, neg_ℤ, ◌+ℤ◌, ◌-ℤ◌, ◌≤ℤ◌, Ok}
 use Rattle.std.proofs.Common.{sym, ap, inl, inr, arith}
 use Rattle.whole.specs.Difference.{lit, le! }
 use Rattle.whole.specs.Choice.{min_z, max_z, size_z}
@@ -29,13 +29,12 @@ use Rattle.rules.specs.Sums.{block_to, sum_from, block_sum, sums_of, making_chec
 use Rattle.rules.specs.Sums.{whole_block, lone_cell, reading, question_checks, question_refusal, unanswered, between_of}
 use Rattle.rules.specs.Sums.{keeping_of, sums_after}
 use Rattle.rules.specs.Numbers.{one_cell}
-use Rattle.step.specs.Gives.{end, lend, volumes, answer, leaves}
-use Rattle.reach.specs.declared.answer.Answer.TheVariants.{Accepted}
-use Rattle.sums.specs.Gives.{made_code, made_answer, made_leaves}
-use Rattle.sums.specs.declared.Made.TheVariants.{Done}
+use Rattle.step.specs.Gives.{end, lend, volumes, code, answer, number_in, leaves}
+use Rattle.sums.specs.Gives.{made_answer, made_number, made_leaves}
 use Rattle.promises.specs.Seen.{at, level, level_slope, discharge, discharge_slope, mean_bed, bed_slope}
 use Rattle.promises.specs.Seen.{Lake, Besides, lending, Calls, none, more}
 use Rattle.promises.specs.SeenSums.{MadeFrom, by_making, CallsKeeping, none_kept, more_kept}
+use Rattle.promises.specs.ByChecks.{accepted_with}
 use Rattle.promises.specs.Cases.{uneven, moved, two_cells, rising, shore, lake, brimming, flat, seventeen, two_sums, tells}
 
 -- what each gives
@@ -78,9 +77,12 @@ besides friction e dt left right =
 
 as_run : {n : ℕ} (bed s t : List ℤ) (g : Besides n) → step_of (lending bed 4096 s (length s) g) ≡ accepted t (pos 0) (pos 0)
     → Calls bed n 4096 s t (pos 0) (pos 0)
-unfolding volumes answer leaves
-as_run bed s t g e = more s t t s (Accepted (pos 0) (pos 0)) (pos 0) (pos 0) (pos 0) (pos 0) refl
-    (record { given = g; gave = record { says = sym (ap answer e); table = sym (ap (λ (o : Outcome). leaves o s) e) } }) (none t)
+unfolding volumes code answer number_in leaves
+as_run bed s t g e = more s t t s (accepted_with (pos 0) (pos 0)) (pos 0) (pos 0) (pos 0) (pos 0) refl
+    (record {
+      given = g;
+      gave = record { says = sym (ap answer e); number = sym (ap number_in e); table = sym (ap (λ (o : Outcome). leaves o s) e) };
+    }) (none t)
 
 abbrev first : List Outcome → Outcome
 first [] = refused 0 0
@@ -165,9 +167,13 @@ each_tells = refl
 
 -- ---- what is made is made of the state; and the call that moves water keeps the sums of its two cells
 pub made_of : MadeFrom flat seventeen two_sums
-unfolding made_code made_answer made_leaves
-made_of = by_making Done (pos 0 ∷ pos 0 ∷ []) two_sums
-    (record { says = sym (ap made_answer is); table = sym (ap (λ (m : Making). made_leaves m (pos 0 ∷ pos 0 ∷ [])) is) }) refl
+unfolding made_answer made_number made_leaves
+made_of = by_making (Ok tt) (pos 0 ∷ pos 0 ∷ []) two_sums
+    (record {
+      says = sym (ap made_answer is);
+      number = sym (ap made_number is);
+      table = sym (ap (λ (m : Making). made_leaves m (pos 0 ∷ pos 0 ∷ [])) is);
+    }) refl
   where
     is : making_of flat seventeen 2 ≡ made two_sums
     is = ap head each_makes
@@ -177,13 +183,13 @@ made_of = by_making Done (pos 0 ∷ pos 0 ∷ []) two_sums
         head (m ∷ ms) = m
 
 pub moves_kept : CallsKeeping (pos 0 ∷ pos 0 ∷ pos 0 ∷ []) 2 4096 uneven moved (pos 10240 ∷ []) (pos 10240 ∷ []) (pos 0) (pos 0)
-unfolding volumes answer leaves keeping_of sums_after sums_of block_sum block_to sum_from h0 z0 row
-moves_kept = more_kept uneven moved moved (pos 10240 ∷ []) (pos 10240 ∷ []) (pos 10240 ∷ []) uneven (Accepted (pos 0) (pos 0))
+unfolding volumes code answer number_in leaves keeping_of sums_after sums_of block_sum block_to sum_from h0 z0 row
+moves_kept = more_kept uneven moved moved (pos 10240 ∷ []) (pos 10240 ∷ []) (pos 10240 ∷ []) uneven (accepted_with (pos 0) (pos 0))
     (pos 0) (pos 0) (pos 0) (pos 0) refl
     (record {
       given = besides (0 ∷ 0 ∷ []) refl 317 (end 0 0) (end 0 0);
       gave = record {
-        step = record { says = sym (ap answer is); table = sym (ap (λ (o : Outcome). leaves o uneven) is) };
+        step = record { says = sym (ap answer is); number = sym (ap number_in is); table = sym (ap (λ (o : Outcome). leaves o uneven) is) };
         kept = sym (ap (λ (o : Outcome). sums_after (pos 0 ∷ pos 0 ∷ pos 0 ∷ []) o (pos 10240 ∷ [])) is);
       };
     }) (none_kept moved (pos 10240 ∷ []))

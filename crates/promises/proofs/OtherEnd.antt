@@ -24,22 +24,22 @@ use Rattle.survey.proofs.Laws.Lent.{number_turned, filled_turned, left_volume, r
 use Rattle.stage.specs.Ranges.{Ranged}
 use Rattle.stage.specs.Laws.LentChecks.{grounds, ranged}
 use Rattle.stage.specs.Laws.CellSizes.{cell_sizes}
-use Rattle.step.specs.Gives.{volumes, both, Gives, answer, leaves}
-use Rattle.reach.specs.declared.answer.Answer.{Answer}
-use Rattle.reach.specs.declared.answer.Answer.TheVariants.{Accepted}
+use Rattle.step.specs.Gives.{Answer, code, volumes, both, Gives, answer, number_in, leaves}
 use Rattle.promises.specs.Seen.{Besides, lending, Called, lent, Calls, none, more, least_i32, FitsI32, NoneLeast, FromOtherEnd}
+use Rattle.promises.specs.ByChecks.{accepted_with}
 use Rattle.promises.proofs.Outcomes.{taken}
 
 -- an accepted call
 pub other_gives : (l : Lent) (a : Answer) (w v : ℤ) (old new : List ℤ) → volumes a ≡ both w v → Gives (step_of l) a old new
-    → (old' : List ℤ) → Gives (step_of (turned_call l)) (Accepted (neg_ℤ v) (neg_ℤ w)) old' (turned_table (cells_of l) new)
-unfolding answer leaves
+    → (old' : List ℤ) → Gives (step_of (turned_call l)) (accepted_with (neg_ℤ v) (neg_ℤ w)) old' (turned_table (cells_of l) new)
+unfolding code answer number_in leaves
 other_gives l a w v old new e g old' =
     let t = taken l a w v old new e g in let ok = t.number in let fit = fits l ok in
     let is = sym (accepts (turned_call l) (number_turned l fit ∙ ok)) in
     let left = ap neg_ℤ t.right ∙ sym (left_volume l fit ok) in let right = ap neg_ℤ t.left ∙ sym (right_volume l fit ok) in
     record {
-      says = (λ m. Accepted (left m) (right m)) ∙ ap answer is;
+      says = (λ m. accepted_with (left m) (right m)) ∙ ap answer is;
+      number = ap number_in is;
       table = ap (turned_table (cells_of l)) t.table ∙ sym (filled_turned l fit ok) ∙ ap (λ (o : Outcome). leaves o old') is;
     }
 
@@ -64,10 +64,10 @@ module _ {bed : List ℤ} {n dx : ℕ} {s : List ℤ} {a : Answer} {w v : ℤ} {
   abbrev lent_of : ℕ → Lent
   lent_of k = lending (reverse bed) dx (turned_table k s) (length old) turned_besides
 
-  abbrev other_call : Called (reverse bed) n dx (turned_table n s) (Accepted (neg_ℤ v) (neg_ℤ w)) old (turned_table n m)
+  abbrev other_call : Called (reverse bed) n dx (turned_table n s) (accepted_with (neg_ℤ v) (neg_ℤ w)) old (turned_table n m)
   other_call = record {
     given = turned_besides;
-    gave = subst (λ (k : ℕ). Gives (step_of (lent_of k)) (Accepted (neg_ℤ v) (neg_ℤ w)) old (turned_table k m)) g.cells
+    gave = subst (λ (k : ℕ). Gives (step_of (lent_of k)) (accepted_with (neg_ℤ v) (neg_ℤ w)) old (turned_table k m)) g.cells
         (other_gives (lent c) a w v old m e c.gave old);
   }
 
@@ -87,7 +87,7 @@ other_run {n = n} (none t) = record {
 other_run {n = n} (more s m t old x w v a b e c k) = let rest = other_run k in record {
   left = neg_ℤ v +ℤ rest.left;
   right = neg_ℤ w +ℤ rest.right;
-  calls = more (turned_table n s) (turned_table n m) (turned_table n t) old (Accepted (neg_ℤ v) (neg_ℤ w)) (neg_ℤ v) (neg_ℤ w) rest.left
+  calls = more (turned_table n s) (turned_table n m) (turned_table n t) old (accepted_with (neg_ℤ v) (neg_ℤ w)) (neg_ℤ v) (neg_ℤ w) rest.left
       rest.right refl (other_call e c) rest.calls;
   each = (is_turned e c, rest.each);
   left_is = ap (λ (z : ℤ). neg_ℤ v +ℤ z) rest.left_is ∙ neg_add v b;

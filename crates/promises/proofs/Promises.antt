@@ -7,7 +7,7 @@
 -- keeps every lake and every depth. But `Called` holds the contract, `Gives (step_of ..)`, which leaves one answer and one table
 -- (`step_answer`, `step_table`): those of the rules' two stages. So what follows is said of that step, and of no other.
 -- Assumes nothing.
-use Rattle.std.specs.Prelude.{◌≡◌, Bool, false, List, [], ◌∷◌, ◌++◌, ◌⊎◌, ℕ, suc, ◌-◌, ◌≤◌, ◌<◌, ℤ, neg_ℤ, ◌+ℤ◌, ◌-ℤ◌, ◌≤ℤ◌, Float}
+use Rattle.std.specs.Prelude.{◌≡◌, false, List, [], ◌∷◌, ◌++◌, ◌⊎◌, ℕ, suc, ◌-◌, ◌≤◌, ◌<◌, ℤ, neg_ℤ, ◌+ℤ◌, ◌-ℤ◌, ◌≤ℤ◌, Float, Option, Result, option_map}
 use Rattle.std.proofs.Math.Path.{refl, ap, subst}
 use Rattle.std.proofs.Common.{sym, ◌∙◌, ⊎_elim}
 use Rattle.std.proofs.Math.Logic.{inl, inr}
@@ -34,16 +34,15 @@ use Rattle.survey.proofs.Laws.Lent.{number_turned}
 use Rattle.speeds.specs.Given.{speed_given, wave_given, cube_given}
 use Rattle.friction.specs.Given.{strength_given, slowed_given}
 use Rattle.face.specs.Given.{face_given}
-use Rattle.face.specs.Answers.{flux}
-use Rattle.speeds.specs.Answers.{value_of}
+use Rattle.face.specs.Sides.{flux_in}
+use Rattle.face.specs.declared.sides.Flux.{Flux}
 use Rattle.digits.specs.Root.{DigitsSay}
 use Rattle.root.specs.Root.{RootIs}
 use Rattle.double.specs.Face.{FaceIs}
-use Rattle.speeds.specs.declared.answer.Whole.{Whole}
-use Rattle.face.specs.declared.answer.Carried.{Carried}
-use Rattle.digits.specs.declared.Rooted.{Rooted}
-use Rattle.root.specs.declared.RootAnswer.{RootAnswer}
-use Rattle.double.specs.declared.face.DoubleAnswer.{DoubleAnswer}
+use Rattle.digits.specs.declared.Root.{Root}
+use Rattle.double.specs.declared.face.Flux.{Flux as DoubleFlux}
+use Rattle.double.specs.declared.face.OutOfRange.{OutOfRange}
+use Rattle.finishing.specs.declared.unfit.Unfit.{Unfit}
 use Rattle.speeds.proofs.Unique.{speed_unique, wave_unique, cube_unique}
 use Rattle.friction.proofs.Unique.{strength_unique, slowed_unique}
 use Rattle.face.proofs.Unique.{face_unique}
@@ -56,15 +55,13 @@ use Rattle.finishing.specs.FinishSays.{FinishSays}
 use Rattle.finishing.specs.Laws.OneFinish.{one_finish}
 use Rattle.stage.specs.Worked.{WorkedSays}
 use Rattle.stage.specs.Laws.OneAnswer.{one_said}
-use Rattle.stage.specs.declared.worked.Worked.{Worked}
-use Rattle.step.specs.Gives.{code, placed, volumes, absent, both, Gives, one_answer, one_table}
-use Rattle.reach.specs.declared.answer.Answer.{Answer}
-use Rattle.reach.specs.declared.answer.Answer.TheVariants.{Accepted}
+use Rattle.step.specs.Gives.{Answer, code, placed, volumes, absent, both, Gives, one_answer, one_table}
 use Rattle.promises.specs.Seen.{all_checks, to_stage_one, to_end, check_five, FirstMet, FirstMetAt}
 use Rattle.promises.specs.Seen.{level, level_slope, discharge, discharge_slope, mean_depth, NoneBelow, Excess, stage_table}
 use Rattle.promises.specs.Seen.{water, Listed, most_passed, brought, Lake}
 use Rattle.promises.specs.Seen.{Called, lent, Calls, NoInflow, FitsI32, NoneLeast, FromOtherEnd}
 use Rattle.promises.specs.ByChecks as call
+use Rattle.promises.specs.ByChecks.{accepted_with}
 use Rattle.promises.proofs.Outcomes.{by_checks, all_listed, ones_whole, twos_whole, all_within, coded, refused_place, refused_later}
 use Rattle.promises.specs.Outcomes.{Taken}
 use Rattle.promises.proofs.Outcomes.{accepted_table, taken, none_below_table, excess_table, written_calm, both_listed}
@@ -81,39 +78,39 @@ pub step_table : (l : Lent) {a b : Answer} {old new new' : List ℤ} → Gives (
 step_table l p q = one_table p q
 
 -- and so of every other public function
-pub work_one : (l : Lent) (old new new' : List ℤ) (a b : Worked) → WorkedSays l a old new → WorkedSays l b old new'
+pub work_one : (l : Lent) (old new new' : List ℤ) (a b : Answer) → WorkedSays l a old new → WorkedSays l b old new'
     → (a ≡ b) × (new ≡ new')
 work_one l old new new' a b p q = one_said (reach_of l) (call_of l) (state_of l) (found_of l) old new new' a b p q
 
-pub finish_one : (reach : ToldReach) (call : ToldCall) (bed : List ℤ) (u : List (List ℤ)) (a b : Bool) (old new new' : List (List ℤ))
+pub finish_one : (reach : ToldReach) (call : ToldCall) (bed : List ℤ) (u : List (List ℤ)) (a b : Result Unit Unfit) (old new new' : List (List ℤ))
     → FinishSays reach call bed u a old new → FinishSays reach call bed u b old new' → (a ≡ b) × (new ≡ new')
 finish_one reach call bed u a b old new new' p q = one_finish reach call bed u a b old new new' p q
 
-pub speed_one : (q h d : ℤ) (a b : Whole) → value_of a ≡ speed_given q h d → value_of b ≡ speed_given q h d → a ≡ b
+pub speed_one : (q h d : ℤ) (a b : Option ℤ) → a ≡ speed_given q h d → b ≡ speed_given q h d → a ≡ b
 speed_one q h d a b x y = speed_unique q h d a b x y
 
-pub wave_one : (h : ℤ) (a b : Whole) → value_of a ≡ wave_given h → value_of b ≡ wave_given h → a ≡ b
+pub wave_one : (h : ℤ) (a b : Option ℤ) → a ≡ wave_given h → b ≡ wave_given h → a ≡ b
 wave_one h a b x y = wave_unique h a b x y
 
-pub cube_one : (h : ℤ) (a b : Whole) → value_of a ≡ cube_given h → value_of b ≡ cube_given h → a ≡ b
+pub cube_one : (h : ℤ) (a b : Option ℤ) → a ≡ cube_given h → b ≡ cube_given h → a ≡ b
 cube_one h a b x y = cube_unique h a b x y
 
-pub strength_one : (dt f h u : ℤ) (a b : Whole) → value_of a ≡ strength_given dt f h u → value_of b ≡ strength_given dt f h u → a ≡ b
+pub strength_one : (dt f h u : ℤ) (a b : Option ℤ) → a ≡ strength_given dt f h u → b ≡ strength_given dt f h u → a ≡ b
 strength_one dt f h u a b x y = strength_unique dt f h u a b x y
 
-pub slowed_one : (x q : ℤ) (a b : Whole) → value_of a ≡ slowed_given x q → value_of b ≡ slowed_given x q → a ≡ b
+pub slowed_one : (x q : ℤ) (a b : Option ℤ) → a ≡ slowed_given x q → b ≡ slowed_given x q → a ≡ b
 slowed_one x q a b p r = slowed_unique x q a b p r
 
-pub face_one : (l r : Side) (a b : Carried) → flux a ≡ face_given l r → flux b ≡ face_given l r → a ≡ b
+pub face_one : (l r : Side) (a b : Option Flux) → option_map flux_in a ≡ face_given l r → option_map flux_in b ≡ face_given l r → a ≡ b
 face_one l r a b x y = face_unique l r a b x y
 
-pub digits_one : (number noughts : ℕ) {a b : Rooted} → DigitsSay number noughts a → DigitsSay number noughts b → a ≡ b
+pub digits_one : (number noughts : ℕ) {a b : Option Root} → DigitsSay number noughts a → DigitsSay number noughts b → a ≡ b
 digits_one number noughts p q = digits_unique p q
 
-pub root_one : {x : Float} {a b : RootAnswer} → RootIs x a → RootIs x b → a ≡ b
+pub root_one : {x : Float} {a b : Option Float} → RootIs x a → RootIs x b → a ≡ b
 root_one p q = root_unique p q
 
-pub double_one : (hl ul hr ur : Float) (a b : DoubleAnswer) → FaceIs hl ul hr ur a → FaceIs hl ul hr ur b → a ≡ b
+pub double_one : (hl ul hr ur : Float) (a b : Result (Option DoubleFlux) OutOfRange) → FaceIs hl ul hr ur a → FaceIs hl ul hr ur b → a ≡ b
 double_one hl ul hr ur a b x y = doubles.face_unique hl ul hr ur a b x y
 
 -- ---- the answer, by its number, its place and its volumes (`code`, `placed`, `volumes`)
@@ -176,7 +173,7 @@ module _ (l : Lent) (a : Answer) (w v : ℤ) (old new : List ℤ) (is : volumes 
   -- the call turned round is accepted too
   abbrev there : Taken (turned_call l) (neg_ℤ v) (neg_ℤ w) (turned_table (cells_of l) new)
   unfolding volumes
-  there = taken (turned_call l) (Accepted (neg_ℤ v) (neg_ℤ w)) (neg_ℤ v) (neg_ℤ w) old (turned_table (cells_of l) new) refl
+  there = taken (turned_call l) (accepted_with (neg_ℤ v) (neg_ℤ w)) (neg_ℤ v) (neg_ℤ w) old (turned_table (cells_of l) new) refl
       (other_gives l a w v old new is g old)
 
   -- what crosses the right end is what crosses the left one of that call

@@ -17,8 +17,7 @@ use Rattle.sill_rules.specs.Refusals.{off, early, checks}
 use Rattle.sill_rules.specs.Lent.{Lent, cells_of, reach_of, call_of, state_of, all_checks, filled, crossed, step_of}
 use Rattle.sill_rules.proofs.Laws.Within.{all_within}
 use Rattle.sill_rules.proofs.Laws.Accepted.{reached_end, eight}
-use Rattle.reach.specs.Gives.{code, placed, volumes, absent, both, Gives, one_answer, one_table}
-use Rattle.reach.specs.declared.answer.Answer.{Answer}
+use Rattle.reach.specs.Gives.{Answer, code, placed, volumes, absent, both, Gives, one_answer, one_table}
 use Rattle.promises.specs.Seen.{FirstMet, FirstMetAt, most_passed}
 use Rattle.promises.specs.SeenSill.{to_end, check_five, fast_cell, discharge, depth, NoneBelow, Excess, water, Lake}
 use Rattle.promises.specs.SeenSill.{Called, lent, AcceptedCall, Calls}

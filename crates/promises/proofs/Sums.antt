@@ -3,7 +3,7 @@
 -- `MadeFrom`, `Answers` and `CallsKeeping` (in `SeenSums`) are what a caller sees of them. The contracts leave one answer and one content
 -- of each lent table, so what follows is said of the calls that the rules have, and of no others.
 -- Assumes nothing.
-use Rattle.std.specs.Prelude.{◌≡◌, refl, eqb, ℤ, ◌+ℤ◌, ◌-ℤ◌}
+use Rattle.std.specs.Prelude.{◌≡◌, refl, T, eqb, ℤ, ◌+ℤ◌, ◌-ℤ◌}
 use Rattle.std.proofs.Math.Path.{sym, ap}
 use Rattle.std.proofs.Common.{◌∙◌, subst}
 use Rattle.std.proofs.Math.Bool.{false}
@@ -16,7 +16,7 @@ use Rattle.whole.specs.Flags.{by, clash}
 use Rattle.rules.specs.Reach.{h0, z0}
 use Rattle.rules.specs.Refusals.{Check, verdict}
 use Rattle.rules.specs.Lent.{Lent, cells_of, number, filled, Outcome, refused, accepted, step_of}
-use Rattle.rules.specs.StateAndBed.{cells_over, depth_in, state_refusal}
+use Rattle.rules.specs.StateAndBed.{cells_over, depth_in, state_checks, state_refusal}
 use Rattle.rules.specs.Sums.{blocks_of, sum_from, sums_of, misfit_sums, making_checks, making_refusal, Making, unmade, made, making_of}
 use Rattle.rules.specs.Sums.{Reading, reading, question_checks, Question, unanswered, answered, between_of}
 use Rattle.rules.specs.Sums.{keeping_of, sums_after}
@@ -26,17 +26,16 @@ use Rattle.rules.proofs.Laws.Written.{written_passes}
 use Rattle.rules.proofs.Laws.Sums.{length_sums, between_water as rules-water}
 use Rattle.rules.proofs.Laws.Questions.{sums_misfit, sums_fit, as_many, making_first, making_later, disordered, all_answered}
 use Rattle.rules.proofs.Laws.Questions.{making_verdict, by_number, question_verdict, by_refusal, unkept, kept_step}
-use Rattle.step.specs.Gives.{code, placed, Gives, answer, leaves}
-use Rattle.reach.specs.declared.answer.Answer.{Answer}
-use Rattle.sums.specs.Gives.{made_code, asked, question_code, made_answer, made_leaves, MakingGives, KeepingGives}
+use Rattle.reach.specs.Refusals.{told_number}
+use Rattle.reach.specs.Gives.{numbered}
+use Rattle.step.specs.Gives.{Answer, code, placed, Gives, answer, number_in, leaves}
+use Rattle.sums.specs.Gives.{Made, Amount, asked, question_code, made_answer, made_number, made_leaves, MakingGives, KeepingGives}
 use Rattle.sums.specs.Gives.{one_making, one_amount, one_keeping}
 use Rattle.sums.specs.Answered.{asked_few}
-use Rattle.sums.specs.declared.Made.{Made}
-use Rattle.sums.specs.declared.Amount.{Amount}
 use Rattle.promises.specs.Seen.{FirstMet, mean_bed, mean_depth, total, water, Calls, none, more}
 use Rattle.promises.specs.SeenSums.{water_between, MadeFrom, by_making, by_step, Answers}
 use Rattle.promises.specs.SeenSums.{CallsKeeping, none_kept, more_kept}
-use Rattle.promises.specs.First.{first_verdict, verdict_first}
+use Rattle.promises.specs.First.{first_verdict, verdict_first, listed, first_listed}
 use Rattle.promises.specs.ByChecks.{volumes_code}
 use Rattle.promises.proofs.Outcomes.{coded, accepted_table}
 use Rattle.promises.proofs.Promises as page
@@ -53,41 +52,63 @@ pub step_one : {l : Lent} {a b : Answer} {old new new' was sums sums' : List ℤ
     → KeepingGives l b old new' was sums' → (a ≡ b) × (new ≡ new') × (sums ≡ sums')
 step_one p q = one_keeping p q
 
+-- ---- what making gives, by its checks, in a table of so many sums
+module _ (bed t : List ℤ) (many : ℕ) where
+  abbrev first_no : ℕ
+  first_no = verdict (making_checks bed t many)
+
+  made_when : first_no ≡ 0 → making_of bed t many ≡ made (sums_of bed t)
+  made_when e = by_number bed t many 0 (making_verdict bed t many ∙ e)
+
+  unmade_when : (first_no ≡ 0 → ⊥) → making_of bed t many ≡ unmade first_no
+  unmade_when f = by_number bed t many first_no (making_verdict bed t many) ∙ rw (ne_eqb first_no 0 f) refl
+
+  -- their numbers are 1, 3 and 5, so its answer has its own number
+  making_listed : T (listed (making_checks bed t many))
+  unfolding making_checks state_checks
+  making_listed = tt
+
+  pub own_making : told_number (made_answer (making_of bed t many)) ≡ made_number (making_of bed t many)
+  unfolding made_answer made_number
+  own_making = by (eqb first_no 0)
+      (λ b. let e = made_when (eqb-true first_no 0 b) in ap (λ (m : Making). told_number (made_answer m)) e ∙ sym (ap made_number e))
+      (λ b.
+      let f = eqb-false first_no 0 b in let e = unmade_when f in
+      let in_list = first_listed first_no (verdict_first first_no (making_checks bed t many) (some f) refl) making_listed in
+      ap (λ (m : Making). told_number (made_answer m)) e ∙ numbered first_no in_list.0 in_list.1 ∙ sym (ap made_number e))
+    where
+      some : (first_no ≡ 0 → ⊥) → 0 < first_no
+      some f = omega (arith, f)
+
 -- ---- making the sums of the state t, in a table that held `old`
 module _ (bed t : List ℤ) {a : Made} {old new : List ℤ} (g : MakingGives (making_of bed t (length old)) a old new) where
   abbrev checks : List Check
   checks = making_checks bed t (length old)
 
-  made_when : verdict checks ≡ 0 → making_of bed t (length old) ≡ made (sums_of bed t)
-  made_when e = by_number bed t (length old) 0 (making_verdict bed t (length old) ∙ e)
-
-  unmade_when : (verdict checks ≡ 0 → ⊥) → making_of bed t (length old) ≡ unmade (verdict checks)
-  unmade_when f = by_number bed t (length old) (verdict checks) (making_verdict bed t (length old)) ∙ rw (ne_eqb (verdict checks) 0 f) refl
-
-  making_code : made_code a ≡ verdict checks
-  unfolding made_code made_answer
-  making_code = by (eqb (verdict checks) 0)
-      (λ b. let e = eqb-true (verdict checks) 0 b in ap made_code (g.says ∙ ap made_answer (made_when e)) ∙ sym e)
-      (λ b. ap made_code (g.says ∙ ap made_answer (unmade_when (eqb-false (verdict checks) 0 b))))
+  making_code : told_number a ≡ verdict checks
+  unfolding made_number
+  making_code = g.number ∙ by (eqb (verdict checks) 0)
+      (λ b. let e = eqb-true (verdict checks) 0 b in ap made_number (made_when bed t (length old) e) ∙ sym e)
+      (λ b. ap made_number (unmade_when bed t (length old) (eqb-false (verdict checks) 0 b)))
 
   -- refused with k exactly when a check numbered k is the first one met: 1, then 3 and 5; the table is then what it was
-  pub make_refused_first : 0 < made_code a → FirstMet (made_code a) checks
-  make_refused_first some = verdict_first (made_code a) checks some (sym making_code)
+  pub make_refused_first : 0 < told_number a → FirstMet (told_number a) checks
+  make_refused_first some = verdict_first (told_number a) checks some (sym making_code)
 
-  pub make_first_refused : (k : ℕ) → FirstMet k checks → made_code a ≡ k
+  pub make_first_refused : (k : ℕ) → FirstMet k checks → told_number a ≡ k
   make_first_refused k f = making_code ∙ first_verdict k f
 
-  pub make_untouched : 0 < made_code a → new ≡ old
+  pub make_untouched : 0 < told_number a → new ≡ old
   unfolding made_leaves
-  make_untouched some = g.table ∙ ap (λ (m : Making). made_leaves m old) (unmade_when (λ e. let z = making_code in omega (arith, z)))
+  make_untouched some = g.table ∙ ap (λ (m : Making). made_leaves m old) (unmade_when bed t (length old) (λ e. let z = making_code in omega (arith, z)))
 
   -- else it has the sum of the mean depths of each block,
-  pub make_sums : made_code a ≡ 0 → new ≡ sums_of bed t
+  pub make_sums : told_number a ≡ 0 → new ≡ sums_of bed t
   unfolding made_leaves
-  make_sums e = g.table ∙ ap (λ (m : Making). made_leaves m old) (made_when (sym making_code ∙ e))
+  make_sums e = g.table ∙ ap (λ (m : Making). made_leaves m old) (made_when bed t (length old) (sym making_code ∙ e))
 
   -- and the state passed its checks
-  making_passed : made_code a ≡ 0 → state_refusal bed t ≡ 0
+  making_passed : told_number a ≡ 0 → state_refusal bed t ≡ 0
   making_passed e =
       let none : making_refusal bed t (length old) ≡ 0 = making_verdict bed t (length old) ∙ sym making_code ∙ e in
       by (misfit_sums (length old) (cells_over bed))
@@ -101,10 +122,10 @@ module _ (l : Lent) {a : Answer} {old new was sums : List ℤ} (g : KeepingGives
 
   -- sums that are not as many as there are blocks are a 1 without a place, before all else, and no table is touched;
   pub step_misfit : (length was ≡ blocks_of (cells_of l) → ⊥) → (code a ≡ 1) × (placed a ≡ 0) × (new ≡ old) × (sums ≡ was)
-  unfolding code placed answer leaves sums_after
+  unfolding placed answer number_in leaves sums_after
   step_misfit f =
       let e = unkept l (length was) (sums_misfit (length was) (cells_of l) f) in let says = g.step.says ∙ ap answer e in (
-        ap code says,
+        g.step.number ∙ ap number_in e,
         ap placed says,
         g.step.table ∙ ap (λ (o : Outcome). leaves o old) e,
         g.kept ∙ ap (λ (o : Outcome). sums_after l.bed o was) e,
@@ -190,7 +211,7 @@ module _ (bed t sums : List ℤ) (a b : ℕ) (r : Amount) (g : asked r ≡ betwe
   -- of which there are few
   pub question_few : (x : Reading) → asked r ≡ answered x → (x.cells ≤ 30) × (x.blocks ≤ 64)
   unfolding asked
-  question_few x e = asked_few bed t sums a b x.water x.cells x.blocks (sym e ∙ g)
+  question_few x e = asked_few bed t sums a b (record { depth = x.water; cells = x.cells; blocks = x.blocks }) (sym e ∙ g)
 
 -- ---- with the sums of the state: it is answered, and tells the water
 between_is : (bed t : List ℤ) (a m : ℕ)
@@ -252,7 +273,7 @@ module _ {bed : List ℤ} {n dx : ℕ} where
   -- and the table stays the one that `make` would make: it is accepted, and leaves in a table of that length the same sums
   pub stays_made : {s t u z : List ℤ} {a b : ℤ} → CallsKeeping bed n dx s t u z a b → MadeFrom bed s u
       → {x : Made} {old new : List ℤ} → length old ≡ length z → MakingGives (making_of bed t (length old)) x old new
-      → (made_code x ≡ 0) × (new ≡ z)
+      → (told_number x ≡ 0) × (new ≡ z)
   stays_made {t = t} {z = z} k h {x} {old} size g =
       let ok = passes (still_made k h) in
       let fit = sums_fit (length old) (cells_over bed) (size ∙ ap length ok.1 ∙ length_sums bed t) in

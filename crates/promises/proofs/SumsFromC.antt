@@ -3,27 +3,27 @@
 -- A statement here has the name of the one in `Sums` that it is had from. r is the number that the call gives; a caller in C lends three
 -- numbers for what a question tells.
 -- Assumes nothing.
-use Rattle.std.specs.Prelude.{◌≡◌, ℕ, ◌≤◌, ◌<◌, length, set, ℤ, pos}
+use Rattle.std.specs.Prelude.{◌≡◌, ℕ, ◌≤◌, ◌<◌, length, set, ℤ, pos, Ok, Err}
 use Rattle.std.proofs.Math.Path.{refl, sym, ap}
 use Rattle.std.proofs.Common.{◌∙◌, subst, arith, length-set, get_or-set_same, get_or-set_other}
 use mathlib.Core.List.{List}
 use Rattle.rules.specs.Lent.{Lent, cells_of, Outcome, step_of}
-use Rattle.rules.specs.StateAndBed.{cells_over}
-use Rattle.rules.specs.Sums.{blocks_of, sums_of, Making, making_of, making_checks, Reading, reading, Question, unanswered, answered, between_of}
+use Rattle.rules.specs.StateAndBed.{cells_over, misfit_state}
+use Rattle.rules.specs.Sums.{blocks_of, sums_of, misfit_sums, Making, making_of, making_checks, Reading, reading, Question, unanswered, answered, between_of}
 use Rattle.rules.specs.Sums.{question_checks, keeping_of}
-use Rattle.rules.proofs.Laws.Questions.{sums_fit, kept_step}
-use Rattle.step.specs.Gives.{code, volumes, both, answer}
-use Rattle.reach.specs.declared.answer.Answer.{Answer}
-use Rattle.sums.specs.Gives.{made_code, made_answer, MakingGives, asked, question_code, KeepingGives}
-use Rattle.sums.specs.declared.Made.{Made}
-use Rattle.sums.specs.declared.Amount.{Amount}
-use Rattle.sums.specs.declared.Amount.TheVariants as amount
+use Rattle.rules.proofs.Laws.Questions.{sums_fit, unkept, kept_step, disordered, unanswered_sums, unanswered_state, unanswered_faces, all_answered}
+use Rattle.reach.specs.Refusals.{told_number}
+use Rattle.reach.specs.Gives.{Answer, refusal_of, code, volumes, both, answer, number_in}
+use Rattle.sums.specs.Gives.{Made, Amount, made_answer, MakingGives, asked, question_code, KeepingGives}
+use Rattle.whole.specs.Flags.{by}
 use Rattle.editor.specs.Told as told
 use Rattle.editor.specs.Told.{StepTold, KeepingTold, MakingTold, reading_into, QuestionTold}
 use Rattle.promises.specs.Seen.{at, FirstMet, water, lending}
 use Rattle.promises.specs.SeenSums.{water_between, MadeFrom, by_making, CallsKeeping, none_kept, more_kept}
 use Rattle.promises.specs.SeenSums.{CallsKeepingFromC, none_c, more_c}
 use Rattle.promises.proofs.FromC.{wrote}
+use Rattle.promises.specs.ToldAnswers as step-told
+use Rattle.promises.proofs.Outcomes.{own}
 use Rattle.promises.proofs.Sums as page
 
 -- ---- one number, and one content of each lent table
@@ -46,13 +46,13 @@ module _ (bed t : List ℤ) {r : ℕ} {old new : List ℤ} (g : MakingTold (maki
   said = made_answer (making_of bed t (length old))
 
   gave : MakingGives (making_of bed t (length old)) said old new
-  gave = record { says = refl; table = g.table }
+  gave = record { says = refl; number = page.own_making bed t (length old); table = g.table }
 
-  onto : (P : ℕ → Type 0) → P (made_code said) → P r
-  onto P x = subst P (sym g.number) x
+  onto : (P : ℕ → Type 0) → P (told_number said) → P r
+  onto P x = subst P (page.own_making bed t (length old) ∙ sym g.number) x
 
-  over : (P : ℕ → Type 0) → P r → P (made_code said)
-  over P x = subst P g.number x
+  over : (P : ℕ → Type 0) → P r → P (told_number said)
+  over P x = subst P (g.number ∙ sym (page.own_making bed t (length old))) x
 
   pub make_refused_first : 0 < r → FirstMet r (making_checks bed t (length old))
   make_refused_first some =
@@ -76,14 +76,21 @@ module _ (l : Lent) {r : ℕ} {old new was sums vs vs' : List ℤ} {ps ps' : Lis
   abbrev answers : Answer
   answers = answer (keeping_of l (length was))
 
+  -- it has the outcome's own number
+  own_kept : code answers ≡ number_in (keeping_of l (length was))
+  unfolding code answer refusal_of number_in
+  own_kept = by (misfit_sums (length was) (cells_of l))
+      (λ b. let e = unkept l (length was) b in ap (λ (o : Outcome). code (answer o)) e ∙ sym (ap number_in e))
+      (λ b. let e = kept_step l (length was) b in ap (λ (o : Outcome). code (answer o)) e ∙ own l ∙ sym (ap number_in e))
+
   kept : KeepingGives l answers old new was sums
-  kept = record { step = record { says = refl; table = g.step.table }; kept = g.kept }
+  kept = record { step = step-told.gave g.step own_kept; kept = g.kept }
 
   step_code : (P : ℕ → Type 0) → P r → P (code answers)
-  step_code P x = subst P g.step.number x
+  step_code P x = step-told.over g.step own_kept P x
 
   pub step_misfit : (length was ≡ blocks_of (cells_of l) → ⊥) → (r ≡ 1) × (new ≡ old) × (sums ≡ was)
-  step_misfit f = let z = page.step_misfit l kept f in (g.step.number ∙ z.0, z.2, z.3)
+  step_misfit f = let z = page.step_misfit l kept f in (g.step.number ∙ sym own_kept ∙ z.0, z.2, z.3)
 
   -- with sums that fit it is `bassoonsun_step`, of which all that `FromC` says is said
   pub step_same : length was ≡ blocks_of (cells_of l) → StepTold (step_of l) r old new vs vs' ps ps'
@@ -103,15 +110,24 @@ module _ (l : Lent) {r : ℕ} {old new was sums vs vs' : List ℤ} {ps ps' : Lis
       ∙ wrote l (step_same fit) two e
 
 -- ---- a question
--- what it tells, as Rattle's answer
+-- what it tells, as Rattle's answer: a refusal is a 1 or a 10
 amount_of : Question → Amount
-amount_of (unanswered k) = amount.Refused k
-amount_of (answered x) = amount.Water x.water x.cells x.blocks
+amount_of (unanswered k) = Err (refusal_of k)
+amount_of (answered x) = Ok (record { depth = x.water; cells = x.cells; blocks = x.blocks })
 
-amount_is : (q : Question) → asked (amount_of q) ≡ q
-unfolding asked amount_of
-amount_is (unanswered k) = refl
-amount_is (answered x) = refl
+amount_is : (bed t sums : List ℤ) (a b : ℕ) → asked (amount_of (between_of bed t sums a b)) ≡ between_of bed t sums a b
+unfolding asked amount_of refusal_of
+amount_is bed t sums a b = by (misfit_sums (length sums) (cells_over bed))
+    (λ p. same (unanswered_sums bed t sums a b p) refl)
+    (λ p. by (misfit_state (length t) (cells_over bed))
+    (λ q. same (unanswered_state bed t sums a b p q) refl)
+    (λ q. by (disordered bed t sums a b)
+    (λ d. same (unanswered_faces bed t sums a b p q d) refl)
+    (λ d. same (all_answered bed t sums a b p q d) refl)))
+  where
+    same : {q : Question} → between_of bed t sums a b ≡ q → asked (amount_of q) ≡ q
+        → asked (amount_of (between_of bed t sums a b)) ≡ between_of bed t sums a b
+    same e is = ap (λ (q : Question). asked (amount_of q)) e ∙ is ∙ sym e
 
 -- what is written into the three numbers
 into : (x : Reading) (old : List ℤ) → length old ≡ 3 → let new = reading_into (answered x) old in
@@ -133,7 +149,7 @@ module _ (bed t sums : List ℤ) (a b : ℕ) {r : ℕ} {old new : List ℤ} (g :
   tells = amount_of (between_of bed t sums a b)
 
   abbrev tells_is : asked tells ≡ between_of bed t sums a b
-  tells_is = amount_is (between_of bed t sums a b)
+  tells_is = amount_is bed t sums a b
 
   number_is : r ≡ question_code (asked tells)
   number_is = g.number ∙ sym (ap question_code tells_is)
@@ -179,7 +195,8 @@ pub between_all : (bed t sums : List ℤ) {r : ℕ} {old new : List ℤ} → Que
 unfolding question_code
 between_all bed t sums {old = old} g made three =
     let q = between_of bed t sums 0 (cells_over bed) in
-    let x = page.between_all made (amount_of q) (amount_is q) in let is = sym (amount_is q) ∙ x.told in
+    let told_is = amount_is bed t sums 0 (cells_over bed) in
+    let x = page.between_all made (amount_of q) told_is in let is = sym told_is ∙ x.told in
     let w = g.reading ∙ ap (λ (y : Question). reading_into y old) is in
     (g.number ∙ ap question_code is, ap (λ (z : List ℤ). at z 0) w ∙ (into x.read old three).0 ∙ x.water)
 
@@ -196,4 +213,5 @@ module _ {bed : List ℤ} {n dx : ℕ} where
   -- and the table stays the one that `bassoonsun_sums` would make
   pub stays_made : {s t u z : List ℤ} {a b : ℤ} → CallsKeepingFromC bed n dx s t u z a b → MadeFrom bed s u
       → {r : ℕ} {old new : List ℤ} → length old ≡ length z → MakingTold (making_of bed t (length old)) r old new → (r ≡ 0) × (new ≡ z)
-  stays_made {t = t} k h size g = let x = page.stays_made (keeping_calls k) h size (gave bed t g) in (g.number ∙ x.0, x.1)
+  stays_made {t = t} k h {old = old} size g = let x = page.stays_made (keeping_calls k) h size (gave bed t g) in
+      (g.number ∙ sym (page.own_making bed t (length old)) ∙ x.0, x.1)

@@ -1,7 +1,7 @@
 -- What a call by a list of checks gives, whatever its reach: the number and the place of the first check that is met, or the table that it
 -- fills and the two volumes. Each reach's statements of this are had from here.
 -- Assumes nothing.
-use Rattle.std.specs.Prelude.{◌≡◌, refl, List, ℕ, zero, suc, ◌≤◌, ◌<◌, T, eqb, ℤ}
+use Rattle.std.specs.Prelude.{◌≡◌, refl, List, ℕ, zero, suc, ◌≤◌, ◌<◌, T, eqb, ℤ, Ok, Err}
 use Rattle.std.proofs.Math.Path.{sym, ap}
 use Rattle.std.proofs.Common.{◌∙◌, subst, arith}
 use Rattle.std.proofs.Math.Decide.{dec_lt}
@@ -13,17 +13,39 @@ use Rattle.rules.specs.Found.{Found, at}
 use Rattle.rules.proofs.Laws.Verdicts.{cleared, none_stops}
 use Rattle.rules.proofs.Laws.Outcome.{accepts, refuses}
 use Rattle.rules.proofs.Laws.Within.{Within, spot_within, one_only, spot_whole}
-use Rattle.reach.specs.Gives.{code, placed, volumes, absent, both, Gives, answer, leaves}
-use Rattle.reach.specs.declared.answer.Answer.{Answer}
-use Rattle.reach.specs.declared.answer.Answer.TheVariants.{Refused, Accepted}
+use Rattle.reach.specs.Gives.{Answer, code, placed, volumes, absent, both, refusal_of, Gives, answer, number_in, leaves, numbered}
 use Rattle.promises.specs.Seen.{FirstMet, FirstMetAt}
 use Rattle.promises.specs.First.{first_verdict, verdict_first, first_of, first_found, found_first, listed, first_listed, listed_some}
 
 -- an answer with volumes has the number 0
 pub volumes_code : (a : Answer) (w v : ℤ) → volumes a ≡ both w v → code a ≡ 0
 unfolding volumes code
-volumes_code (Refused k p) w v e = let z : ◌≡◌ {A = ℕ} 0 1 = cc in let f : ⊥ = omega arith in absurd f
-volumes_code (Accepted x y) w v e = refl
+volumes_code (Err k) w v e = let z : ◌≡◌ {A = ℕ} 0 1 = cc in let f : ⊥ = omega arith in absurd f
+volumes_code (Ok x) w v e = refl
+
+-- that of an accepted call
+abbrev pub accepted_with : ℤ → ℤ → Answer
+accepted_with w v = Ok (record { first = w; last = v })
+
+-- ---- the number of the outcome is the verdict's; and where every check of the list has a number from 1 to 8, its answer has that number
+module _ (xs : List Check) (t : List ℤ) (w v : ℤ) where
+  outcome_number : number_in (outcome xs t w v) ≡ verdict xs
+  unfolding number_in
+  outcome_number = by (eqb (verdict xs) 0)
+      (λ b. let e = eqb-true (verdict xs) 0 b in ap number_in (accepts t w v xs e) ∙ sym e)
+      (λ b. ap number_in (refuses t w v xs (eqb-false (verdict xs) 0 b)))
+
+  pub own_number : T (listed xs) → code (answer (outcome xs t w v)) ≡ number_in (outcome xs t w v)
+  unfolding code answer number_in
+  own_number ok = by (eqb (verdict xs) 0)
+      (λ b. let e = accepts t w v xs (eqb-true (verdict xs) 0 b) in ap (λ (o : Outcome). code (answer o)) e ∙ sym (ap number_in e))
+      (λ b.
+      let f = eqb-false (verdict xs) 0 b in let e = refuses t w v xs f in
+      let in_list = first_listed (verdict xs) (verdict_first (verdict xs) xs (some f) refl) ok in
+      ap (λ (o : Outcome). code (answer o)) e ∙ numbered (verdict xs) in_list.0 in_list.1 ∙ sym (ap number_in e))
+    where
+      some : (verdict xs ≡ 0 → ⊥) → 0 < verdict xs
+      some f = omega (arith, f)
 
 -- a call with the checks xs, that fills the table t and has the volumes w and v where none of them applies
 pub record ByChecks (xs : List Check) (t : List ℤ) (w v : ℤ) (a : Answer) (old new : List ℤ) : Type 0 where
@@ -31,20 +53,17 @@ pub record ByChecks (xs : List Check) (t : List ℤ) (w v : ℤ) (a : Answer) (o
 
 module _ {xs : List Check} {t : List ℤ} {w v : ℤ} {a : Answer} {old new : List ℤ} (g : ByChecks xs t w v a old new) where
   -- ---- the answer
-  refused_is : (verdict xs ≡ 0 → ⊥) → a ≡ Refused (verdict xs) (spot xs)
+  refused_is : (verdict xs ≡ 0 → ⊥) → a ≡ Err (record { refusal = refusal_of (verdict xs); place = spot xs })
   unfolding answer
   refused_is f = g.gave.says ∙ ap answer (refuses t w v xs f)
 
-  accepted_is : verdict xs ≡ 0 → a ≡ Accepted w v
+  accepted_is : verdict xs ≡ 0 → a ≡ accepted_with w v
   unfolding answer
   accepted_is e = g.gave.says ∙ ap answer (accepts t w v xs e)
 
   -- its number
   pub coded : code a ≡ verdict xs
-  unfolding code
-  coded = by (eqb (verdict xs) 0)
-      (λ b. let e = eqb-true (verdict xs) 0 b in ap code (accepted_is e) ∙ sym e)
-      (λ b. ap code (refused_is (eqb-false (verdict xs) 0 b)))
+  coded = g.gave.number ∙ outcome_number xs t w v
 
   some_number : 0 < code a → verdict xs ≡ 0 → ⊥
   some_number some e = omega (arith, coded)

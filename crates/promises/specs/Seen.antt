@@ -11,8 +11,7 @@ use Rattle.rules.specs.Step.{stage_one}
 use Rattle.rules.specs.Refusals.{Check, each, of_call, applies, off, stage_checks, early, checks}
 use Rattle.rules.specs.Lent.{Lent, cells_of, reach_of, call_of, state_of, misfits, step_of}
 use Rattle.survey.specs.Turned.{turned_table, turned_call}
-use Rattle.step.specs.Gives.{lend, volumes, both, Gives}
-use Rattle.reach.specs.declared.answer.Answer.{Answer}
+use Rattle.step.specs.Gives.{Answer, lend, volumes, both, Gives}
 use Rattle.editor.specs.Told.{StepTold}
 
 -- entry j of a table

@@ -8,8 +8,7 @@ use Rattle.rules.specs.Refusals.{Check, each, of_call}
 use Rattle.rules.specs.Laws.Chain.{Chain}
 use Rattle.sill_rules.specs.Refusals.{off, fast_friction, early}
 use Rattle.sill_rules.specs.Lent.{Lent, cells_of, reach_of, call_of, state_of, misfits, step_of}
-use Rattle.reach.specs.Gives.{volumes, both, Gives}
-use Rattle.reach.specs.declared.answer.Answer.{Answer}
+use Rattle.reach.specs.Gives.{Answer, volumes, both, Gives}
 use Rattle.editor.specs.Told.{StepTold}
 use Rattle.promises.specs.Seen.{at, total}
 

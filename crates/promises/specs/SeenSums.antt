@@ -2,11 +2,9 @@
 use Rattle.std.specs.Prelude.{◌≡◌, List, ℕ, ◌+◌, ◌-◌, length, ℤ, pos, ◌+ℤ◌}
 use Rattle.rules.specs.Lent.{Lent}
 use Rattle.rules.specs.Sums.{Reading, making_of, answered}
-use Rattle.step.specs.Gives.{code, volumes, both}
-use Rattle.reach.specs.declared.answer.Answer.{Answer}
-use Rattle.sums.specs.Gives.{made_code, MakingGives, asked, KeepingGives}
-use Rattle.sums.specs.declared.Made.{Made}
-use Rattle.sums.specs.declared.Amount.{Amount}
+use Rattle.reach.specs.Refusals.{told_number}
+use Rattle.step.specs.Gives.{Answer, code, volumes, both}
+use Rattle.sums.specs.Gives.{Made, Amount, MakingGives, asked, KeepingGives}
 use Rattle.editor.specs.Told.{KeepingTold}
 use Rattle.promises.specs.Seen.{at, mean_depth, total, Besides, lending}
 
@@ -16,7 +14,7 @@ water_between bed t n a b = total (λ i. mean_depth bed t n (a + i)) (b - a)
 
 -- sums that are those of the state t over its bed: `make` left them there, or an accepted step that wrote t
 pub data MadeFrom (bed t : List ℤ) : List ℤ → Type 0 where
-  by_making : (a : Made) (old sums : List ℤ) → MakingGives (making_of bed t (length old)) a old sums → made_code a ≡ 0 → MadeFrom bed t sums
+  by_making : (a : Made) (old sums : List ℤ) → MakingGives (making_of bed t (length old)) a old sums → told_number a ≡ 0 → MadeFrom bed t sums
   by_step : (l : Lent) (a : Answer) (old was sums : List ℤ) → l.bed ≡ bed → KeepingGives l a old t was sums → code a ≡ 0
       → MadeFrom bed t sums
 

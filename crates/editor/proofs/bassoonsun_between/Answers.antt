@@ -1,5 +1,6 @@
 -- The answer, with two counts that are small.
 use Rattle.std.proofs.Common.{refl, arith, rules}
+use Rattle.std.specs.Prelude.{set}
 use Rattle.whole.specs.Machine.{back, as_whole}
 use Rattle.sums.specs.Gives.{asked, question_code}
 use Rattle.sums.specs.Answered.{asked_few}
@@ -22,5 +23,7 @@ pub returns-in-Ok : goal.returns-in-Ok
 unfolding asked question_code reading_into
 returns-in-Ok c =
     let p = c.args in let w = c.in-Ok.water in let few = asked_few p.bed.now p.state.now p.sums.now p.a p.b w c.in-Ok.ensures in
-    rw (back {z = w.depth} (search rules), as_whole w.cells (omega (arith, few)), as_whole w.blocks (omega (arith, few)), ← c.in-Ok.ensures)
-    (record { number = refl; reading = refl })
+    let depth = back {z = w.depth} (search rules) in
+    let cells = as_whole w.cells (omega (arith, few)) in let blocks = as_whole w.blocks (omega (arith, few)) in
+    rw (← c.in-Ok.ensures)
+    (record { number = refl; reading = λ i. set (set (set p.answer.now 0 (depth i)) 1 (cells i)) 2 (blocks i) })
