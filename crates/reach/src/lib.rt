@@ -10,7 +10,8 @@ pub mod lengths;
 pub mod limits;
 pub mod size;
 
-// The working state of one cell: level mean, level slope, discharge mean, discharge slope.
+// The working state of one cell: level mean, level slope, discharge mean, discharge slope. An array, and no struct: number
+// m of a cell is that of column m of a lent state, and what `finish` promises of a table it says of lists of numbers.
 pub type Cell = [i64; 4];
 
 // What stays from step to step: n cells of length dx.

@@ -1,6 +1,10 @@
 // One step of a reach over a stepped bed, of the first order: a bed value a cell, a level and a discharge,
 // and no slopes. It checks all that it is lent, and `next` is written only when nothing can stop the step
 // any more.
+//
+// Some small functions stand here as they stand in crate stage (`crossing`, `outer`, `too_long`, `thrust_of`,
+// `speed_of`): each asks its caller for ranges, and what does so is private to its crate, since a public function
+// answers every call.
 #![tactic(auto)]
 
 mod checks;

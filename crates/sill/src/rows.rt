@@ -5,6 +5,9 @@ ghost use Rattle.sill.specs.Rows.{left_of, right_of};
 
 use face::sides::Side;
 
+// The rows of the tables are arrays, and no structs: what crates/tables says of a table filled or written row by row,
+// and of a lent one in columns, it says of rows as lists of numbers.
+
 // A cell: its level and its discharge.
 pub type Pool = [i64; 2];
 
