@@ -12,6 +12,9 @@ use Rattle.rules.proofs.Laws.Within.{place_most}
 use Rattle.sill_rules.specs.Lent as sills
 use Rattle.sill_rules.proofs.Laws.Within as sill-places
 use Rattle.reach.specs.declared.Given.{Given}
+use Rattle.reach.specs.declared.answer.Refused.{Refused}
+use Rattle.reach.specs.declared.answer.Volumes.{Volumes}
+use Rattle.reach.specs.Refusals.{number_of}
 use Rattle.reach.specs.Gives.{Answer, answer, number_in, leaves, code, placed, Gives}
 use Rattle.root.specs.Root.{RootIs}
 use Rattle.double.specs.Face.{FaceIs}
@@ -137,6 +140,24 @@ pub record AnswerTold (a : Answer) (r : ℕ) (volumes volumes' : List ℤ) (plac
   pub crossed : volumes' ≡ volumes_in a volumes
   pub place : places' ≡ set places 0 (placed a)
 
+pub refused_told : {a : Answer} (e : Refused) (old : List ℤ) (places : List ℕ) → Err e ≡ a
+    → AnswerTold a (number_of e.refusal) old old places (set places 0 e.place)
+unfolding code volumes_in placed
+refused_told e old places is = record {
+  number = ap code is;
+  crossed = ap (λ (x : Answer). volumes_in x old) is;
+  place = ap (λ (x : Answer). set places 0 (placed x)) is;
+}
+
+pub accepted_told : {a : Answer} (v : Volumes) (old : List ℤ) (places : List ℕ) → Ok v ≡ a
+    → AnswerTold a 0 old (set (set old 0 v.first) 1 v.last) places (set places 0 0)
+unfolding code volumes_in placed
+accepted_told v old places is = record {
+  number = ap code is;
+  crossed = ap (λ (x : Answer). volumes_in x old) is;
+  place = ap (λ (x : Answer). set places 0 (placed x)) is;
+}
+
 same_volumes : (o : Outcome) (old : List ℤ) → volumes_in (answer o) old ≡ volumes_of o old
 unfolding answer volumes_in volumes_of
 same_volumes (refused k p) old = refl
@@ -169,6 +190,24 @@ sill_place l {a} e = rw e (cond_ind (eqb (verdict (sills.all_checks l)) 0)
     (accepted (sills.filled l) (sills.crossed l 0) (sills.crossed l (sills.cells_of l)))
     (refused (verdict (sills.all_checks l)) (spot (sills.all_checks l)))
     (λ (o : Outcome). placed (answer o) ≤ most_cells) (λ b. omega arith) (λ b. sill-places.place_most l))
+
+-- the two counts of a question
+pub read_told : (q : Question) (w : ℤ) (c b : ℕ) (old : List ℤ) → answered (record { water = w; cells = c; blocks = b }) ≡ q
+    → QuestionTold q 0 old (set (set (set old 0 w) 1 (pos c)) 2 (pos b))
+unfolding question_code reading_into
+read_told q w c b old e = record { number = ap question_code e; reading = ap (λ (x : Question). reading_into x old) e }
+
+pub unread_told : (q : Question) (k : ℕ) (old : List ℤ) → unanswered k ≡ q → QuestionTold q k old old
+unfolding question_code reading_into
+unread_told q k old e = record { number = ap question_code e; reading = ap (λ (x : Question). reading_into x old) e }
+
+pub face_flux : (f : Flux) (old : List ℤ) → FaceTold (Some f) 0 old (set (set (set (set old 0 f.F) 1 f.K) 2 f.A) 3 f.S)
+unfolding face_code flux_into
+face_flux f old = record { number = refl; flux = refl }
+
+pub face_none : (old : List ℤ) → FaceTold None 1 old old
+unfolding face_code flux_into
+face_none old = record { number = refl; flux = refl }
 
 -- ---- one number, and one content of each table
 pub step_one : {o : Outcome} {r r' : ℕ} {old new new' w v v' : List ℤ} {x y y' : List ℕ}
