@@ -10,25 +10,26 @@ mod read;
 mod show;
 
 use reach::answer::Answer;
-use read::{field, fill, fill_state, given, lent};
-use show::{show_answer, show_next};
+use read::{fill, fill_friction, fill_state, given, lent, take_line};
+use show::line_of;
 use std::io;
+use std::io::Read;
 use step::{End, Given};
 
-fn called(case: &str, state: &[i32], next: &mut [i32], bed: &[i32], friction: &[u16]) -> Answer {
+fn called(line: &[u8], state: &[i32], next: &mut [i32], bed: &[i32], friction: &[u16]) -> Answer {
     let left = End {
-        kind: given(case, 4),
-        q: given(case, 6),
+        kind: given(line, 4),
+        q: given(line, 6),
     };
     let right = End {
-        kind: given(case, 5),
-        q: given(case, 7),
+        kind: given(line, 5),
+        q: given(line, 7),
     };
     let call = Given {
-        dx: given(case, 0),
-        dt: given(case, 1),
-        jump: given(case, 2),
-        dry: given(case, 3),
+        dx: given(line, 0),
+        dt: given(line, 1),
+        jump: given(line, 2),
+        dry: given(line, 3),
         left,
         right,
     };
@@ -36,38 +37,48 @@ fn called(case: &str, state: &[i32], next: &mut [i32], bed: &[i32], friction: &[
 }
 
 // The answer to a case, with as much of each table lent as it says.
-fn answer(case: &str, next: &mut [i32]) -> Answer {
-    let a = lent(case, 0, 4100);
-    let b = lent(case, 1, next.len());
-    let c = lent(case, 2, 1026);
-    let n = lent(case, 3, 1025);
+fn answer(line: &[u8], next: &mut [i32]) -> Answer {
+    let a = lent(line, 0, 4100);
+    let b = lent(line, 1, next.len());
+    let c = lent(line, 2, 1026);
+    let n = lent(line, 3, 1025);
     let mut state = [0i32; 4100];
-    fill_state(&mut state, case, n);
+    fill_state(&mut state, line, n);
     let mut bed = [0i32; 1026];
-    fill(&mut bed, case, 5);
+    fill(&mut bed, line, 5);
     let mut friction = [0u16; 1025];
-    fill(&mut friction, case, 6);
-    called(case, &state[..a], &mut next[..b], &bed[..c], &friction[..n])
+    fill_friction(&mut friction, line);
+    called(
+        line,
+        &state[..a],
+        &mut next[..b],
+        &bed[..c],
+        &friction[..n],
+    )
 }
 
-fn show_case(rt: &impl Print, case: &str) -> io::Result<()> {
+fn case(rt: &impl Print, line: &[u8]) -> io::Result<()> {
     let mut next = [-77i32; 4100];
-    let answer = answer(case, &mut next);
-    let n = lent(case, 4, 4100);
-    print!(rt; "{}:", field(case, 0))?;
-    show_answer(rt, answer)?;
-    show_next(rt, &next[..n])?;
-    println!(rt; "")
+    let a = answer(line, &mut next);
+    let n = lent(line, 4, 4100);
+    line_of(rt, line, a, &next[..n])
+}
+
+// The next line of the cases; a remark has no case.
+fn one(rt: &impl Print, input: &mut impl Read) -> io::Result<()> {
+    let mut line = [0u8; 192];
+    let n = take_line(input, &mut line)?;
+    if 0 < n && line[0] != b'#' {
+        case(rt, &line[..n])?;
+    }
+    Ok(())
 }
 
 fn main(rt: HostRuntime) -> io::Result<()> {
-    for line in rt.lines(rt.alloc()) {
-        let line = line?;
-        let case = line.as_str();
-        // a remark has no case
-        if !case.is_empty() && !case.starts_with('#') {
-            show_case(&rt, case)?;
-        }
+    let mut input = rt.reader();
+    // as many lines as the file has, and more
+    for _ in 0u64..1000 {
+        one(&rt, &mut input)?;
     }
     Ok(())
 }

@@ -70,6 +70,7 @@ fn first_digits(number: u64, turns: u64) -> Root
         twice: 0,
         rest: number * 2,
     };
+    // no index is counted: the place of the digit says when the last is had, and a count beside it would be one number more
     while last < t.bit {
         t = turn(t);
     }

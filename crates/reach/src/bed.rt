@@ -6,7 +6,7 @@ ghost use Rattle.rules.specs.Reach.{bed_at};
 ghost use Rattle.reach.specs.Told.{bed_in};
 
 // The bed of a cell at its left and right face.
-#[derive(Clone, Copy)]
+#[derive(Clone, Copy, Debug, PartialEq, Eq)]
 pub struct Bed {
     pub zl: i32,
     pub zr: i32,

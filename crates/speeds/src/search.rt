@@ -67,6 +67,7 @@ fn largest_cube(h: u64) -> u64
     }
     let y = 16777216 * h;
     let mut c = cube_turn(y, cube_guess(h));
+    // a search and no count: it ends at a cube, in one turn nearly always
     while y < c * c * c {
         c -= 1;
     }
