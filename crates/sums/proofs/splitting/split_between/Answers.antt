@@ -1,10 +1,6 @@
 -- The cut of the two faces, with or without a block that lies whole.
-use native.Mathlib.Omega.{arith}
 use Rattle.rules.proofs.Laws.Blocks.{cut_some, cut_none}
 use Rattle.sums.proofs.splitting.split_between.Goals as goal
-
-pub block_to-requires : goal.block_to-requires
-block_to-requires c = let e = c.before in omega (arith, e.ended-last.ensures.most, e.requires.2)
 
 pub returns-then-first-last : goal.returns-then-first-last
 returns-then-first-last c =
