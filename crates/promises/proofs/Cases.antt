@@ -189,7 +189,11 @@ moves_kept = more_kept uneven moved moved (pos 10240 ∷ []) (pos 10240 ∷ []) 
     (record {
       given = besides (0 ∷ 0 ∷ []) refl 317 (end 0 0) (end 0 0);
       gave = record {
-        step = record { says = sym (ap answer is); number = sym (ap number_in is); table = sym (ap (λ (o : Outcome). leaves o uneven) is) };
+        step = record {
+          says = sym (ap answer is);
+          number = sym (ap number_in is);
+          table = sym (ap (λ (o : Outcome). leaves o uneven) is);
+        };
         kept = sym (ap (λ (o : Outcome). sums_after (pos 0 ∷ pos 0 ∷ pos 0 ∷ []) o (pos 10240 ∷ [])) is);
       };
     }) (none_kept moved (pos 10240 ∷ []))

@@ -87,7 +87,8 @@ other_run {n = n} (none t) = record {
 other_run {n = n} (more s m t old x w v a b e c k) = let rest = other_run k in record {
   left = neg_ℤ v +ℤ rest.left;
   right = neg_ℤ w +ℤ rest.right;
-  calls = more (turned_table n s) (turned_table n m) (turned_table n t) old (accepted_with (neg_ℤ v) (neg_ℤ w)) (neg_ℤ v) (neg_ℤ w) rest.left
+  calls = more (turned_table n s) (turned_table n m) (turned_table n t) old (accepted_with (neg_ℤ v) (neg_ℤ w))
+      (neg_ℤ v) (neg_ℤ w) rest.left
       rest.right refl (other_call e c) rest.calls;
   each = (is_turned e c, rest.each);
   left_is = ap (λ (z : ℤ). neg_ℤ v +ℤ z) rest.left_is ∙ neg_add v b;

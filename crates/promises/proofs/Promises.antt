@@ -7,7 +7,8 @@
 -- keeps every lake and every depth. But `Called` holds the contract, `Gives (step_of ..)`, which leaves one answer and one table
 -- (`step_answer`, `step_table`): those of the rules' two stages. So what follows is said of that step, and of no other.
 -- Assumes nothing.
-use Rattle.std.specs.Prelude.{◌≡◌, false, List, [], ◌∷◌, ◌++◌, ◌⊎◌, ℕ, suc, ◌-◌, ◌≤◌, ◌<◌, ℤ, neg_ℤ, ◌+ℤ◌, ◌-ℤ◌, ◌≤ℤ◌, Float, Option, Result, option_map}
+use Rattle.std.specs.Prelude.{◌≡◌, false, List, [], ◌∷◌, ◌++◌, ◌⊎◌, ℕ, suc, ◌-◌, ◌≤◌, ◌<◌, ℤ, neg_ℤ, ◌+ℤ◌, ◌-ℤ◌, ◌≤ℤ◌, Float}
+use Rattle.std.specs.Prelude.{Option, Result, option_map}
 use Rattle.std.proofs.Math.Path.{refl, ap, subst}
 use Rattle.std.proofs.Common.{sym, ◌∙◌, ⊎_elim}
 use Rattle.std.proofs.Math.Logic.{inl, inr}
@@ -82,7 +83,8 @@ pub work_one : (l : Lent) (old new new' : List ℤ) (a b : Answer) → WorkedSay
     → (a ≡ b) × (new ≡ new')
 work_one l old new new' a b p q = one_said (reach_of l) (call_of l) (state_of l) (found_of l) old new new' a b p q
 
-pub finish_one : (reach : ToldReach) (call : ToldCall) (bed : List ℤ) (u : List (List ℤ)) (a b : Result Unit Unfit) (old new new' : List (List ℤ))
+pub finish_one : (reach : ToldReach) (call : ToldCall) (bed : List ℤ) (u : List (List ℤ)) (a b : Result Unit Unfit)
+    (old new new' : List (List ℤ))
     → FinishSays reach call bed u a old new → FinishSays reach call bed u b old new' → (a ≡ b) × (new ≡ new')
 finish_one reach call bed u a b old new new' p q = one_finish reach call bed u a b old new new' p q
 

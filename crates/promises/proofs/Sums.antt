@@ -100,7 +100,8 @@ module _ (bed t : List ℤ) {a : Made} {old new : List ℤ} (g : MakingGives (ma
 
   pub make_untouched : 0 < told_number a → new ≡ old
   unfolding made_leaves
-  make_untouched some = g.table ∙ ap (λ (m : Making). made_leaves m old) (unmade_when bed t (length old) (λ e. let z = making_code in omega (arith, z)))
+  make_untouched some = g.table
+      ∙ ap (λ (m : Making). made_leaves m old) (unmade_when bed t (length old) (λ e. let z = making_code in omega (arith, z)))
 
   -- else it has the sum of the mean depths of each block,
   pub make_sums : told_number a ≡ 0 → new ≡ sums_of bed t

@@ -9,9 +9,11 @@ use Rattle.std.proofs.Common.{◌∙◌, subst, arith, length-set, get_or-set_sa
 use mathlib.Core.List.{List}
 use Rattle.rules.specs.Lent.{Lent, cells_of, Outcome, step_of}
 use Rattle.rules.specs.StateAndBed.{cells_over, misfit_state}
-use Rattle.rules.specs.Sums.{blocks_of, sums_of, misfit_sums, Making, making_of, making_checks, Reading, reading, Question, unanswered, answered, between_of}
+use Rattle.rules.specs.Sums.{blocks_of, sums_of, misfit_sums}
+use Rattle.rules.specs.Sums.{Making, making_of, making_checks, Reading, reading, Question, unanswered, answered, between_of}
 use Rattle.rules.specs.Sums.{question_checks, keeping_of}
-use Rattle.rules.proofs.Laws.Questions.{sums_fit, unkept, kept_step, disordered, unanswered_sums, unanswered_state, unanswered_faces, all_answered}
+use Rattle.rules.proofs.Laws.Questions.{sums_fit, unkept, kept_step}
+use Rattle.rules.proofs.Laws.Questions.{disordered, unanswered_sums, unanswered_state, unanswered_faces, all_answered}
 use Rattle.reach.specs.Refusals.{told_number}
 use Rattle.reach.specs.Gives.{Answer, refusal_of, code, volumes, both, answer, number_in}
 use Rattle.sums.specs.Gives.{Made, Amount, made_answer, MakingGives, asked, question_code, KeepingGives}

@@ -14,7 +14,8 @@ water_between bed t n a b = total (λ i. mean_depth bed t n (a + i)) (b - a)
 
 -- sums that are those of the state t over its bed: `make` left them there, or an accepted step that wrote t
 pub data MadeFrom (bed t : List ℤ) : List ℤ → Type 0 where
-  by_making : (a : Made) (old sums : List ℤ) → MakingGives (making_of bed t (length old)) a old sums → told_number a ≡ 0 → MadeFrom bed t sums
+  by_making : (a : Made) (old sums : List ℤ) → MakingGives (making_of bed t (length old)) a old sums → told_number a ≡ 0
+      → MadeFrom bed t sums
   by_step : (l : Lent) (a : Answer) (old was sums : List ℤ) → l.bed ≡ bed → KeepingGives l a old t was sums → code a ≡ 0
       → MadeFrom bed t sums
 

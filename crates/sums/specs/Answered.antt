@@ -121,7 +121,8 @@ module _ (l : Lent) (old new sums : List ℤ) where
         left (accepted t w v) d = never d
 
     -- one that is accepted those of the new state
-    pub keeping_accepted : (v : Volumes) → a ≡ Ok v → (after : List ℤ) → after ≡ sums_of l.bed new → KeepingGives l (Ok v) old new sums after
+    pub keeping_accepted : (v : Volumes) → a ≡ Ok v → (after : List ℤ) → after ≡ sums_of l.bed new
+        → KeepingGives l (Ok v) old new sums after
     unfolding answer leaves sums_after
     keeping_accepted v e after new-sums = record {
       step = subst (λ (x : Answer). Gives (keeping_of l (length sums)) x old new) e same_step;

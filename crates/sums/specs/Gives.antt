@@ -67,7 +67,8 @@ one_amount a b p q = same a b (p ∙ sym q)
     same : (a b : Amount) → asked a ≡ asked b → a ≡ b
     same (Err k) (Err m) e =
         let number : number_of k ≡ number_of m = cc in
-        ap (λ (r : Refused). Err r.refusal) (one_refused (record { refusal = k; place = 0 }) (record { refusal = m; place = 0 }) number refl)
+        ap (λ (r : Refused). Err r.refusal)
+        (one_refused (record { refusal = k; place = 0 }) (record { refusal = m; place = 0 }) number refl)
     same (Err k) (Ok y) e = let z : ◌≡◌ {A = ℕ} 0 1 = cc in let f : ⊥ = omega arith in absurd f
     same (Ok x) (Err m) e = let z : ◌≡◌ {A = ℕ} 0 1 = cc in let f : ⊥ = omega arith in absurd f
     same (Ok x) (Ok y) e =

@@ -18,10 +18,9 @@ use crate::adding::{added, depths};
 use crate::blocks::bad_sums;
 use crate::filling::fill;
 use crate::splitting::split_between;
-use reach::answer::{Refusal, Refused};
 use reach::lengths::{bad_state, cells_over};
 use stage::state_and_bed::check;
-use step::{Answer, Given};
+use step::{Answer, Given, Refusal, Refused};
 
 // The water between two faces, and what was read for it.
 #[derive(Clone, Copy, Debug, PartialEq, Eq)]

@@ -33,7 +33,8 @@ returns-then-to-from c =
       | then-to-from-via-else-to-from+then-n-to w ↦
           rw (lt-ltb (cells_over bed) p.b (omega (arith, n, w.if-n-to.true))) (or_true (ltb p.b p.a))
     ] in
-    sym (unanswered_faces bed p.state.now p.sums.now p.a p.b (sym (rw n at c.if-bad_sums.ensures)) (sym (rw n at c.if-bad_state.ensures)) wrong)
+    let sums = sym (rw n at c.if-bad_sums.ensures) in let state = sym (rw n at c.if-bad_state.ensures) in
+    sym (unanswered_faces bed p.state.now p.sums.now p.a p.b sums state wrong)
 
 pub read-requires : goal.read-requires
 read-requires c =
@@ -47,5 +48,5 @@ returns c =
     let p = c.args in let n = c.cells_over-n.ensures in let bed = p.bed.now in
     let right : disordered bed p.state.now p.sums.now p.a p.b ≡ false =
     rw (le-ltb p.b p.a c.if-to-from.false, le-ltb (cells_over bed) p.b (omega (arith, n, c.if-n-to.false))) in
-    ap answered c.read.ensures
-    ∙ sym (all_answered bed p.state.now p.sums.now p.a p.b (sym (rw n at c.if-bad_sums.ensures)) (sym (rw n at c.if-bad_state.ensures)) right)
+    let sums = sym (rw n at c.if-bad_sums.ensures) in let state = sym (rw n at c.if-bad_state.ensures) in
+    ap answered c.read.ensures ∙ sym (all_answered bed p.state.now p.sums.now p.a p.b sums state right)

@@ -10,9 +10,9 @@ use Rattle.sums.specs.Answered.{tables_fit, made_none, made_all}
 use Rattle.sums.proofs.make.Goals as goal
 
 pub returns-then-bad_sums : goal.returns-then-bad_sums
-returns-then-bad_sums c = let p = c.args in
-    made_none Lengths
-    (unmade_one p.bed.now p.state.now (length p.sums.now) (sym (rw c.cells_over.ensures at c.bad_sums.ensures) ∙ c.if-bad_sums.true)) p.sums.now
+returns-then-bad_sums c =
+    let p = c.args in let misfit = sym (rw c.cells_over.ensures at c.bad_sums.ensures) ∙ c.if-bad_sums.true in
+    made_none Lengths (unmade_one p.bed.now p.state.now (length p.sums.now) misfit) p.sums.now
 
 pub returns-in_err-check : goal.returns-in_err-check
 returns-in_err-check c =
@@ -31,7 +31,6 @@ fill-requires c =
     (tables_fit p.bed.now p.state.now p.sums.now ok.0 (sym (rw c.cells_over.ensures at c.if-bad_sums.ensures)), ok.1)
 
 pub returns : goal.returns
-returns c = let p = c.args in
-    made_all
-    (all_made p.bed.now p.state.now (length p.sums.now) (sym (rw c.cells_over.ensures at c.if-bad_sums.ensures)) (sym c.in_ok-check.ensures))
-    p.sums.now _ c.fill.ensures
+returns c =
+    let p = c.args in let fit = sym (rw c.cells_over.ensures at c.if-bad_sums.ensures) in
+    made_all (all_made p.bed.now p.state.now (length p.sums.now) fit (sym c.in_ok-check.ensures)) p.sums.now _ c.fill.ensures

@@ -18,7 +18,8 @@ returns-in_err-volumes c =
     let p = c.args in let call : Lent = lent_by p.state.now (length p.next.now) p.bed.now p.friction.now p.call in
     let e = c.in_err-volumes.field-0.0 in
     rw (handed_on c.from_residual.result e c.from_residual.ensures.1)
-    (keeping_refused call p.next.now _ p.sums.now (kept_step call (length p.sums.now) (sym c.if-bad_sums.ensures)) c.step.ensures e c.in_err-volumes.was)
+    (keeping_refused call p.next.now _ p.sums.now (kept_step call (length p.sums.now) (sym c.if-bad_sums.ensures)) c.step.ensures e
+    c.in_err-volumes.was)
 
 pub fill-requires : goal.fill-requires
 fill-requires c =

@@ -1,19 +1,14 @@
 -- The cut of the two faces, with or without a block that lies whole.
-use native.Mathlib.Omega.{arith}
 use Rattle.rules.proofs.Laws.Blocks.{cut_some, cut_none}
 use Rattle.sums.proofs.splitting.split_between.Goals as goal
 
-pub block_to-requires : goal.block_to-requires
-block_to-requires c = let e = c.before in omega (arith, e.ended-last.ensures.most, e.requires.2)
-
 pub returns-then-first-last : goal.returns-then-first-last
 returns-then-first-last c =
-    let t = c.before in let e = t.before in let o = e.before in let s = o.before in let p = s.args in
-    rw (c.block_to.ensures, o.blocks-first.ensures)
-    (cut_some p.n p.a p.b _ s.requires.0 s.requires.1 e.ended-last.ensures (rw o.blocks-first.ensures at t.if-first-last.true))
+    let p = c.args in let first = c.blocks-first.ensures in
+    rw (c.block_to.ensures, first)
+    (cut_some p.n p.a p.b _ c.requires.0 c.requires.1 c.ended-last.ensures (rw first at c.if-first-last.true))
 
 pub returns : goal.returns
 returns c =
-    let e = c.before in let o = e.before in let s = o.before in let p = s.args in
-    rw o.blocks-first.ensures
-    (cut_none p.n p.a p.b _ s.requires.0 s.requires.1 e.ended-last.ensures (rw o.blocks-first.ensures at c.if-first-last.false))
+    let p = c.args in let first = c.blocks-first.ensures in
+    rw first (cut_none p.n p.a p.b _ c.requires.0 c.requires.1 c.ended-last.ensures (rw first at c.if-first-last.false))
