@@ -6,6 +6,7 @@
 
 mod cell;
 mod checks;
+mod course;
 mod ending;
 mod ends;
 mod face_speeds;

@@ -11,6 +11,7 @@ ghost use Rattle.stage.specs.Rows.{mass_of, pressure_of, advection_of, volume_of
 ghost use Rattle.stage.specs.Rows.{slope_of, thrust, push_of, tilt_of, push_by, tilt_by, update_by, update_at};
 
 use crate::cell::depths;
+use crate::course::Course;
 use crate::rows::FaceRow;
 use reach::bed::{Bed, under};
 use reach::{Call, Cell, Reach};
@@ -126,24 +127,24 @@ fn updated(b: Bed, x: Cell, l: FaceRow, f: FaceRow, g: i64, reach: Reach, call: 
 }
 
 // Every cell of t after the stage, into u, from the rows of its faces and the momenta g.
-pub fn update(
-    t: &[Cell],
-    bed: &[i32],
-    f: &[FaceRow],
-    g: &[i64],
-    reach: Reach,
-    call: Call,
-    u: &mut [Cell],
-)
-    requires room { Room reach t.now × FaceRoom reach f.now × Room reach g.now × Room reach u.old }
-    requires ranged { Ranged bed.now reach.n (seen t.now) }
-    requires face_rows { FaceRows f.now reach.n }
-    requires momenta { Momenta g.now reach.n }
-    requires numbers { Numbers reach call }
-    ensures { Holds u.new reach.n
-        (update_at reach call bed.now (seen t.now) f.now g.now) }
+pub fn update(t: &[Cell], course: Course, f: &[FaceRow], g: &[i64], u: &mut [Cell])
+    requires room { Room course.reach t.now × FaceRoom course.reach f.now × Room course.reach g.now × Room course.reach u.old }
+    requires ranged { Ranged course.bed.now course.reach.n (seen t.now) }
+    requires face_rows { FaceRows f.now course.reach.n }
+    requires momenta { Momenta g.now course.reach.n }
+    requires numbers { Numbers course.reach course.call }
+    ensures { let at = course.entry in Holds u.new at.reach.n
+        (update_at at.reach at.call at.bed.now (seen t.now) f.now g.now) }
 {
-    for i in 0..reach.n {
-        u[i] = updated(under(bed, i), t[i], f[i], f[i + 1], g[i], reach, call);
+    for i in 0..course.reach.n {
+        u[i] = updated(
+            under(course.bed, i),
+            t[i],
+            f[i],
+            f[i + 1],
+            g[i],
+            course.reach,
+            course.call,
+        );
     }
 }

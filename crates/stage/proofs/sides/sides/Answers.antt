@@ -10,11 +10,11 @@ pub returns-then-either_fast : goal.returns-then-either_fast
 unfolding sides_at fast_sides
 returns-then-either_fast c =
     let l = c.loop-i in let a = c.args in
-    let dry = back {z = a.call.dry} (omega arith) in
-    let row : c.sides_of-s.result ≡ sides_at a.call.dry a.bed.now (seen a.t.now) l.i = rw (dry, c.under.ensures) at c.sides_of-s.ensures in
+    let dry = back {z = a.course.call.dry} (omega arith) in
+    let row : c.sides_of-s.result ≡ sides_at a.course.call.dry a.course.bed.now (seen a.t.now) l.i = rw (dry, c.under.ensures) at c.sides_of-s.ensures in
     let left = back {z = get_or c.sides_of-s.result 1 (pos 0)} (omega arith) in
     let right = back {z = get_or c.sides_of-s.result 3 (pos 0)} (omega arith) in
-    let fast : fast_sides a.call.dry a.bed.now (seen a.t.now) l.i ≡ c.either_fast.result = sym (rw (left, right, row) at c.either_fast.ensures) in
+    let fast : fast_sides a.course.call.dry a.course.bed.now (seen a.t.now) l.i ≡ c.either_fast.result = sym (rw (left, right, row) at c.either_fast.ensures) in
     fill_stopped l.i (omega arith)
     (fill_stops [] _ _ _ _ l.d l.i _ (omega arith) (omega arith) l.invariant row (fast ∙ c.if-either_fast.true))
 
@@ -22,11 +22,11 @@ pub loop-i-preserved : goal.loop-i-preserved
 unfolding sides_at fast_sides
 loop-i-preserved c =
     let l = c.loop-i in let a = c.args in
-    let dry = back {z = a.call.dry} (omega arith) in
-    let row : c.sides_of-s.result ≡ sides_at a.call.dry a.bed.now (seen a.t.now) l.i = rw (dry, c.under.ensures) at c.sides_of-s.ensures in
+    let dry = back {z = a.course.call.dry} (omega arith) in
+    let row : c.sides_of-s.result ≡ sides_at a.course.call.dry a.course.bed.now (seen a.t.now) l.i = rw (dry, c.under.ensures) at c.sides_of-s.ensures in
     let left = back {z = get_or c.sides_of-s.result 1 (pos 0)} (omega arith) in
     let right = back {z = get_or c.sides_of-s.result 3 (pos 0)} (omega arith) in
-    let fast : fast_sides a.call.dry a.bed.now (seen a.t.now) l.i ≡ c.either_fast.result = sym (rw (left, right, row) at c.either_fast.ensures) in
+    let fast : fast_sides a.course.call.dry a.course.bed.now (seen a.t.now) l.i ≡ c.either_fast.result = sym (rw (left, right, row) at c.either_fast.ensures) in
     fill_more [] _ _ _ _ l.d l.i _ (omega arith) (omega arith) l.invariant row (fast ∙ c.if-either_fast.false)
 
 pub returns : goal.returns

@@ -1,5 +1,5 @@
 -- A stage answers by the first of its checks, and where it passed them its faces and its cells are the rule's.
-use Rattle.std.proofs.Common.{◌≡◌, sym, ◌∙◌, ap, [], pos, arith}
+use Rattle.std.proofs.Common.{sym, ◌∙◌, ap, [], pos, arith}
 use Rattle.tables.specs.Cells.{seen}
 use Rattle.tables.proofs.Filling.{all_filled}
 use Rattle.reach.specs.declared.answer.Refusal.TheVariants.{Speed, TimeStep}
@@ -51,7 +51,7 @@ update-requires-clause-face_rows c =
 pub update-requires-clause-momenta : goal.update-requires-clause-momenta
 update-requires-clause-momenta c =
     let a = c.args in let calm = passed_by Speed c.points.result tt (sym c.at-2.ensures ∙ c.in_ok-at-2.was) in
-    momenta a.call.dry a.reach.n a.bed.now (seen a.t.now) c.requires.ranged (none_says _ _ (sym c.points.ensures.stops ∙ calm))
+    momenta a.course.call.dry a.course.reach.n a.course.bed.now (seen a.t.now) c.requires.ranged (none_says _ _ (sym c.points.ensures.stops ∙ calm))
     c.points.new.g (all_filled (pos 0) _ _ _ (rw calm at c.points.ensures.fills) (omega arith))
 
 pub returns : goal.returns

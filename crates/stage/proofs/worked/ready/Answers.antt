@@ -26,34 +26,34 @@ checks dry n bed friction t = ready_checks dry n bed friction (seen t)
 pub returns-in_err-at : goal.returns-in_err-at
 returns-in_err-at c =
     let a = c.args in let e = c.in_err-at.field-0.0 in
-    let list = checks a.call.dry a.reach.n a.bed.now a.friction.now a.t.now in
-    let beds = c.bad_bed.ensures ∙ bed_search a.bed.now a.reach.n (omega (arith, c.requires.room)) in
+    let list = checks a.course.call.dry a.course.reach.n a.course.bed.now a.friction.now a.t.now in
+    let beds = c.bad_bed.ensures ∙ bed_search a.course.bed.now a.course.reach.n (omega (arith, c.requires.room)) in
     ap found_in (handed_on c.from_residual.result e c.from_residual.ensures.1)
     ∙ check_stops list 0 Bed c.bad_bed.result refl beds tt e (sym c.at.ensures ∙ c.in_err-at.was)
 
 pub returns-in_err-at-2 : goal.returns-in_err-at-2
 returns-in_err-at-2 c =
     let a = c.args in let e = c.in_err-at-2.field-0.0 in
-    let list = checks a.call.dry a.reach.n a.bed.now a.friction.now a.t.now in
-    let beds = c.bad_bed.ensures ∙ bed_search a.bed.now a.reach.n (omega (arith, c.requires.room)) in
-    let rough = c.bad_friction.ensures ∙ rough_search a.friction.now a.reach.n (omega (arith, c.requires.room)) in
+    let list = checks a.course.call.dry a.course.reach.n a.course.bed.now a.friction.now a.t.now in
+    let beds = c.bad_bed.ensures ∙ bed_search a.course.bed.now a.course.reach.n (omega (arith, c.requires.room)) in
+    let rough = c.bad_friction.ensures ∙ rough_search a.friction.now a.course.reach.n (omega (arith, c.requires.room)) in
     let bed_passed = check_passes list 0 Bed c.bad_bed.result refl beds tt (sym c.at.ensures ∙ c.in_ok-at.was) in
     ap found_in (handed_on c.from_residual-in_err-at-2.result e c.from_residual-in_err-at-2.ensures.1)
     ∙ check_stops list 1 Friction c.bad_friction.result refl rough (bed_passed, tt) e (sym c.at-2.ensures ∙ c.in_err-at-2.was)
 
 pub off-requires-clause-all_unfinished : goal.off-requires-clause-all_unfinished
 off-requires-clause-all_unfinished c i l =
-    let a = c.args in let list = checks a.call.dry a.reach.n a.bed.now a.friction.now a.t.now in
-    let beds = c.bad_bed.ensures ∙ bed_search a.bed.now a.reach.n (omega (arith, c.requires.room)) in
+    let a = c.args in let list = checks a.course.call.dry a.course.reach.n a.course.bed.now a.friction.now a.t.now in
+    let beds = c.bad_bed.ensures ∙ bed_search a.course.bed.now a.course.reach.n (omega (arith, c.requires.room)) in
     let bed_passed = check_passes list 0 Bed c.bad_bed.result refl beds tt (sym c.at.ensures ∙ c.in_ok-at.was) in
-    record { grounded = grounds a.reach.n a.bed.now bed_passed i l; wide = c.requires.wides.0 i l }
+    record { grounded = grounds a.course.reach.n a.course.bed.now bed_passed i l; wide = c.requires.wides.0 i l }
 
 pub returns-in_err-at-3 : goal.returns-in_err-at-3
 returns-in_err-at-3 c =
     let a = c.args in let e = c.in_err-at-3.field-0.0 in
-    let list = checks a.call.dry a.reach.n a.bed.now a.friction.now a.t.now in
-    let beds = c.bad_bed.ensures ∙ bed_search a.bed.now a.reach.n (omega (arith, c.requires.room)) in
-    let rough = c.bad_friction.ensures ∙ rough_search a.friction.now a.reach.n (omega (arith, c.requires.room)) in
+    let list = checks a.course.call.dry a.course.reach.n a.course.bed.now a.friction.now a.t.now in
+    let beds = c.bad_bed.ensures ∙ bed_search a.course.bed.now a.course.reach.n (omega (arith, c.requires.room)) in
+    let rough = c.bad_friction.ensures ∙ rough_search a.friction.now a.course.reach.n (omega (arith, c.requires.room)) in
     let bed_passed = check_passes list 0 Bed c.bad_bed.result refl beds tt (sym c.at.ensures ∙ c.in_ok-at.was) in
     let rough_passed = check_passes list 1 Friction c.bad_friction.result refl rough tt (sym c.at-2.ensures ∙ c.in_ok-at-2.was) in
     ap found_in (handed_on c.from_residual-in_err-at-3.result e c.from_residual-in_err-at-3.ensures.1)
@@ -61,17 +61,17 @@ returns-in_err-at-3 c =
 
 pub fast-requires-clause-ranged : goal.fast-requires-clause-ranged
 fast-requires-clause-ranged c =
-    let a = c.args in let list = checks a.call.dry a.reach.n a.bed.now a.friction.now a.t.now in
-    let beds = c.bad_bed.ensures ∙ bed_search a.bed.now a.reach.n (omega (arith, c.requires.room)) in
+    let a = c.args in let list = checks a.course.call.dry a.course.reach.n a.course.bed.now a.friction.now a.t.now in
+    let beds = c.bad_bed.ensures ∙ bed_search a.course.bed.now a.course.reach.n (omega (arith, c.requires.room)) in
     let bed_passed = check_passes list 0 Bed c.bad_bed.result refl beds tt (sym c.at.ensures ∙ c.in_ok-at.was) in
     let range_passed = check_passes list 2 State c.off.result refl c.off.ensures tt (sym c.at-3.ensures ∙ c.in_ok-at-3.was) in
-    ranged a.reach.n a.bed.now (seen a.t.now) (grounds a.reach.n a.bed.now bed_passed) range_passed
+    ranged a.course.reach.n a.course.bed.now (seen a.t.now) (grounds a.course.reach.n a.course.bed.now bed_passed) range_passed
 
 pub returns : goal.returns
 returns c =
-    let a = c.args in let list = checks a.call.dry a.reach.n a.bed.now a.friction.now a.t.now in
-    let beds = c.bad_bed.ensures ∙ bed_search a.bed.now a.reach.n (omega (arith, c.requires.room)) in
-    let rough = c.bad_friction.ensures ∙ rough_search a.friction.now a.reach.n (omega (arith, c.requires.room)) in
+    let a = c.args in let list = checks a.course.call.dry a.course.reach.n a.course.bed.now a.friction.now a.t.now in
+    let beds = c.bad_bed.ensures ∙ bed_search a.course.bed.now a.course.reach.n (omega (arith, c.requires.room)) in
+    let rough = c.bad_friction.ensures ∙ rough_search a.friction.now a.course.reach.n (omega (arith, c.requires.room)) in
     let bed_passed = check_passes list 0 Bed c.bad_bed.result refl beds tt (sym c.at.ensures ∙ c.in_ok-at.was) in
     let rough_passed = check_passes list 1 Friction c.bad_friction.result refl rough tt (sym c.at-2.ensures ∙ c.in_ok-at-2.was) in
     let range_passed = check_passes list 2 State c.off.result refl c.off.ensures tt (sym c.at-3.ensures ∙ c.in_ok-at-3.was) in

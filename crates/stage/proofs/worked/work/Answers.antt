@@ -1,5 +1,5 @@
 -- The lengths and the numbers are checked in their order; the step on tables says the rest.
-use Rattle.std.proofs.Common.{◌≡◌, refl, sym, ◌∙◌, get_or, length, ℕ, ℤ, pos, arith}
+use Rattle.std.proofs.Common.{refl, sym, ◌∙◌, get_or, length, ℕ, ℤ, pos, arith}
 use Rattle.whole.specs.Machine.{back64}
 use Rattle.rules.proofs.Laws.Lengths.{fitted}
 use Rattle.stage.specs.Laws.LentNumber.{numbers, length_found, call_found, later_checks}
