@@ -1,12 +1,10 @@
 -- The speeds at two places of a cell, and the sum of what they carry.
-use Rattle.std.specs.Prelude.{◌≡◌, List, [], ◌∷◌, get_or, ℤ, pos, ◌+ℤ◌, ◌-ℤ◌}
+use Rattle.std.specs.Prelude.{List, [], ◌∷◌, get_or, ℤ, pos, ◌+ℤ◌, ◌-ℤ◌}
 use Rattle.std.proofs.Common.{◌∙◌, ap, arith}
-use Rattle.std.specs.Int.{w64}
 use mir.Facts.{to_z-of_z}
 use Rattle.whole.specs.Machine.{back, back64}
 use Rattle.rules.specs.Stage.{carried}
 use Rattle.rules.proofs.Laws.Speeds.{speed_size}
-use Rattle.stage.specs.Rows.{side_by, side_row}
 use Rattle.stage.specs.Laws.Around.{ql_fits, qr_fits}
 use Rattle.stage.proofs.points.pair_of.Goals as goal
 
