@@ -10,7 +10,7 @@ ghost use Rattle.stage.specs.Says.{ready_checks, OneSays, TwoSays, BothSay};
 ghost use Rattle.stage.specs.Worked.{TablesSay, lent_by, WorkedSays};
 
 use crate::checks::{bad_bed, bad_lengths, bad_numbers, fast, off};
-use crate::course::Course;
+use crate::course::{Course, call_by, reach_by};
 use crate::ending::end;
 use crate::joining::{end_volume, join};
 use crate::lent::load;
@@ -21,7 +21,7 @@ use crate::store::store;
 use reach::answer::{Answer, Refusal, Refused, Volumes};
 use reach::friction::bad_friction;
 use reach::limits::{CELLS, FACES};
-use reach::{Call, Cell, Given, Reach};
+use reach::{Cell, Given};
 
 // A reach of at most so many cells is worked on short tables: they take an eighth of the room of the long
 // ones, and clearing them an eighth of the time.
@@ -178,17 +178,8 @@ pub fn work(state: &[i32], next: &mut [i32], bed: &[i32], friction: &[u16], give
             place: 0,
         });
     }
-    let reach = Reach {
-        n,
-        dx: i64::from(given.dx),
-    };
-    let call = Call {
-        dt: i64::from(given.dt),
-        jump: i64::from(given.jump),
-        dry: i64::from(given.dry),
-        left: given.left,
-        right: given.right,
-    };
+    let reach = reach_by(n, given);
+    let call = call_by(given);
     if bad_numbers(reach, call) {
         return Err(Refused {
             refusal: Refusal::Numbers,
