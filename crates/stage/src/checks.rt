@@ -11,6 +11,7 @@ ghost use Rattle.reach.specs.Ranges.{DryDepth, AllUnfinished};
 ghost use Rattle.stage.specs.Ranges.{Room, Inside, Ranged};
 
 use crate::cell::{depths, off_cell};
+use crate::course::Course;
 use crate::sides::speed_of;
 use reach::bed::{Bed, bed_at, under};
 use reach::limits::{
@@ -103,13 +104,13 @@ pub fn bad_bed(bed: &[i32]) -> Option<usize>
 }
 
 // 5 and 8: the lowest cell out of range.
-pub fn off(t: &[Cell], bed: &[i32], reach: Reach) -> Option<usize>
-    requires room { Room reach t.now }
-    requires all_unfinished { AllUnfinished bed.now reach.n (seen t.now) }
-    ensures { result ≡ first_place (λ i. off_cell (bed_at bed.now i) (seen t.now i)) reach.n }
+pub fn off(t: &[Cell], course: Course) -> Option<usize>
+    requires room { Room course.reach t.now }
+    requires all_unfinished { AllUnfinished course.bed.now course.reach.n (seen t.now) }
+    ensures { let at = course.entry in result ≡ first_place (λ i. off_cell (bed_at at.bed.now i) (seen t.now i)) at.reach.n }
 {
-    for i in 0..reach.n {
-        if off_cell(under(bed, i), t[i]) {
+    for i in 0..course.reach.n {
+        if off_cell(under(course.bed, i), t[i]) {
             return Some(i);
         }
     }
@@ -127,14 +128,15 @@ fn fast_cell(b: Bed, x: Cell, dry: i64) -> bool
 }
 
 // 6, of friction: the lowest cell that is too fast. Checked also where friction is 0.
-pub fn fast(t: &[Cell], bed: &[i32], reach: Reach, call: Call) -> Option<usize>
-    requires room { Room reach t.now }
-    requires ranged { Ranged bed.now reach.n (seen t.now) }
-    requires dry_depth { DryDepth call.dry }
-    ensures { result ≡ first_place (λ i. fast_cell call.dry (bed_at bed.now i) (seen t.now i)) reach.n }
+pub fn fast(t: &[Cell], course: Course) -> Option<usize>
+    requires room { Room course.reach t.now }
+    requires ranged { Ranged course.bed.now course.reach.n (seen t.now) }
+    requires dry_depth { DryDepth course.call.dry }
+    ensures { let at = course.entry in
+        result ≡ first_place (λ i. fast_cell at.call.dry (bed_at at.bed.now i) (seen t.now i)) at.reach.n }
 {
-    for i in 0..reach.n {
-        if fast_cell(under(bed, i), t[i], call.dry) {
+    for i in 0..course.reach.n {
+        if fast_cell(under(course.bed, i), t[i], course.call.dry) {
             return Some(i);
         }
     }

@@ -8,18 +8,20 @@ ghost use Rattle.stage.specs.Ranges.{Room, Smalls};
 ghost use Rattle.stage.specs.Says.{EndSays};
 
 use crate::checks::off;
+use crate::course::Course;
+use reach::Cell;
 use reach::answer::{Refusal, Refused};
-use reach::{Call, Cell, Reach};
 
 // The unfinished state u, finished, into b; an 8 where that is out of range.
-pub fn end(u: &[Cell], bed: &[i32], reach: Reach, call: Call, b: &mut [Cell]) -> Result<(), Refused>
-    requires n_le_most_cells { (reach.n ≤ most_cells) × (length bed.now ≡ reach.n + 1) × Room reach u.now × Room reach b.old }
-    requires numbers { Numbers reach call }
-    requires grounds { Grounds bed.now reach.n × Smalls reach.n (seen u.now) }
-    ensures { (ρ : ℕ → ℤ) →
-        EndSays (reach_in reach bed.now) (call_on call ρ) (seen u.now) (found_in result) b.new }
+pub fn end(u: &[Cell], course: Course, b: &mut [Cell]) -> Result<(), Refused>
+    requires n_le_most_cells { (course.reach.n ≤ most_cells) × (length course.bed.now ≡ course.reach.n + 1)
+        × Room course.reach u.now × Room course.reach b.old }
+    requires numbers { Numbers course.reach course.call }
+    requires grounds { Grounds course.bed.now course.reach.n × Smalls course.reach.n (seen u.now) }
+    ensures { let at = course.entry in (ρ : ℕ → ℤ) →
+        EndSays (reach_in at.reach at.bed.now) (call_on at.call ρ) (seen u.now) (found_in result) b.new }
 {
     // what a stage leaves is never too large to be finished
-    finishing::finish(u, bed, reach, call, b).unwrap();
-    Refusal::Stage.at(off(b, bed, reach))
+    finishing::finish(u, course.bed, course.reach, course.call, b).unwrap();
+    Refusal::Stage.at(off(b, course))
 }

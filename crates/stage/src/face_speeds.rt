@@ -8,11 +8,12 @@ ghost use Rattle.stage.specs.Rows.{left_of};
 ghost use Rattle.stage.specs.Ranges.{Room, Ranged};
 ghost use Rattle.stage.specs.Says.{FaceSpeedsSay};
 
+use crate::course::Course;
 use crate::ends::fast_inflow;
 use crate::rows::{Sides, left_side, right_side};
 use crate::sides::sides;
+use reach::Cell;
 use reach::limits::{FASTEST, past};
-use reach::{Call, Cell, Reach};
 
 // Of cell i, which has the sides x, of which one is too fast, the lower face that shows it: the left one, or
 // where the left side is slow the right one.
@@ -27,20 +28,15 @@ fn face_beside(x: Sides, i: usize) -> usize
 }
 
 // 6, of the faces: the lowest at which a side or an inflow is too fast; where there is none the sides of all cells are in d.
-pub fn face_speeds(
-    t: &[Cell],
-    bed: &[i32],
-    reach: Reach,
-    call: Call,
-    d: &mut [Sides],
-) -> Option<usize>
-    requires n_nonzero { (0 < reach.n) × (reach.n ≤ most_cells) × Room reach t.now × Room reach d.old }
-    requires numbers { Numbers reach call }
-    requires ranged { Ranged bed.now reach.n (seen t.now) }
-    ensures { FaceSpeedsSay reach call bed.now (seen t.now) result d.new }
+pub fn face_speeds(t: &[Cell], course: Course, d: &mut [Sides]) -> Option<usize>
+    requires n_nonzero { (0 < course.reach.n) × (course.reach.n ≤ most_cells) × Room course.reach t.now × Room course.reach d.old }
+    requires numbers { Numbers course.reach course.call }
+    requires ranged { Ranged course.bed.now course.reach.n (seen t.now) }
+    ensures { let at = course.entry in FaceSpeedsSay at.reach at.call at.bed.now (seen t.now) result d.new }
 {
-    let n = reach.n;
-    let fast = sides(t, bed, reach, call, d);
+    let n = course.reach.n;
+    let call = course.call;
+    let fast = sides(t, course, d);
     if fast_inflow(call.left, left_side(d[0]), call.dry) {
         return Some(0);
     }

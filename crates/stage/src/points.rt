@@ -11,9 +11,10 @@ ghost use Rattle.stage.specs.Ranges.{Room, Inside, Ranged, Around, thin_fastest}
 ghost use Rattle.stage.specs.Rows.{points_by, point_row, fast_points_at, momentum_at};
 
 use crate::cell::{depths, either_fast};
+use crate::course::Course;
 use crate::sides::places_of;
+use reach::Cell;
 use reach::bed::{Bed, under};
-use reach::{Call, Cell, Reach};
 
 // The part of a slope at a Gauss point, 1/√3 of it.
 fn share_of(x: i64) -> i64
@@ -56,15 +57,15 @@ fn points_of(b: Bed, x: Cell, dry: i64) -> [i64; 3]
 
 // The momentum of the cells' Gauss points into g, up to the lowest cell with a point that is too fast, which it
 // gives.
-pub fn points(t: &[Cell], bed: &[i32], reach: Reach, call: Call, g: &mut [i64]) -> Option<usize>
-    requires room { Room reach t.now × Room reach g.old }
-    requires ranged { Ranged bed.now reach.n (seen t.now) }
-    requires dry_depth { DryDepth call.dry }
-    ensures { FillStops (pos 0) reach.n (fast_points_at call.dry bed.now (seen t.now))
-        (momentum_at call.dry bed.now (seen t.now)) result g.new }
+pub fn points(t: &[Cell], course: Course, g: &mut [i64]) -> Option<usize>
+    requires room { Room course.reach t.now × Room course.reach g.old }
+    requires ranged { Ranged course.bed.now course.reach.n (seen t.now) }
+    requires dry_depth { DryDepth course.call.dry }
+    ensures { let at = course.entry in FillStops (pos 0) at.reach.n (fast_points_at at.call.dry at.bed.now (seen t.now))
+        (momentum_at at.call.dry at.bed.now (seen t.now)) result g.new }
 {
-    for i in 0..reach.n {
-        let p = points_of(under(bed, i), t[i], call.dry);
+    for i in 0..course.reach.n {
+        let p = points_of(under(course.bed, i), t[i], course.call.dry);
         g[i] = p[2];
         if either_fast(p[0], p[1]) {
             return Some(i);

@@ -15,11 +15,12 @@ ghost use Rattle.stage.specs.Rows.{rubbed_at};
 ghost use Rattle.stage.specs.Ranges.{Room, Inside, Ranged, Slows};
 
 use crate::cell::depths;
+use crate::course::Course;
 use crate::sides::speed_of;
 use friction::strength::Rubbing;
 use reach::bed::{Bed, under};
 use reach::friction::rough_at;
-use reach::{Call, Cell, Reach};
+use reach::{Call, Cell};
 
 // How strongly friction acts on a discharge q at a depth h, whose speed has been checked. All is within
 // the limits, so there always is one.
@@ -84,15 +85,20 @@ fn rubbed_cell(call: Call, f: i64, b: Bed, x: Cell) -> Cell
 }
 
 // The state in t after friction, in its place.
-pub fn rub(t: &mut [Cell], bed: &[i32], friction: &[u16], reach: Reach, call: Call)
-    requires room { Room reach t.old × Room reach friction.now }
-    requires numbers { Numbers reach call }
-    requires ranged { Ranged bed.now reach.n (seen t.old) }
-    requires slows { Slows call.dry friction.now bed.now reach.n (seen t.old) }
-    ensures { Filled [] t.old t.new reach.n
-        (λ i. as_list (rubbed_at call friction.now bed.now (seen t.old) i)) }
+pub fn rub(t: &mut [Cell], course: Course, friction: &[u16])
+    requires room { Room course.reach t.old × Room course.reach friction.now }
+    requires numbers { Numbers course.reach course.call }
+    requires ranged { Ranged course.bed.now course.reach.n (seen t.old) }
+    requires slows { Slows course.call.dry friction.now course.bed.now course.reach.n (seen t.old) }
+    ensures { let at = course.entry in Filled [] t.old t.new at.reach.n
+        (λ i. as_list (rubbed_at at.call friction.now at.bed.now (seen t.old) i)) }
 {
-    for i in 0..reach.n {
-        t[i] = rubbed_cell(call, rough_at(friction, i), under(bed, i), t[i]);
+    for i in 0..course.reach.n {
+        t[i] = rubbed_cell(
+            course.call,
+            rough_at(friction, i),
+            under(course.bed, i),
+            t[i],
+        );
     }
 }

@@ -11,9 +11,10 @@ ghost use Rattle.stage.specs.Ranges.{DepthIn, Room, Inside, Ranged, Around};
 ghost use Rattle.stage.specs.Rows.{side_by, side_row, sides_at, fast_sides};
 
 use crate::cell::{depths, either_fast};
+use crate::course::Course;
 use crate::rows::Sides;
+use reach::Cell;
 use reach::bed::{Bed, under};
-use reach::{Call, Cell, Reach};
 
 // The speed of a discharge at a depth. All are within the limits, so there always is one.
 #[tactic(auto, using(speeds::proofs::Fits::speed_given_lem))]
@@ -51,15 +52,15 @@ fn sides_of(b: Bed, x: Cell, dry: i64) -> Sides
 }
 
 // The sides of the cells of t into d, up to the lowest cell with a side that is too fast, which it gives.
-pub fn sides(t: &[Cell], bed: &[i32], reach: Reach, call: Call, d: &mut [Sides]) -> Option<usize>
-    requires room { Room reach t.now × Room reach d.old }
-    requires ranged { Ranged bed.now reach.n (seen t.now) }
-    requires dry_depth { DryDepth call.dry }
-    ensures { FillStops [] reach.n (fast_sides call.dry bed.now (seen t.now))
-        (sides_at call.dry bed.now (seen t.now)) result d.new }
+pub fn sides(t: &[Cell], course: Course, d: &mut [Sides]) -> Option<usize>
+    requires room { Room course.reach t.now × Room course.reach d.old }
+    requires ranged { Ranged course.bed.now course.reach.n (seen t.now) }
+    requires dry_depth { DryDepth course.call.dry }
+    ensures { let at = course.entry in FillStops [] at.reach.n (fast_sides at.call.dry at.bed.now (seen t.now))
+        (sides_at at.call.dry at.bed.now (seen t.now)) result d.new }
 {
-    for i in 0..reach.n {
-        let s = sides_of(under(bed, i), t[i], call.dry);
+    for i in 0..course.reach.n {
+        let s = sides_of(under(course.bed, i), t[i], course.call.dry);
         d[i] = s;
         if either_fast(s[1], s[3]) {
             return Some(i);

@@ -11,26 +11,27 @@ ghost use Rattle.stage.specs.Rows.{mass_of, pressure_of, advection_of, volume_of
 ghost use Rattle.stage.specs.Rows.{slope_of, thrust, push_of, tilt_of, push_by, tilt_by, update_by, update_at};
 
 use crate::cell::depths;
+use crate::course::Course;
 use crate::rows::FaceRow;
+use reach::Cell;
 use reach::bed::{Bed, under};
-use reach::{Call, Cell, Reach};
 
 // dt/dx of three times a sum: how a slope changes.
-fn slope_change(a: i64, reach: Reach, call: Call) -> i64
+fn slope_change(a: i64, course: Course) -> i64
     requires up_to { UpTo most_change a }
-    requires numbers { Numbers reach call }
-    ensures { result ≡ slope_of a reach.dx call.dt }
+    requires numbers { Numbers course.reach course.call }
+    ensures { result ≡ slope_of a course.entry.reach.dx course.entry.call.dt }
 {
-    3 * a * call.dt / reach.dx
+    3 * a * course.call.dt / course.reach.dx
 }
 
 // 981·e·dt/(819,200·dx): how the pressure e moves a discharge. The product is formed whole.
-fn thrust_of(e: i64, reach: Reach, call: Call) -> i64
+fn thrust_of(e: i64, course: Course) -> i64
     requires up_to { UpTo most_pressure e }
-    requires numbers { Numbers reach call }
-    ensures { result ≡ thrust e reach.dx call.dt }
+    requires numbers { Numbers course.reach course.call }
+    ensures { result ≡ thrust e course.entry.reach.dx course.entry.call.dt }
 {
-    981 * e * call.dt / (819200 * reach.dx)
+    981 * e * course.call.dt / (819200 * course.reach.dx)
 }
 
 // E: the pressures kl and kr of the two faces against the bed, from zl to zr under the mean depth m
@@ -79,71 +80,66 @@ fn level_mean(x: Cell, l: FaceRow, f: FaceRow) -> i64
     x[0] + l[3] - f[3]
 }
 
-fn level_slope(x: Cell, l: FaceRow, f: FaceRow, reach: Reach, call: Call) -> i64
+fn level_slope(x: Cell, l: FaceRow, f: FaceRow, course: Course) -> i64
     requires up_to { UpTo steepest_level (as_cell x).e1 × UpTo fullest (as_cell x).q0 }
     requires row { Row l × Row f }
-    requires numbers { Numbers reach call }
-    ensures { result ≡ (as_cell x).e1 -ℤ slope_of (mass_of f +ℤ mass_of l -ℤ pos 2 *ℤ (as_cell x).q0) reach.dx call.dt }
+    requires numbers { Numbers course.reach course.call }
+    ensures { let at = course.entry in
+        result ≡ (as_cell x).e1 -ℤ slope_of (mass_of f +ℤ mass_of l -ℤ pos 2 *ℤ (as_cell x).q0) at.reach.dx at.call.dt }
 {
-    x[1] - slope_change(f[0] + l[0] - 2 * x[2], reach, call)
+    x[1] - slope_change(f[0] + l[0] - 2 * x[2], course)
 }
 
 // Then the discharge's, which the pressures e and d move; g is the momentum of the Gauss points.
-fn flow_mean(x: Cell, l: FaceRow, f: FaceRow, e: i64, reach: Reach, call: Call) -> i64
+fn flow_mean(x: Cell, l: FaceRow, f: FaceRow, e: i64, course: Course) -> i64
     requires up_to { UpTo fullest (as_cell x).q0 × UpTo most_pressure e }
     requires row { Row l × Row f }
-    requires numbers { Numbers reach call }
-    ensures { result ≡ (as_cell x).q0 +ℤ quot_z ((advection_of l -ℤ advection_of f) *ℤ call.dt) reach.dx
-        +ℤ thrust e reach.dx call.dt }
+    requires numbers { Numbers course.reach course.call }
+    ensures { let at = course.entry in
+        result ≡ (as_cell x).q0 +ℤ quot_z ((advection_of l -ℤ advection_of f) *ℤ at.call.dt) at.reach.dx
+        +ℤ thrust e at.reach.dx at.call.dt }
 {
-    x[2] + (l[2] - f[2]) * call.dt / reach.dx + thrust_of(e, reach, call)
+    x[2] + (l[2] - f[2]) * course.call.dt / course.reach.dx + thrust_of(e, course)
 }
 
-fn flow_slope(x: Cell, l: FaceRow, f: FaceRow, g: i64, d: i64, reach: Reach, call: Call) -> i64
+fn flow_slope(x: Cell, l: FaceRow, f: FaceRow, g: i64, d: i64, course: Course) -> i64
     requires up_to { UpTo fullest (as_cell x).q1 × UpTo most_momentum g × UpTo most_pressure d }
     requires row { Row l × Row f }
-    requires numbers { Numbers reach call }
-    ensures { result ≡ (as_cell x).q1 -ℤ slope_of (advection_of f +ℤ advection_of l -ℤ g) reach.dx call.dt
-        -ℤ thrust d reach.dx call.dt }
+    requires numbers { Numbers course.reach course.call }
+    ensures { let at = course.entry in
+        result ≡ (as_cell x).q1 -ℤ slope_of (advection_of f +ℤ advection_of l -ℤ g) at.reach.dx at.call.dt
+        -ℤ thrust d at.reach.dx at.call.dt }
 {
-    x[3] - slope_change(f[2] + l[2] - g, reach, call) - thrust_of(d, reach, call)
+    x[3] - slope_change(f[2] + l[2] - g, course) - thrust_of(d, course)
 }
 
 // A cell after the stage.
-fn updated(b: Bed, x: Cell, l: FaceRow, f: FaceRow, g: i64, reach: Reach, call: Call) -> Cell
+fn updated(b: Bed, x: Cell, l: FaceRow, f: FaceRow, g: i64, course: Course) -> Cell
     requires inside { Inside (bed_in b) (as_cell x) }
     requires row { Row l × Row f }
     requires up_to { UpTo most_momentum g }
-    requires numbers { Numbers reach call }
-    ensures { result ≡ as_list (update_by reach.dx call.dt (bed_in b) (as_cell x) l f g) }
+    requires numbers { Numbers course.reach course.call }
+    ensures { result ≡ as_list (update_by course.entry.reach.dx course.entry.call.dt (bed_in b) (as_cell x) l f g) }
 {
     let p = pressures(b, x, l, f);
     let e0 = level_mean(x, l, f);
-    let e1 = level_slope(x, l, f, reach, call);
-    let q0 = flow_mean(x, l, f, p[0], reach, call);
-    let q1 = flow_slope(x, l, f, g, p[1], reach, call);
+    let e1 = level_slope(x, l, f, course);
+    let q0 = flow_mean(x, l, f, p[0], course);
+    let q1 = flow_slope(x, l, f, g, p[1], course);
     [e0, e1, q0, q1]
 }
 
 // Every cell of t after the stage, into u, from the rows of its faces and the momenta g.
-pub fn update(
-    t: &[Cell],
-    bed: &[i32],
-    f: &[FaceRow],
-    g: &[i64],
-    reach: Reach,
-    call: Call,
-    u: &mut [Cell],
-)
-    requires room { Room reach t.now × FaceRoom reach f.now × Room reach g.now × Room reach u.old }
-    requires ranged { Ranged bed.now reach.n (seen t.now) }
-    requires face_rows { FaceRows f.now reach.n }
-    requires momenta { Momenta g.now reach.n }
-    requires numbers { Numbers reach call }
-    ensures { Holds u.new reach.n
-        (update_at reach call bed.now (seen t.now) f.now g.now) }
+pub fn update(t: &[Cell], course: Course, f: &[FaceRow], g: &[i64], u: &mut [Cell])
+    requires room { Room course.reach t.now × FaceRoom course.reach f.now × Room course.reach g.now × Room course.reach u.old }
+    requires ranged { Ranged course.bed.now course.reach.n (seen t.now) }
+    requires face_rows { FaceRows f.now course.reach.n }
+    requires momenta { Momenta g.now course.reach.n }
+    requires numbers { Numbers course.reach course.call }
+    ensures { let at = course.entry in Holds u.new at.reach.n
+        (update_at at.reach at.call at.bed.now (seen t.now) f.now g.now) }
 {
-    for i in 0..reach.n {
-        u[i] = updated(under(bed, i), t[i], f[i], f[i + 1], g[i], reach, call);
+    for i in 0..course.reach.n {
+        u[i] = updated(under(course.bed, i), t[i], f[i], f[i + 1], g[i], course);
     }
 }

@@ -10,6 +10,7 @@ ghost use Rattle.stage.specs.Says.{ready_checks, OneSays, TwoSays, BothSay};
 ghost use Rattle.stage.specs.Worked.{TablesSay, lent_by, WorkedSays};
 
 use crate::checks::{bad_bed, bad_lengths, bad_numbers, fast, off};
+use crate::course::{Course, call_by, reach_by};
 use crate::ending::end;
 use crate::joining::{end_volume, join};
 use crate::lent::load;
@@ -20,7 +21,7 @@ use crate::store::store;
 use reach::answer::{Answer, Refusal, Refused, Volumes};
 use reach::friction::bad_friction;
 use reach::limits::{CELLS, FACES};
-use reach::{Call, Cell, Given, Reach};
+use reach::{Cell, Given};
 
 // A reach of at most so many cells is worked on short tables: they take an eighth of the room of the long
 // ones, and clearing them an eighth of the time.
@@ -29,85 +30,80 @@ const SHORT_CELLS: usize = 128;
 const SHORT_FACES: usize = SHORT_CELLS + 1;
 
 // Checks 3 to 5 and the friction speeds of the lent state in t, in their order.
-fn ready(t: &[Cell], bed: &[i32], friction: &[u16], reach: Reach, call: Call) -> Result<(), Refused>
-    requires room { Room reach t.now × (length bed.now ≡ reach.n + 1) × (length friction.now ≡ reach.n) }
-    requires wides { Wides reach.n (seen t.now) × DryDepth call.dry }
-    ensures { found_in result
-        ≡ found (ready_checks call.dry reach.n bed.now friction.now (seen t.now)) }
+fn ready(t: &[Cell], course: Course, friction: &[u16]) -> Result<(), Refused>
+    requires room { Room course.reach t.now × (length course.bed.now ≡ course.reach.n + 1) × (length friction.now ≡ course.reach.n) }
+    requires wides { Wides course.reach.n (seen t.now) × DryDepth course.call.dry }
+    ensures { let at = course.entry in found_in result
+        ≡ found (ready_checks at.call.dry at.reach.n at.bed.now friction.now (seen t.now)) }
 {
-    Refusal::Bed.at(bad_bed(bed))?;
+    Refusal::Bed.at(bad_bed(course.bed))?;
     Refusal::Friction.at(bad_friction(friction))?;
-    Refusal::State.at(off(t, bed, reach))?;
-    Refusal::Speed.at(fast(t, bed, reach, call))
+    Refusal::State.at(off(t, course))?;
+    Refusal::Speed.at(fast(t, course))
 }
 
 // Stage one from the state a after friction, finished, into b, with its faces in f. Of the tables that
 // a stage works on, g has the momenta, and u the sides and then the unfinished state.
 fn stage_one(
     a: &[Cell],
-    bed: &[i32],
-    reach: Reach,
-    call: Call,
+    course: Course,
     g: &mut [i64],
     f: &mut [FaceRow],
     u: &mut [Cell],
     b: &mut [Cell],
 ) -> Result<(), Refused>
-    requires in_order { InOrder reach call bed.now }
-    requires room { Room reach a.now × Room reach g.old × FaceRoom reach f.old × Room reach u.old × Room reach b.old }
-    requires ranged { Ranged bed.now reach.n (seen a.now) }
-    ensures { OneSays reach call bed.now a.now (found_in result) f.new b.new }
+    requires in_order { InOrder course.reach course.call course.bed.now }
+    requires room { Room course.reach a.now × Room course.reach g.old × Room course.reach u.old × Room course.reach b.old }
+    requires face_room { FaceRoom course.reach f.old }
+    requires ranged { Ranged course.bed.now course.reach.n (seen a.now) }
+    ensures { let at = course.entry in OneSays at.reach at.call at.bed.now a.now (found_in result) f.new b.new }
 {
-    stage(a, bed, reach, call, g, f, u)?;
-    end(u, bed, reach, call, b)
+    stage(a, course, g, f, u)?;
+    end(u, course, b)
 }
 
 // Stage two from b, with its faces in h, joined with a by the faces f and h, and finished, in place of b.
 fn stage_two(
     a: &[Cell],
     f: &[FaceRow],
-    bed: &[i32],
-    reach: Reach,
-    call: Call,
+    course: Course,
     g: &mut [i64],
     h: &mut [FaceRow],
     u: &mut [Cell],
     b: &mut [Cell],
 ) -> Result<(), Refused>
-    requires in_order { InOrder reach call bed.now }
-    requires room { Room reach a.now × Room reach g.old × Room reach u.old × Room reach b.old }
-    requires face_room { FaceRoom reach f.now × FaceRoom reach h.old }
-    requires ranged { Ranged bed.now reach.n (seen a.now) × Ranged bed.now reach.n (seen b.old) }
-    requires face_rows { FaceRows f.now reach.n }
-    ensures { TwoSays reach call bed.now a.now f.now b.old
+    requires in_order { InOrder course.reach course.call course.bed.now }
+    requires room { Room course.reach a.now × Room course.reach g.old × Room course.reach u.old × Room course.reach b.old }
+    requires face_room { FaceRoom course.reach f.now × FaceRoom course.reach h.old }
+    requires ranged { Ranged course.bed.now course.reach.n (seen a.now) × Ranged course.bed.now course.reach.n (seen b.old) }
+    requires face_rows { FaceRows f.now course.reach.n }
+    ensures { let at = course.entry in TwoSays at.reach at.call at.bed.now a.now f.now b.old
         (found_in result) h.new b.new }
 {
-    stage(b, bed, reach, call, g, h, u)?;
-    join(a, u, f, h, reach);
-    end(u, bed, reach, call, b)
+    stage(b, course, g, h, u)?;
+    join(a, u, f, h, course.reach);
+    end(u, course, b)
 }
 
 // Both stages from the state a after friction: the end state in b, and the faces of the two in f and h.
 fn both_stages(
     a: &[Cell],
-    bed: &[i32],
-    reach: Reach,
-    call: Call,
+    course: Course,
     g: &mut [i64],
     f: &mut [FaceRow],
     h: &mut [FaceRow],
     u: &mut [Cell],
     b: &mut [Cell],
 ) -> Result<(), Refused>
-    requires in_order { InOrder reach call bed.now }
-    requires room { Room reach a.now × Room reach g.old × Room reach u.old × Room reach b.old }
-    requires face_room { FaceRoom reach f.old × FaceRoom reach h.old }
-    requires ranged { Ranged bed.now reach.n (seen a.now) }
-    ensures { BothSay reach call bed.now a.now (found_in result)
+    requires in_order { InOrder course.reach course.call course.bed.now }
+    requires room { Room course.reach a.now × Room course.reach g.old × Room course.reach u.old × Room course.reach b.old }
+    requires face_room { FaceRoom course.reach f.old × FaceRoom course.reach h.old }
+    requires ranged { Ranged course.bed.now course.reach.n (seen a.now) }
+    ensures { let at = course.entry in BothSay at.reach at.call at.bed.now a.now (found_in result)
         f.new h.new b.new }
 {
-    stage_one(a, bed, reach, call, g, f, u, b)?;
-    stage_two(a, f, bed, reach, call, g, h, u, b)
+    stage_one(a, course, g, f, u, b)?;
+    stage_two(a, f, course, g, h, u, b)
 }
 
 // The step of a reach and a call that are in order, on the tables lent for it: a has the lent state and
@@ -115,10 +111,8 @@ fn both_stages(
 fn on_tables(
     state: &[i32],
     next: &mut [i32],
-    bed: &[i32],
+    course: Course,
     friction: &[u16],
-    reach: Reach,
-    call: Call,
     a: &mut [Cell],
     g: &mut [i64],
     f: &mut [FaceRow],
@@ -126,21 +120,21 @@ fn on_tables(
     u: &mut [Cell],
     b: &mut [Cell],
 ) -> Answer
-    requires in_order { InOrder reach call bed.now × (length state.now ≡ 4 * reach.n)
-        × (length next.old ≡ 4 * reach.n) × (length friction.now ≡ reach.n) }
-    requires room { Room reach a.old × Room reach g.old × Room reach u.old × Room reach b.old }
-    requires face_room { FaceRoom reach f.old × FaceRoom reach h.old }
-    ensures { TablesSay reach call bed.now friction.now state.now
+    requires in_order { InOrder course.reach course.call course.bed.now × (length state.now ≡ 4 * course.reach.n)
+        × (length next.old ≡ 4 * course.reach.n) × (length friction.now ≡ course.reach.n) }
+    requires room { Room course.reach a.old × Room course.reach g.old × Room course.reach u.old × Room course.reach b.old }
+    requires face_room { FaceRoom course.reach f.old × FaceRoom course.reach h.old }
+    ensures { let at = course.entry in TablesSay at.reach at.call at.bed.now friction.now state.now
         result next.old next.new }
 {
-    load(state, reach, a);
-    ready(a, bed, friction, reach, call)?;
-    rub(a, bed, friction, reach, call);
-    both_stages(a, bed, reach, call, g, f, h, u, b)?;
-    store(b, reach.n, next);
+    load(state, course.reach, a);
+    ready(a, course, friction)?;
+    rub(a, course, friction);
+    both_stages(a, course, g, f, h, u, b)?;
+    store(b, course.reach.n, next);
     Ok(Volumes {
         first: end_volume(f, h, 0),
-        last: end_volume(f, h, reach.n),
+        last: end_volume(f, h, course.reach.n),
     })
 }
 
@@ -150,15 +144,13 @@ fn on_tables(
 fn on_own_tables<const N: usize, const F: usize>(
     state: &[i32],
     next: &mut [i32],
-    bed: &[i32],
+    course: Course,
     friction: &[u16],
-    reach: Reach,
-    call: Call,
 ) -> Answer
-    requires in_order { InOrder reach call bed.now × (length state.now ≡ 4 * reach.n)
-        × (length next.old ≡ 4 * reach.n) × (length friction.now ≡ reach.n) }
-    requires room { (reach.n ≤ N) × (reach.n < F) × (N ≤ most_cells) × (F ≤ most_cells + 1) }
-    ensures { TablesSay reach call bed.now friction.now state.now
+    requires in_order { InOrder course.reach course.call course.bed.now × (length state.now ≡ 4 * course.reach.n)
+        × (length next.old ≡ 4 * course.reach.n) × (length friction.now ≡ course.reach.n) }
+    requires room { (course.reach.n ≤ N) × (course.reach.n < F) × (N ≤ most_cells) × (F ≤ most_cells + 1) }
+    ensures { let at = course.entry in TablesSay at.reach at.call at.bed.now friction.now state.now
         result next.old next.new }
 {
     let mut a = [[0i64; 4]; N];
@@ -168,7 +160,7 @@ fn on_own_tables<const N: usize, const F: usize>(
     let mut u = [[0i64; 4]; N];
     let mut b = [[0i64; 4]; N];
     on_tables(
-        state, next, bed, friction, reach, call, &mut a, &mut g, &mut f, &mut h, &mut u, &mut b,
+        state, next, course, friction, &mut a, &mut g, &mut f, &mut h, &mut u, &mut b,
     )
 }
 
@@ -186,25 +178,17 @@ pub fn work(state: &[i32], next: &mut [i32], bed: &[i32], friction: &[u16], give
             place: 0,
         });
     }
-    let reach = Reach {
-        n,
-        dx: i64::from(given.dx),
-    };
-    let call = Call {
-        dt: i64::from(given.dt),
-        jump: i64::from(given.jump),
-        dry: i64::from(given.dry),
-        left: given.left,
-        right: given.right,
-    };
+    let reach = reach_by(n, given);
+    let call = call_by(given);
     if bad_numbers(reach, call) {
         return Err(Refused {
             refusal: Refusal::Numbers,
             place: 0,
         });
     }
+    let course = Course { bed, reach, call };
     if n <= SHORT_CELLS {
-        return on_own_tables::<SHORT_CELLS, SHORT_FACES>(state, next, bed, friction, reach, call);
+        return on_own_tables::<SHORT_CELLS, SHORT_FACES>(state, next, course, friction);
     }
-    on_own_tables::<CELLS, FACES>(state, next, bed, friction, reach, call)
+    on_own_tables::<CELLS, FACES>(state, next, course, friction)
 }

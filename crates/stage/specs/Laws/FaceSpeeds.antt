@@ -1,7 +1,7 @@
 -- The check of the face speeds, which looks at the cells one after another and at the two ends: the face that it answers is the lowest
 -- that is too fast.
 -- Assumes nothing.
-use Rattle.std.specs.Prelude.{◌≡◌, Bool, true, false, cond, List, [], ℕ, suc, ◌-◌, ◌≤◌, ◌<◌, get_or, ℤ, pos, None, Some}
+use Rattle.std.specs.Prelude.{◌≡◌, Bool, true, false, cond, List, [], ℕ, suc, ◌-◌, ◌≤◌, ◌<◌, get_or, ℤ, None, Some}
 use Rattle.std.proofs.Common.{sym, ◌∙◌, ap, arith}
 use Rattle.std.proofs.Math.Path.{subst}
 use Rattle.whole.specs.Flags.{by}

@@ -3,7 +3,6 @@
 use Rattle.std.specs.Prelude.{◌≡◌, Bool, true, false, List, ◌∷◌, ◌++◌, ℕ, length, ℤ, pos}
 use Rattle.std.proofs.Math.Path.{sym}
 use Rattle.std.proofs.Common.{arith}
-use Rattle.whole.specs.Flags.{fails}
 use Rattle.whole.specs.Parts.{of_le, lt_of, le_trans, nat_nonneg}
 use Rattle.tables.specs.Some.{some, lowest}
 use Rattle.rules.specs.Limits.{longest_cell, longest_step, largest_jump}

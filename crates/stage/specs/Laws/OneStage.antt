@@ -1,6 +1,6 @@
 -- A stage: what it answers by the check that stopped it, and that its faces and its cells are the rule's.
 -- Assumes nothing.
-use Rattle.std.specs.Prelude.{◌≡◌, false, List, [], ℕ, suc, ◌≤◌, ◌<◌, get_or, ℤ, pos, Option, None, Some, Result, Err}
+use Rattle.std.specs.Prelude.{◌≡◌, false, List, [], ℕ, suc, ◌<◌, get_or, ℤ, pos, Option, None, Some, Result, Err}
 use Rattle.std.proofs.Common.{sym, ◌∙◌, subst, arith}
 use Rattle.std.proofs.Math.Path.{ap}
 use Rattle.tables.specs.Some.{some}

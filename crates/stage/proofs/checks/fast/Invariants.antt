@@ -10,4 +10,4 @@ abbrev pub bad : ℤ → List (List ℤ) → List ℤ → ℕ → Bool
 bad dry t bed k = fast_cell dry (bed_at bed k) (seen t k)
 
 abbrev pub invariant-loop-i : goal.invariant-loop-i
-invariant-loop-i l = Scanned (bad l.call.dry l.t l.bed) l.fn.reach.n l.i
+invariant-loop-i l = Scanned (bad l.course.call.dry l.t l.course.bed.now) l.course.reach.n l.i

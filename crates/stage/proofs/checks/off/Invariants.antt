@@ -10,4 +10,4 @@ abbrev pub bad : List (List ℤ) → List ℤ → ℕ → Bool
 bad t bed k = off_cell (bed_at bed k) (seen t k)
 
 abbrev pub invariant-loop-i : goal.invariant-loop-i
-invariant-loop-i l = Scanned (bad l.t l.bed) l.fn.reach.n l.i
+invariant-loop-i l = Scanned (bad l.t l.course.bed.now) l.course.reach.n l.i

@@ -9,7 +9,7 @@ use Rattle.stage.proofs.ending.end.Goals as goal
 pub unwrap-requires : goal.unwrap-requires
 unwrap-requires c =
     let a = c.args in let given = c.requires in
-    c.finish.ensures.works ∙ ap not (works_fit a.reach a.call a.bed.now a.u.now _ (record {
+    c.finish.ensures.works ∙ ap not (works_fit a.course.reach a.course.call a.course.bed.now a.u.now _ (record {
       lent = given.n_le_most_cells.2;
       placed = given.n_le_most_cells.3;
       most = given.n_le_most_cells.0;
@@ -17,7 +17,7 @@ unwrap-requires c =
       jump_pos = given.numbers.jump_pos;
       jump_in = given.numbers.jump_in;
       dry = given.numbers.dry;
-      cells = unfinished a.bed.now a.reach.n (seen a.u.now) given.grounds.0 given.grounds.1;
+      cells = unfinished a.course.bed.now a.course.reach.n (seen a.u.now) given.grounds.0 given.grounds.1;
     }))
 
 pub off-requires-clause-all_unfinished : goal.off-requires-clause-all_unfinished

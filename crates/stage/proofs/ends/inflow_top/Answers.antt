@@ -1,6 +1,5 @@
 -- Both speeds of the sum are small, and the choice is the rule's.
-use Rattle.std.proofs.Common.{◌≡◌, ◌∙◌, ℤ, ◌+ℤ◌}
-use Rattle.std.specs.Int.{int_max}
+use Rattle.std.proofs.Common.{◌∙◌, ◌+ℤ◌}
 use mir.Facts.{to_z-of_z}
 use Rattle.whole.specs.Parts.{fit}
 use Rattle.whole.specs.Choice.{size_z, b_size}

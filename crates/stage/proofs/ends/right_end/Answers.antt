@@ -1,5 +1,5 @@
 -- An inflow's mass runs leftward; beside another end the outer side comes second.
-use Rattle.std.proofs.Common.{◌≡◌, sym, ◌∙◌, ap, subst, [], ◌∷◌, ℤ, pos, ◌-ℤ◌, eq-eqb, ne_eqb, arith}
+use Rattle.std.proofs.Common.{sym, ◌∙◌, ap, subst, [], ◌∷◌, ℤ, pos, ◌-ℤ◌, eq-eqb, ne_eqb, arith}
 use mir.Facts.{to_z-of_z}
 use Rattle.whole.specs.Parts.{Within}
 use Rattle.whole.specs.Difference.{at, lit, ◌⊟◌, ⊖, eq! }

@@ -6,4 +6,4 @@ use Rattle.stage.proofs.faces.faces.Given as goal
 
 abbrev pub invariant-loop-i : goal.invariant-loop-i
 invariant-loop-i l =
-    Filling [] (suc l.reach.n) (long_at l.reach l.call l.d) (face_row_at l.reach l.call l.d) l.initial.f l.f l.i
+    Filling [] (suc l.course.reach.n) (long_at l.course.reach l.course.call l.d) (face_row_at l.course.reach l.course.call l.d) l.initial.f l.f l.i

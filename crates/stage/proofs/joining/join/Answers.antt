@@ -1,6 +1,6 @@
-use Rattle.std.proofs.Common.{◌≡◌, ◌∙◌, sym, subst, List, [], suc, ◌+◌, get_or, ℤ, arith}
+use Rattle.std.proofs.Common.{◌≡◌, ◌∙◌, sym, subst, List, [], suc, ◌+◌, ℤ, arith}
 use Rattle.whole.specs.Parts.{b_up}
-use Rattle.whole.specs.Machine.{back, back64}
+use Rattle.whole.specs.Machine.{back64}
 use Rattle.tables.specs.Rows.{filled_more}
 use Rattle.tables.specs.Cells.{as_cell, as_list, seen}
 use Rattle.rules.specs.Step.{half, joined_cell}

@@ -1,9 +1,8 @@
 -- Below i the cells are those of the lent state, and as wide as its numbers.
 use mathlib.Core.List.{[]}
-use Prim.Native.Nat.{◌≤◌}
 use Rattle.tables.specs.Rows.{Filled}
 use Rattle.tables.specs.Cells.{as_list, cell_in}
-use Rattle.reach.specs.Ranges.{Wide, Wides}
+use Rattle.reach.specs.Ranges.{Wides}
 use Rattle.stage.proofs.lent.load.Given as goal
 
 abbrev pub invariant-loop-i : goal.invariant-loop-i

@@ -7,4 +7,4 @@ use Rattle.stage.proofs.points.points.Given as goal
 
 abbrev pub invariant-loop-i : goal.invariant-loop-i
 invariant-loop-i l =
-    Filling (pos 0) l.fn.reach.n (fast_points_at l.call.dry l.bed (seen l.t)) (momentum_at l.call.dry l.bed (seen l.t)) l.initial.g l.g l.i
+    Filling (pos 0) l.course.reach.n (fast_points_at l.course.call.dry l.course.bed.now (seen l.t)) (momentum_at l.course.call.dry l.course.bed.now (seen l.t)) l.initial.g l.g l.i

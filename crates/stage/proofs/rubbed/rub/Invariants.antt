@@ -6,4 +6,4 @@ use Rattle.stage.specs.Rows.{rubbed_at}
 use Rattle.stage.proofs.rubbed.rub.Given as goal
 
 abbrev pub invariant-loop-i : goal.invariant-loop-i
-invariant-loop-i l = Filled [] l.initial.t l.t l.i (λ k. as_list (rubbed_at l.call l.friction l.bed (seen l.initial.t) k))
+invariant-loop-i l = Filled [] l.initial.t l.t l.i (λ k. as_list (rubbed_at l.course.call l.friction l.course.bed.now (seen l.initial.t) k))

@@ -7,4 +7,4 @@ use Rattle.stage.proofs.sides.sides.Given as goal
 
 abbrev pub invariant-loop-i : goal.invariant-loop-i
 invariant-loop-i l =
-    Filling [] l.fn.reach.n (fast_sides l.call.dry l.bed (seen l.t)) (sides_at l.call.dry l.bed (seen l.t)) l.initial.d l.d l.i
+    Filling [] l.course.reach.n (fast_sides l.course.call.dry l.course.bed.now (seen l.t)) (sides_at l.course.call.dry l.course.bed.now (seen l.t)) l.initial.d l.d l.i

@@ -1,13 +1,16 @@
 -- The product is formed whole: it stays below 2^63 for a pressure within 2·10^12.
-use mathlib.Core.List.{List, [], ◌∷◌}
-use lib.IntN.{pos}
-use Rattle.whole.specs.Machine.{X, v, k, ◌⊗◌, ◌⊘◌, Entry, entry, need, value, divisor, sized}
+use Rattle.std.specs.Prelude.{List, [], ◌∷◌, ℤ, pos}
+use Rattle.whole.specs.Machine.{X, v, k, ◌⊗◌, ◌⊘◌, Entry, need, value, divisor, sized}
+use Rattle.reach.specs.declared.Reach.{Reach}
+use Rattle.reach.specs.declared.Call.{Call}
+use Rattle.reach.specs.Ranges.{UpTo, Numbers}
+use Rattle.stage.specs.Ranges.{most_pressure}
 use Rattle.stage.specs.Laws.UpdateSizes.{wide_pos}
 use Rattle.stage.specs.Rows.{thrust}
 use Rattle.stage.proofs.update.thrust_of.Goals as goal
 
-abbrev env : goal.Start → List Entry
-env s = entry s.ranges.e s.requires.up_to ∷ sized s.requires.numbers.dx_in tt ∷ sized s.requires.numbers.dt_in tt ∷ []
+abbrev env : {e : ℤ} {reach : Reach} {call : Call} → UpTo most_pressure e → Numbers reach call → List Entry
+env e num = sized e tt ∷ sized num.dx_in tt ∷ sized num.dt_in tt ∷ []
 
 abbrev above : X
 above = k (pos 981) ⊗ v 0 ⊗ v 2
@@ -15,20 +18,14 @@ above = k (pos 981) ⊗ v 0 ⊗ v 2
 abbrev below : X
 below = k (pos 819200) ⊗ v 1
 
-pub overflow_mul-result : goal.overflow_mul-result
-overflow_mul-result c = need (env c) (k (pos 981) ⊗ v 0) tt
-
 pub overflow_mul-result-2 : goal.overflow_mul-result-2
-overflow_mul-result-2 c = need (env c.before.before) above tt
-
-pub overflow_mul-result-3 : goal.overflow_mul-result-3
-overflow_mul-result-3 c = need (env c.before.before.before.before) below tt
+overflow_mul-result-2 c = need (env c.requires.up_to c.requires.numbers) above tt
 
 pub nonzero_div-result : goal.nonzero_div-result
 nonzero_div-result c =
-    let s = c.before.before.before.before in
-    (divisor (env s) below tt (wide_pos s.args.reach.dx s.requires.numbers.dx_pos), need (env s) (above ⊘ below) tt)
+    let e = env c.requires.up_to c.requires.numbers in
+    (divisor e below tt (wide_pos c.args.course.reach.dx c.requires.numbers.dx_pos), need e (above ⊘ below) tt)
 
 pub returns : goal.returns
 unfolding thrust
-returns c = value (env c.before.before.before.before) (above ⊘ below) tt
+returns c = value (env c.requires.up_to c.requires.numbers) (above ⊘ below) tt

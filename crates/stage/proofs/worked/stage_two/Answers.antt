@@ -25,7 +25,7 @@ pub end-requires-clause-grounds : goal.end-requires-clause-grounds
 end-requires-clause-grounds c =
     let done = (c.stage.ensures (λ i. pos 0)).done (went_on_none c.in_ok-stage.was) in (
       (λ i l. (c.requires.ranged.0 i l).grounded),
-      join_small c.args.bed.now c.join.ensures c.requires.ranged.0 (done_small done) c.requires.face_rows done.faces.sized,
+      join_small c.args.course.bed.now c.join.ensures c.requires.ranged.0 (done_small done) c.requires.face_rows done.faces.sized,
     )
 
 pub returns : goal.returns
