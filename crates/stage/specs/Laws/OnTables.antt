@@ -24,7 +24,7 @@ use Rattle.reach.specs.Refusals.{number_of}
 use Rattle.reach.specs.Laws.Refusals.{refused_some, not_none}
 use Rattle.stage.specs.Rows.{volume_at, rubbed_at}
 use Rattle.stage.specs.Ranges.{Inside, Ranged, Slows}
-use Rattle.stage.specs.Says.{ready_checks, both_checks, LoadSays, Shows, StepSays}
+use Rattle.stage.specs.Says.{ready_checks, both_checks, LoadSays, Shows, StepSays, BothSay}
 use Rattle.stage.specs.Stored.{Fits, AllFit}
 use Rattle.stage.specs.Worked.{Volume, TablesSay}
 use Rattle.stage.specs.Laws.CellSizes.{cell_sizes, volume_size}
@@ -94,10 +94,14 @@ module _
 
     -- t has it after friction
     module _ {t : List (List ℤ)} (f : Filled [] a t n (λ i. as_list (rubbed_at call friction bed (seen a) i))) where
-      pub rubbed_shown : Shows r t (rubbed r c s)
+      rubbed_shown : Shows r t (rubbed r c s)
       unfolding rubbed
       rubbed_shown i l =
           ap as_cell (f.below i l) ∙ (λ j. rubbed_cell call.dt call.dry (rough i) (bed_at bed i) (as_cell (lent.cells i l j)))
+
+      -- what both stages from it say, of the lent state
+      pub both_said : {m : Found} {f x b : List (List ℤ)} → BothSay reach call bed t m f x b → StepSays r c s m f x b
+      both_said both = both rough s rubbed_shown
 
       pub rubbed_ranged : pos 0 ≤ℤ call.dt → least_dry ≤ℤ call.dry → Ranged bed n (seen t)
       rubbed_ranged p m i l = subst (λ (m : List ℤ). Inside (bed_at bed i) (as_cell m)) (sym (f.below i l))

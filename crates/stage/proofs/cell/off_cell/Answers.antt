@@ -1,5 +1,5 @@
 -- The two pairs of tests are the four of the rule.
-use Rattle.std.specs.Prelude.{◌≡◌, refl, Bool, true, false, ◌||◌, List, [], ◌∷◌, get_or, ℤ, pos, ◌+ℤ◌, ◌-ℤ◌}
+use Rattle.std.specs.Prelude.{◌≡◌, refl, Bool, true, false, ◌||◌, [], ◌∷◌, get_or, ℤ, pos, ◌+ℤ◌, ◌-ℤ◌}
 use Rattle.std.proofs.Common.{sym, ap, ap₂, subst, ◌∙◌, arith}
 use Rattle.whole.specs.Machine.{back, back64}
 use Rattle.tables.specs.Cells.{Cell, as_cell}
@@ -45,22 +45,22 @@ pub off_depths-requires : goal.off_depths-requires
 off_depths-requires c =
     let b = bed_in c.args.b in let x = as_cell c.args.x in
     let w : Unfinished b x = record { grounded = c.requires.grounded; wide = c.requires.wide } in
-    let mean = back64 {z = get_or c.depths-h.result 0 (pos 0)} (omega arith) (ap (λ (l : List ℤ). get_or l 0 (pos 0)) c.depths-h.ensures) in
-    let slope = back64 {z = get_or c.depths-h.result 1 (pos 0)} (omega arith) (ap (λ (l : List ℤ). get_or l 1 (pos 0)) c.depths-h.ensures) in
+    let mean = back64 {z = get_or c.depths-h.result 0 (pos 0)} (omega arith) (λ j. get_or (c.depths-h.ensures j) 0 (pos 0)) in
+    let slope = back64 {z = get_or c.depths-h.result 1 (pos 0)} (omega arith) (λ j. get_or (c.depths-h.ensures j) 1 (pos 0)) in
     (subst (UpTo widest_depth) (sym mean) (h0_size b x w), subst (UpTo widest_depth) (sym slope) (h1_size b x w))
 
 pub returns-then-off_depths : goal.returns-then-off_depths
 returns-then-off_depths c =
     let b = bed_in c.args.b in let x = as_cell c.args.x in
-    let mean = back64 {z = get_or c.depths-h.result 0 (pos 0)} (omega arith) (ap (λ (l : List ℤ). get_or l 0 (pos 0)) c.depths-h.ensures) in
-    let slope = back64 {z = get_or c.depths-h.result 1 (pos 0)} (omega arith) (ap (λ (l : List ℤ). get_or l 1 (pos 0)) c.depths-h.ensures) in
+    let mean = back64 {z = get_or c.depths-h.result 0 (pos 0)} (omega arith) (λ j. get_or (c.depths-h.ensures j) 0 (pos 0)) in
+    let slope = back64 {z = get_or c.depths-h.result 1 (pos 0)} (omega arith) (λ j. get_or (c.depths-h.ensures j) 1 (pos 0)) in
     off_is b x true (sym c.if-off_depths.true ∙ first b x c.off_depths.ensures mean slope)
 
 pub returns : goal.returns
 returns c =
     let b = bed_in c.args.b in let x = as_cell c.args.x in
-    let mean = back64 {z = get_or c.depths-h.result 0 (pos 0)} (omega arith) (ap (λ (l : List ℤ). get_or l 0 (pos 0)) c.depths-h.ensures) in
-    let slope = back64 {z = get_or c.depths-h.result 1 (pos 0)} (omega arith) (ap (λ (l : List ℤ). get_or l 1 (pos 0)) c.depths-h.ensures) in
+    let mean = back64 {z = get_or c.depths-h.result 0 (pos 0)} (omega arith) (λ j. get_or (c.depths-h.ensures j) 0 (pos 0)) in
+    let slope = back64 {z = get_or c.depths-h.result 1 (pos 0)} (omega arith) (λ j. get_or (c.depths-h.ensures j) 1 (pos 0)) in
     c.off_flows.ensures
     ∙ ap₂ (λ (m c : ℤ). past fullest (m -ℤ c) || past fullest (m +ℤ c)) (back {z = x.q0} (omega arith)) (back {z = x.q1} (omega arith))
     ∙ off_is b x false (sym c.if-off_depths.false ∙ first b x c.off_depths.ensures mean slope)

@@ -6,4 +6,5 @@ use Rattle.stage.proofs.faces.faces.Given as goal
 
 abbrev pub invariant-loop-i : goal.invariant-loop-i
 invariant-loop-i l =
-    Filling [] (suc l.course.reach.n) (long_at l.course.reach l.course.call l.d) (face_row_at l.course.reach l.course.call l.d) l.initial.f l.f l.i
+    let at = l.course in
+    Filling [] (suc at.reach.n) (long_at at.reach at.call l.d) (face_row_at at.reach at.call l.d) l.initial.f l.f l.i

@@ -23,7 +23,8 @@ module _ (bed : List ℤ) (s : State) (i : ℕ) {dry read : ℤ} {b : Bed} {x : 
   fast : {before behind : ℤ} {said : Bool} → before ≡ get_or x 0 (pos 0) → behind ≡ get_or x 1 (pos 0)
       → said ≡ (past fastest before || past fastest behind) → fast_points_at dry bed s i ≡ said
   unfolding point_row fast_points
-  fast l r e = sym (e ∙ ap₂ (λ u w. past fastest u || past fastest w) (l ∙ (λ j. get_or (row j) 0 (pos 0))) (r ∙ (λ j. get_or (row j) 1 (pos 0))))
+  fast l r e = sym (e ∙ ap₂ (λ u w. past fastest u || past fastest w)
+      (l ∙ (λ j. get_or (row j) 0 (pos 0))) (r ∙ (λ j. get_or (row j) 1 (pos 0))))
 
 pub returns-then-either_fast : goal.returns-then-either_fast
 returns-then-either_fast c =

@@ -7,4 +7,6 @@ use Rattle.stage.proofs.points.points.Given as goal
 
 abbrev pub invariant-loop-i : goal.invariant-loop-i
 invariant-loop-i l =
-    Filling (pos 0) l.course.reach.n (fast_points_at l.course.call.dry l.course.bed.now (seen l.t)) (momentum_at l.course.call.dry l.course.bed.now (seen l.t)) l.initial.g l.g l.i
+    let at = l.course in
+    Filling (pos 0) at.reach.n (fast_points_at at.call.dry at.bed.now (seen l.t))
+    (momentum_at at.call.dry at.bed.now (seen l.t)) l.initial.g l.g l.i

@@ -90,7 +90,8 @@ slowed_cell-requires-clause-pos_bound c =
     let wet = sym (ap₂ le_z mean (back {z = p.call.dry} (omega arith))) ∙ c.if-h-call.false in
     let acts = rw (to_z-of_z w64 p.f c.ranges.f, mean, back {z = x.q0} (omega arith)) at c.strength.ensures in
     rw (back64 c.strength.type_inv acts)
-    (strong_size p.call.dt p.call.dry p.f b x c.requires.pos_bound c.requires.pos_bound_2 inside.0 (low p.call.dry b x inside.1 wet) c.requires.x_value)
+    (strong_size p.call.dt p.call.dry p.f b x c.requires.pos_bound c.requires.pos_bound_2 inside.0
+    (low p.call.dry b x inside.1 wet) c.requires.x_value)
 
 pub slowed_cell-requires-clause-up_to : goal.slowed_cell-requires-clause-up_to
 slowed_cell-requires-clause-up_to c = let m = cell_sizes c.requires.inside.0 in (m.q0, m.q1)

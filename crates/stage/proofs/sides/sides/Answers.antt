@@ -20,7 +20,8 @@ module _ (bed : List ℤ) (s : State) (i : ℕ) {dry read : ℤ} {b : Bed} {x : 
   fast : {left right : ℤ} {said : Bool} → left ≡ get_or x 1 (pos 0) → right ≡ get_or x 3 (pos 0)
       → said ≡ (past fastest left || past fastest right) → fast_sides dry bed s i ≡ said
   unfolding sides_at fast_sides
-  fast l r e = sym (e ∙ ap₂ (λ u w. past fastest u || past fastest w) (l ∙ (λ j. get_or (row j) 1 (pos 0))) (r ∙ (λ j. get_or (row j) 3 (pos 0))))
+  fast l r e = sym (e ∙ ap₂ (λ u w. past fastest u || past fastest w)
+      (l ∙ (λ j. get_or (row j) 1 (pos 0))) (r ∙ (λ j. get_or (row j) 3 (pos 0))))
 
 pub returns-then-either_fast : goal.returns-then-either_fast
 returns-then-either_fast c =

@@ -7,4 +7,5 @@ use Rattle.stage.proofs.sides.sides.Given as goal
 
 abbrev pub invariant-loop-i : goal.invariant-loop-i
 invariant-loop-i l =
-    Filling [] l.course.reach.n (fast_sides l.course.call.dry l.course.bed.now (seen l.t)) (sides_at l.course.call.dry l.course.bed.now (seen l.t)) l.initial.d l.d l.i
+    let at = l.course in
+    Filling [] at.reach.n (fast_sides at.call.dry at.bed.now (seen l.t)) (sides_at at.call.dry at.bed.now (seen l.t)) l.initial.d l.d l.i

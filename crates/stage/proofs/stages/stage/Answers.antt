@@ -40,7 +40,8 @@ module _ (k : Refusal) {p : Option ℕ} {answer : Result (Unit {0}) Refused} (to
       stage_stops e on (ap found_in on ∙ told_there k p e here ∙ says e.place (stopped_at k p e here).0)
 
 -- a search that found none has filled its table
-filled : {A : Type 0} {d : A} {n : ℕ} {p : ℕ → Bool} {f : ℕ → A} {k : Option ℕ} {a : List A} → FillStops d n p f k a → k ≡ None → Written d a n f
+filled : {A : Type 0} {d : A} {n : ℕ} {p : ℕ → Bool} {f : ℕ → A} {k : Option ℕ} {a : List A} → FillStops d n p f k a → k ≡ None
+    → Written d a n f
 filled {d} {n} {p} {f} says none = all_filled d n p f (rw none at says.fills) (omega arith)
 
 -- both checks of speeds are passed
@@ -51,11 +52,13 @@ slowed faces x x_ok points y y_ok = slow_stage faces (passed Speed x x_ok) point
 
 pub returns-in_err-at : goal.returns-in_err-at
 returns-in_err-at c ρ =
-    stopped Speed c.at.ensures c.from_residual.result c.in_err-at.field-0.0 c.in_err-at.was c.from_residual.ensures.1 (says_fast c.face_speeds.ensures ρ)
+    stopped Speed c.at.ensures c.from_residual.result c.in_err-at.field-0.0 c.in_err-at.was c.from_residual.ensures.1
+    (says_fast c.face_speeds.ensures ρ)
 
 pub returns-in_err-at-2 : goal.returns-in_err-at-2
 returns-in_err-at-2 c ρ =
-    stopped Speed c.at-2.ensures c.from_residual-in_err-at-2.result c.in_err-at-2.field-0.0 c.in_err-at-2.was c.from_residual-in_err-at-2.ensures.1
+    stopped Speed c.at-2.ensures c.from_residual-in_err-at-2.result c.in_err-at-2.field-0.0 c.in_err-at-2.was
+    c.from_residual-in_err-at-2.ensures.1
     (says_points c.face_speeds.ensures ρ (passed Speed c.at.ensures c.in_ok-at.was) c.points.ensures.stops)
 
 pub faces-requires-clause-sounds : goal.faces-requires-clause-sounds
@@ -66,13 +69,15 @@ faces-requires-clause-sounds c =
 pub returns-in_err-at-3 : goal.returns-in_err-at-3
 returns-in_err-at-3 c ρ =
     let slow = slowed c.face_speeds.ensures c.at.ensures c.in_ok-at.was c.points.ensures.stops c.at-2.ensures c.in_ok-at-2.was in
-    stopped TimeStep c.at-3.ensures c.from_residual-in_err-at-3.result c.in_err-at-3.field-0.0 c.in_err-at-3.was c.from_residual-in_err-at-3.ensures.1
+    stopped TimeStep c.at-3.ensures c.from_residual-in_err-at-3.result c.in_err-at-3.field-0.0 c.in_err-at-3.was
+    c.from_residual-in_err-at-3.ensures.1
     (says_long slow ρ c.faces.ensures.stops)
 
 pub update-requires-clause-face_rows : goal.update-requires-clause-face_rows
 update-requires-clause-face_rows c =
     let slow = slowed c.face_speeds.ensures c.at.ensures c.in_ok-at.was c.points.ensures.stops c.at-2.ensures c.in_ok-at-2.was in
-    rows_sized slow c.requires.ranged c.requires.numbers c.faces.new.f (filled c.faces.ensures (passed TimeStep c.at-3.ensures c.in_ok-at-3.was))
+    rows_sized slow c.requires.ranged c.requires.numbers c.faces.new.f
+    (filled c.faces.ensures (passed TimeStep c.at-3.ensures c.in_ok-at-3.was))
 
 pub update-requires-clause-momenta : goal.update-requires-clause-momenta
 update-requires-clause-momenta c =
@@ -84,7 +89,8 @@ pub returns : goal.returns
 returns c ρ =
     let slow = slowed c.face_speeds.ensures c.at.ensures c.in_ok-at.was c.points.ensures.stops c.at-2.ensures c.in_ok-at-2.was in
     let short = passed TimeStep c.at-3.ensures c.in_ok-at-3.was in
-    let rows = filled c.faces.ensures short in let points = filled c.points.ensures (passed Speed c.at-2.ensures c.in_ok-at-2.was) in
+    let rows = filled c.faces.ensures short in
+    let points = filled c.points.ensures (passed Speed c.at-2.ensures c.in_ok-at-2.was) in
     record {
       found = says_none slow ρ c.faces.ensures.stops short;
       done = λ z. stage_done slow ρ c.requires.ranged c.requires.numbers c.faces.new.f c.points.new.g rows points _ c.update.ensures;

@@ -11,5 +11,6 @@ loop-i-preserved c =
     let momentum = back {z = get_or a.g.now i (pos 0)} (omega (arith, (c.requires.momenta i (omega arith)).abs)) in
     let written : c.updated.result ≡ as_list (update_at a.course.reach a.course.call a.course.bed.now (seen a.t.now) a.f.now a.g.now i) =
     (rw momentum at c.updated.ensures)
-    ∙ (λ j. as_list (update_by a.course.reach.dx a.course.call.dt (c.under.ensures j) (seen a.t.now i) (get_or a.f.now i []) (get_or a.f.now (next j) []) (get_or a.g.now i (pos 0)))) in
+    ∙ (λ j. as_list (update_by a.course.reach.dx a.course.call.dt (c.under.ensures j) (seen a.t.now i)
+    (get_or a.f.now i []) (get_or a.f.now (next j) []) (get_or a.g.now i (pos 0)))) in
     filled_more [] a.u.now c.loop-i.u i _ _ (omega (arith, c.loop-i.invariant.size)) c.loop-i.invariant written

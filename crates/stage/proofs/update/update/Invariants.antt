@@ -6,4 +6,5 @@ use Rattle.stage.specs.Rows.{update_at}
 use Rattle.stage.proofs.update.update.Given as goal
 
 abbrev pub invariant-loop-i : goal.invariant-loop-i
-invariant-loop-i l = Filled [] l.initial.u l.u l.i (λ k. as_list (update_at l.course.reach l.course.call l.course.bed.now (seen l.t) l.f l.g k))
+invariant-loop-i l = let at = l.course in
+    Filled [] l.initial.u l.u l.i (λ k. as_list (update_at at.reach at.call at.bed.now (seen l.t) l.f l.g k))

@@ -27,5 +27,6 @@ returns c =
       half = λ ρ v shows. let says = c.stage.ensures ρ in
           half_ends some a.a.now shows says went (one_state some v a.a.now shows (says.done went)) (c.end.ensures ρ);
       sized = λ z. ((c.stage.ensures (λ i. pos 0)).done went).faces.sized;
-      ranged = λ z. end_ranged a.course.reach a.course.call a.course.bed.now (λ i. pos 0) (c.end.ensures (λ i. pos 0)) z (λ i l. (c.requires.ranged i l).grounded);
+      ranged = λ z. end_ranged a.course.reach a.course.call a.course.bed.now (λ i. pos 0)
+          (c.end.ensures (λ i. pos 0)) z (λ i l. (c.requires.ranged i l).grounded);
     }

@@ -33,7 +33,8 @@ in_order reach call bed friction {state} {next} n e b = let fit = fitted state n
 
 pub returns-then-bad_lengths : goal.returns-then-bad_lengths
 returns-then-bad_lengths c = let p = c.args in record {
-  found = length_found p.state.now (length p.next.now) p.bed.now p.friction.now p.given (sym c.bad_lengths.ensures ∙ c.if-bad_lengths.true);
+  found = length_found p.state.now (length p.next.now) p.bed.now p.friction.now p.given
+      (sym c.bad_lengths.ensures ∙ c.if-bad_lengths.true);
   some = omega arith;
   kept = refl;
 }
@@ -52,7 +53,8 @@ pub on_own_tables-requires-clause-in_order : goal.on_own_tables-requires-clause-
 on_own_tables-requires-clause-in_order c =
     let p = c.args in
     in_order _ _ p.bed.now p.friction.now (ap (λ (r : Reach). r.n) c.reach_by-reach.ensures)
-    (sym c.bad_lengths.ensures ∙ c.if-bad_lengths.false) (sym (c.bad_numbers.ensures p.bed.now (rough p.friction.now)) ∙ c.if-bad_numbers.false)
+    (sym c.bad_lengths.ensures ∙ c.if-bad_lengths.false)
+    (sym (c.bad_numbers.ensures p.bed.now (rough p.friction.now)) ∙ c.if-bad_numbers.false)
 
 pub returns-then-n-le-SHORT_CELLS : goal.returns-then-n-le-SHORT_CELLS
 returns-then-n-le-SHORT_CELLS c =
@@ -66,7 +68,8 @@ pub on_own_tables-requires-2-clause-in_order : goal.on_own_tables-requires-2-cla
 on_own_tables-requires-2-clause-in_order c =
     let p = c.args in
     in_order _ _ p.bed.now p.friction.now (ap (λ (r : Reach). r.n) c.reach_by-reach.ensures)
-    (sym c.bad_lengths.ensures ∙ c.if-bad_lengths.false) (sym (c.bad_numbers.ensures p.bed.now (rough p.friction.now)) ∙ c.if-bad_numbers.false)
+    (sym c.bad_lengths.ensures ∙ c.if-bad_lengths.false)
+    (sym (c.bad_numbers.ensures p.bed.now (rough p.friction.now)) ∙ c.if-bad_numbers.false)
 
 pub on_own_tables-requires-2-clause-room : goal.on_own_tables-requires-2-clause-room
 on_own_tables-requires-2-clause-room c =
