@@ -111,7 +111,7 @@ pub fn list(line: &[u8], k: u64) -> [u64; 24] {
     over_again(l, n)
 }
 
-// The 64 bits x as a number with a sign; one that no i32 holds becomes 0.
+// The 64 bits x as a number with a sign; one that no i32 holds becomes 0, as does the least that one holds.
 fn narrow(x: u64) -> i32 {
     if x < 0x8000_0000 {
         return x as i32;

@@ -30,9 +30,10 @@ unfoldable pub volumes_of : Outcome → List ℤ → List ℤ
 volumes_of (refused k p) old = old
 volumes_of (accepted t w v) old = set (set old 0 w) 1 v
 
--- the number, the new state, the volumes, and the place, which every outcome writes
+-- the number, which is one of the list, the new state, the volumes, and the place, which every outcome writes
 pub record StepTold (o : Outcome) (r : ℕ) (old new volumes volumes' : List ℤ) (places places' : List ℕ) : Type 0 where
-  pub number : r ≡ number_in o
+  pub number : r ≡ code (answer o)
+  pub listed : code (answer o) ≡ number_in o
   pub table : new ≡ leaves o old
   pub crossed : volumes' ≡ volumes_of o volumes
   pub place : places' ≡ set places 0 (placed (answer o))
@@ -166,7 +167,8 @@ same_volumes (accepted t w v) old = refl
 pub step_told : {o : Outcome} {a : Answer} {r : ℕ} {old new volumes volumes' : List ℤ} {places places' : List ℕ}
     → Gives o a old new → AnswerTold a r volumes volumes' places places' → StepTold o r old new volumes volumes' places places'
 step_told {o} {volumes = vs} {places = ps} g t = record {
-  number = t.number ∙ g.number;
+  number = t.number ∙ ap code g.says;
+  listed = sym (ap code g.says) ∙ g.number;
   table = g.table;
   crossed = t.crossed ∙ ap (λ (a : Answer). volumes_in a vs) g.says ∙ same_volumes o vs;
   place = t.place ∙ ap (λ (a : Answer). set ps 0 (placed a)) g.says;

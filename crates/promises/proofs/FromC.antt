@@ -10,14 +10,13 @@ use Rattle.rules.specs.Refusals.{applies, Clear}
 use Rattle.rules.specs.Lent.{Lent, cells_of, misfits, filled, crossed, step_of}
 use Rattle.survey.specs.Turned.{turned_table, turned_call}
 use Rattle.face.specs.Given.{side, face_given}
-use Rattle.step.specs.Gives.{Answer, Gives, code, placed, volumes, both, answer}
+use Rattle.step.specs.Gives.{Answer, placed, volumes, both, answer}
 use Rattle.editor.specs.Told as told
 use Rattle.editor.specs.Told.{StepTold, FaceTold, DoubleTold, RootTold}
 use Rattle.promises.specs.Seen.{all_checks, check_five, FirstMet, FirstMetAt, at, discharge, discharge_slope, mean_depth}
 use Rattle.promises.specs.Seen.{NoneBelow, Excess, stage_table, water, Listed, most_passed, brought, Lake}
 use Rattle.promises.specs.Seen.{lending, Called, Calls, none, more, NoInflow, CalledFromC, CallsFromC, none_c, more_c, NoneComesIn}
 use Rattle.promises.specs.ToldAnswers.{gave, onto, over, place_is, volumes_kept, volumes_are, volumes_told}
-use Rattle.promises.proofs.Outcomes.{own}
 use Rattle.promises.proofs.Promises as page
 
 -- ---- demand 1: one number, and one content of each lent table, of every call from C
@@ -40,53 +39,44 @@ module _ (l : Lent) {r : ℕ} {old new vs vs' : List ℤ} {ps ps' : List ℕ} (g
   abbrev said : Answer
   said = answer (step_of l)
 
-  gives : Gives (step_of l) said old new
-  gives = gave g (own l)
-
-  onto_r : (P : ℕ → Type 0) → P (code said) → P r
-  onto_r P x = onto g (own l) P x
-
-  over_r : (P : ℕ → Type 0) → P r → P (code said)
-  over_r P x = over g (own l) P x
-
   -- ---- demand 1: refused with k exactly when a check numbered k is the first one met, a number from 1 to 8;
   pub refused_first : 0 < r → FirstMet r (all_checks l)
-  refused_first some = onto_r (λ k. FirstMet k (all_checks l)) (page.refused_first l said old new gives (over_r (λ k. 0 < k) some))
+  refused_first some = onto g (λ k. FirstMet k (all_checks l)) (page.refused_first l said old new (gave g) (over g (λ k. 0 < k) some))
 
   pub first_refused : (k : ℕ) → FirstMet k (all_checks l) → r ≡ k
-  first_refused k f = onto_r (λ m. m ≡ k) (page.first_refused l said old new gives k f)
+  first_refused k f = onto g (λ m. m ≡ k) (page.first_refused l said old new (gave g) k f)
 
   pub refused_listed : r < 9
-  refused_listed = onto_r (λ k. k < 9) (page.refused_listed l said old new gives)
+  refused_listed = onto g (λ k. k < 9) (page.refused_listed l said old new (gave g))
 
   -- the table and the volumes then hold what they held;
   pub refused_untouched : 0 < r → (new ≡ old) × (vs' ≡ vs)
-  refused_untouched some = ((page.refused_untouched l said old new gives (over_r (λ m. 0 < m) some)).0, volumes_kept g some)
+  refused_untouched some = ((page.refused_untouched l said old new (gave g) (over g (λ m. 0 < m) some)).0, volumes_kept g some)
 
   -- the place is the lowest at which it is met, 0 for a 1, for a 2 and when the call is accepted, and never past the last face;
   pub refused_at : length ps ≡ 1 → 0 < r → FirstMetAt r (get_or ps' 0 0) (all_checks l)
   refused_at one some = subst (λ (p : ℕ). FirstMetAt r p (all_checks l)) (sym (place_is g one))
-      (onto_r (λ k. FirstMetAt k (placed said) (all_checks l)) (page.refused_at l said old new gives (over_r (λ k. 0 < k) some)))
+      (onto g (λ k. FirstMetAt k (placed said) (all_checks l)) (page.refused_at l said old new (gave g) (over g (λ k. 0 < k) some)))
 
   pub at_refused : length ps ≡ 1 → (k p : ℕ) → FirstMetAt k p (all_checks l) → (r ≡ k) × (get_or ps' 0 0 ≡ p)
-  at_refused one k p f = let is = page.at_refused l said old new gives k p f in (onto_r (λ m. m ≡ k) is.0, place_is g one ∙ is.1)
+  at_refused one k p f = let is = page.at_refused l said old new (gave g) k p f in (onto g (λ m. m ≡ k) is.0, place_is g one ∙ is.1)
 
   pub refused_whole : length ps ≡ 1 → r ≤ 2 → get_or ps' 0 0 ≡ 0
-  refused_whole one few = place_is g one ∙ page.refused_whole l said old new gives (over_r (λ k. k ≤ 2) few)
+  refused_whole one few = place_is g one ∙ page.refused_whole l said old new (gave g) (over g (λ k. k ≤ 2) few)
 
   pub refused_within : length ps ≡ 1 → get_or ps' 0 0 ≤ cells_of l
-  refused_within one = subst (λ (p : ℕ). p ≤ cells_of l) (sym (place_is g one)) (page.refused_within l said old new gives)
+  refused_within one = subst (λ (p : ℕ). p ≤ cells_of l) (sym (place_is g one)) (page.refused_within l said old new (gave g))
 
   -- and accepted exactly when none is met
   pub accepted_clear : r ≡ 0 → Clear (all_checks l)
-  accepted_clear e = page.accepted_clear l said old new gives (over_r (λ k. k ≡ 0) e)
+  accepted_clear e = page.accepted_clear l said old new (gave g) (over g (λ k. k ≡ 0) e)
 
   pub clear_accepted : Clear (all_checks l) → r ≡ 0
-  clear_accepted k = onto_r (λ m. m ≡ 0) (page.clear_accepted l said old new gives k)
+  clear_accepted k = onto g (λ m. m ≡ 0) (page.clear_accepted l said old new (gave g) k)
 
   -- ---- demand 2: the table and the volumes of an accepted call are those of the rules' two stages, number for number
   rules : r ≡ 0 → (new ≡ filled l) × (volumes said ≡ both (crossed l 0) (crossed l (cells_of l)))
-  rules e = page.accepted_rules l said old new gives (over_r (λ m. m ≡ 0) e)
+  rules e = page.accepted_rules l said old new (gave g) (over g (λ m. m ≡ 0) e)
 
   pub accepted_rules : length vs ≡ 2 → r ≡ 0 → (new ≡ filled l) × (at vs' 0 ≡ crossed l 0) × (at vs' 1 ≡ crossed l (cells_of l))
   accepted_rules two e = let k = rules e in let v = volumes_are g two (crossed l 0) (crossed l (cells_of l)) k.1 in (k.0, v.0, v.1)
@@ -94,11 +84,11 @@ module _ (l : Lent) {r : ℕ} {old new vs vs' : List ℤ} {ps ps' : List ℕ} (g
   -- the dry depth is each call's own: what an accepted one writes has no discharge where it is no deeper
   pub shallow_calm : r ≡ 0 → (i : ℕ) → i < cells_of l → mean_depth l.bed new (cells_of l) i ≤ℤ pos l.dry
       → (discharge new (cells_of l) i ≡ pos 0) × (discharge_slope new (cells_of l) i ≡ pos 0)
-  shallow_calm e i m d = page.shallow_calm l said old new gives (over_r (λ k. k ≡ 0) e) i m d
+  shallow_calm e i m d = page.shallow_calm l said old new (gave g) (over g (λ k. k ≡ 0) e) i m d
 
   -- the ends of an accepted call are in their lists;
   pub ends_listed : r ≡ 0 → Listed l.left × Listed l.right
-  ends_listed e = page.ends_listed l said (crossed l 0) (crossed l (cells_of l)) old new (rules e).1 gives
+  ends_listed e = page.ends_listed l said (crossed l 0) (crossed l (cells_of l)) old new (rules e).1 (gave g)
 
   -- nothing crosses a wall, at an inflow Q·dt/dx comes in, and at a wall or an open end no more than 131,072 passes either way
   module _ (two : length vs ≡ 2) (e : r ≡ 0) where
@@ -106,39 +96,39 @@ module _ (l : Lent) {r : ℕ} {old new vs vs' : List ℤ} {ps ps' : List ℕ} (g
     wrote = volumes_told g two (crossed l 0) (crossed l (cells_of l)) (rules e).1
 
     pub left_wall : l.left.kind ≡ 0 → at vs' 0 ≡ pos 0
-    left_wall k = page.left_wall l said (at vs' 0) (at vs' 1) old new wrote gives k
+    left_wall k = page.left_wall l said (at vs' 0) (at vs' 1) old new wrote (gave g) k
 
     pub right_wall : l.right.kind ≡ 0 → at vs' 1 ≡ pos 0
-    right_wall k = page.right_wall l said (at vs' 0) (at vs' 1) old new wrote gives k
+    right_wall k = page.right_wall l said (at vs' 0) (at vs' 1) old new wrote (gave g) k
 
     pub left_inflow : l.left.kind ≡ 2 → at vs' 0 ≡ brought l l.left
-    left_inflow k = page.left_inflow l said (at vs' 0) (at vs' 1) old new wrote gives k
+    left_inflow k = page.left_inflow l said (at vs' 0) (at vs' 1) old new wrote (gave g) k
 
     pub right_inflow : l.right.kind ≡ 2 → at vs' 1 ≡ neg_ℤ (brought l l.right)
-    right_inflow k = page.right_inflow l said (at vs' 0) (at vs' 1) old new wrote gives k
+    right_inflow k = page.right_inflow l said (at vs' 0) (at vs' 1) old new wrote (gave g) k
 
     pub left_within : (l.left.kind ≡ 2 → ⊥) → size_z (at vs' 0) ≤ℤ most_passed
-    left_within k = page.left_within l said (at vs' 0) (at vs' 1) old new wrote gives k
+    left_within k = page.left_within l said (at vs' 0) (at vs' 1) old new wrote (gave g) k
 
     pub right_within : (l.right.kind ≡ 2 → ⊥) → size_z (at vs' 1) ≤ℤ most_passed
-    right_within k = page.right_within l said (at vs' 0) (at vs' 1) old new wrote gives k
+    right_within k = page.right_within l said (at vs' 0) (at vs' 1) old new wrote (gave g) k
 
   -- ---- demand 3, of any call (that no depth is below nought in a stage that it reaches is said of what is lent, in `Promises`): what an
   -- accepted one wrote passes check 5 when it is lent again on that bed
   pub lent_again : r ≡ 0 → (m : Lent) → m.now ≡ new → m.bed ≡ l.bed → cells_of m ≡ cells_of l → applies (check_five m) ≡ false
-  lent_again e m now bed cells = page.lent_again l said old new gives (over_r (λ k. k ≡ 0) e) m now bed cells
+  lent_again e m now bed cells = page.lent_again l said old new (gave g) (over g (λ k. k ≡ 0) e) m now bed cells
 
   -- so no call that is lent it gives a 5
   pub never_five : r ≡ 0 → (m : Lent) → m.now ≡ new → m.bed ≡ l.bed → cells_of m ≡ cells_of l → {r' : ℕ} {old' new' us us' : List ℤ}
       {qs qs' : List ℕ} → StepTold (step_of m) r' old' new' us us' qs qs' → r' ≡ 5 → ⊥
   never_five e m now bed cells {old' = old'} {new' = new'} h five =
-      page.never_five l said old new gives (over_r (λ k. k ≡ 0) e) m now bed cells (answer (step_of m)) old' new'
-      (gave h (own m)) (over h (own m) (λ k. k ≡ 5) five)
+      page.never_five l said old new (gave g) (over g (λ k. k ≡ 0) e) m now bed cells (answer (step_of m)) old' new'
+      (gave h) (over h (λ k. k ≡ 5) five)
 
   -- a lake at rest into which no water is brought can, where what is lent passes 1 to 5, be refused by 7 alone
   pub lake_seven : Lake l.bed l.now (cells_of l) → l.left.q ≡ 0 → l.right.q ≡ 0 → 5 < r → r ≡ 7
   lake_seven lake left right high =
-      onto_r (λ k. k ≡ 7) (page.lake_seven l said old new gives lake left right (over_r (λ k. 5 < k) high))
+      onto g (λ k. k ≡ 7) (page.lake_seven l said old new (gave g) lake left right (over g (λ k. 5 < k) high))
 
   -- ---- E9: a call turned round gives the same number, and when it is accepted the turned table and the volumes exchanged, with their
   -- signs changed
@@ -148,17 +138,14 @@ module _ (l : Lent) {r : ℕ} {old new vs vs' : List ℤ} {ps ps' : List ℕ} (g
     said_there = answer (step_of (turned_call l))
 
     pub turned_number : r' ≡ r
-    turned_number =
-        let there = own (turned_call l) in
-        let same = page.turned_number l fit said said_there old new old' new' gives (gave h there) in
-        h.number ∙ sym there ∙ same.0 ∙ own l ∙ sym g.number
+    turned_number = h.number ∙ (page.turned_number l fit said said_there old new old' new' (gave g) (gave h)).0 ∙ sym g.number
 
     pub turned_accepted : length vs ≡ 2 → length us ≡ 2 → r ≡ 0
         → (new' ≡ turned_table (cells_of l) new) × (at us' 0 ≡ neg_ℤ (at vs' 1)) × (at us' 1 ≡ neg_ℤ (at vs' 0))
     turned_accepted two two' e =
         let w = crossed l 0 in let v = crossed l (cells_of l) in
         let is = (rules e).1 in let here = volumes_are g two w v is in
-        let turned = page.turned_accepted l said said_there w v old new old' new' is gives (gave h (own (turned_call l))) in
+        let turned = page.turned_accepted l said said_there w v old new old' new' is (gave g) (gave h) in
         let far = volumes_are h two' (neg_ℤ v) (neg_ℤ w) turned.0 in
         (turned.1, far.0 ∙ sym (ap neg_ℤ here.1), far.1 ∙ sym (ap neg_ℤ here.0))
 
@@ -167,7 +154,7 @@ module _ {bed : List ℤ} {n dx : ℕ} where
   -- they are calls of `step`, with the volumes that they wrote
   abbrev called : {s : List ℤ} {r : ℕ} {old m vs vs' : List ℤ} {ps ps' : List ℕ} (c : CalledFromC bed n dx s r old m vs vs' ps ps')
       → Called bed n dx s (answer (step_of (lending bed dx s (length old) c.given))) old m
-  called {s} {old = old} c = record { given = c.given; gave = gave c.told (own (lending bed dx s (length old) c.given)) }
+  called c = record { given = c.given; gave = gave c.told }
 
   calls : {s t : List ℤ} {a b : ℤ} → CallsFromC bed n dx s t a b → Calls bed n dx s t a b
   calls (none_c t) = none t
@@ -200,8 +187,7 @@ module _ {bed : List ℤ} {n dx : ℕ} where
       → let l = lending bed dx s (length old) c.given in
       (NoneBelow bed (stage_table l) n × Excess bed (stage_table l) n) ⊎ (NoneBelow bed (filled l) n × Excess bed (filled l) n)
   eight_too_large {s} {old} {m} c =
-      let l = lending bed dx s (length old) c.given in
-      page.eight_too_large bed n dx s (answer (step_of l)) old m (called c) (own l ∙ sym c.told.number)
+      page.eight_too_large bed n dx s (answer (step_of (lending bed dx s (length old) c.given))) old m (called c) (sym c.told.number)
 
   -- a lake at rest into which no water is brought keeps every number of its table, and nothing crosses its ends
   none_comes_in : {s t : List ℤ} {a b : ℤ} (k : CallsFromC bed n dx s t a b) → NoneComesIn k → NoInflow (calls k)

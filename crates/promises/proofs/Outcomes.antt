@@ -40,13 +40,13 @@ use Rattle.rules.proofs.Laws.Runs.{accepted as accepted-call, accepted_ends, Dep
 use Rattle.rules.proofs.Laws.Runs.{TooLarge, Large}
 use Rattle.rules.specs.Laws.Rest as rest-words
 use Rattle.rules.specs.Laws.Chain.{Chain, stop, step}
-use Rattle.step.specs.Gives.{Answer, code, placed, volumes, both, answer, number_in, Gives}
+use Rattle.step.specs.Gives.{Answer, code, placed, volumes, both, Gives}
 use Rattle.promises.specs.Seen.{at, level, level_slope, discharge, discharge_slope, mean_bed, bed_slope, mean_depth, left_depth}
 use Rattle.promises.specs.Seen.{right_depth, NoneBelow, Excess, total, water, Listed, most_passed, brought, Lake}
 use Rattle.promises.specs.Seen.{all_checks, check_five, Called, lent, Calls, none, more, NoInflow}
 use Rattle.promises.specs.First.{listed}
 use Rattle.promises.specs.ByChecks as call
-use Rattle.promises.specs.ByChecks.{own_number, ByChecks}
+use Rattle.promises.specs.ByChecks.{ByChecks}
 use Rattle.promises.specs.Outcomes.{Taken, reach_at, One, AStep, ShutStep}
 
 -- ---- a call by its checks
@@ -83,11 +83,6 @@ module _ (l : Lent) where
   pub all_within : Within (cells_of l) (all_checks l)
   unfolding all_checks
   all_within = (omega arith, checks_within (reach_of l) (call_of l) (state_of l))
-
-  -- so its answer has the outcome's own number
-  pub own : code (answer (step_of l)) ≡ number_in (step_of l)
-  own = subst (λ (o : Outcome). code (answer o) ≡ number_in o) (sym step_is)
-      (own_number (all_checks l) (filled l) (crossed l 0) (crossed l (cells_of l)) all_listed)
 
   -- ---- by the number of its answer
   module _ {a : Answer} {old new : List ℤ} (g : Gives (step_of l) a old new) where

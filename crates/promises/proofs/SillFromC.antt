@@ -10,14 +10,13 @@ use Rattle.tables.specs.Some.{IsLowest}
 use Rattle.rules.specs.Refusals.{applies, Clear}
 use Rattle.rules.proofs.Laws.Chain.{chain_as}
 use Rattle.sill_rules.specs.Lent.{Lent, cells_of, all_checks, filled, crossed, step_of}
-use Rattle.reach.specs.Gives.{Answer, Gives, code, placed, volumes, both, answer}
+use Rattle.reach.specs.Gives.{Answer, placed, volumes, both, answer}
 use Rattle.editor.specs.Told as told
 use Rattle.editor.specs.Told.{StepTold}
 use Rattle.promises.specs.Seen.{FirstMet, FirstMetAt, at, most_passed}
 use Rattle.promises.specs.SeenSill.{check_five, fast_cell, discharge, depth, NoneBelow, Excess, water, Lake}
 use Rattle.promises.specs.SeenSill.{lending, Called, AcceptedCall, Calls, CalledFromC, AcceptedFromC, CallsFromC}
 use Rattle.promises.specs.ToldAnswers.{gave, onto, over, place_is, volumes_kept, volumes_are, volumes_told}
-use Rattle.promises.proofs.SillTables.{own}
 use Rattle.promises.proofs.Sill as page
 
 -- ---- demand 1: one number, and one content of each lent table
@@ -29,58 +28,49 @@ module _ (l : Lent) {r : ℕ} {old new vs vs' : List ℤ} {ps ps' : List ℕ} (g
   abbrev said : Answer
   said = answer (step_of l)
 
-  gives : Gives (step_of l) said old new
-  gives = gave g (own l)
-
-  onto_r : (P : ℕ → Type 0) → P (code said) → P r
-  onto_r P x = onto g (own l) P x
-
-  over_r : (P : ℕ → Type 0) → P r → P (code said)
-  over_r P x = over g (own l) P x
-
   -- refused with k exactly when a check numbered k is the first one met, a number from 1 to 8;
   pub refused_first : 0 < r → FirstMet r (all_checks l)
-  refused_first some = onto_r (λ k. FirstMet k (all_checks l)) (page.refused_first l said old new gives (over_r (λ k. 0 < k) some))
+  refused_first some = onto g (λ k. FirstMet k (all_checks l)) (page.refused_first l said old new (gave g) (over g (λ k. 0 < k) some))
 
   pub first_refused : (k : ℕ) → FirstMet k (all_checks l) → r ≡ k
-  first_refused k f = onto_r (λ m. m ≡ k) (page.first_refused l said old new gives k f)
+  first_refused k f = onto g (λ m. m ≡ k) (page.first_refused l said old new (gave g) k f)
 
   pub refused_listed : r < 9
-  refused_listed = onto_r (λ k. k < 9) (page.refused_listed l said old new gives)
+  refused_listed = onto g (λ k. k < 9) (page.refused_listed l said old new (gave g))
 
   -- the table and the volumes then hold what they held;
   pub refused_untouched : 0 < r → (new ≡ old) × (vs' ≡ vs)
-  refused_untouched some = ((page.refused_untouched l said old new gives (over_r (λ m. 0 < m) some)).0, volumes_kept g some)
+  refused_untouched some = ((page.refused_untouched l said old new (gave g) (over g (λ m. 0 < m) some)).0, volumes_kept g some)
 
   -- the place is the lowest at which it is met, 0 for a 1, for a 2 and when the call is accepted, and never past the last face;
   pub refused_at : length ps ≡ 1 → 0 < r → FirstMetAt r (get_or ps' 0 0) (all_checks l)
   refused_at one some = subst (λ (p : ℕ). FirstMetAt r p (all_checks l)) (sym (place_is g one))
-      (onto_r (λ k. FirstMetAt k (placed said) (all_checks l)) (page.refused_at l said old new gives (over_r (λ k. 0 < k) some)))
+      (onto g (λ k. FirstMetAt k (placed said) (all_checks l)) (page.refused_at l said old new (gave g) (over g (λ k. 0 < k) some)))
 
   pub at_refused : length ps ≡ 1 → (k p : ℕ) → FirstMetAt k p (all_checks l) → (r ≡ k) × (get_or ps' 0 0 ≡ p)
-  at_refused one k p f = let is = page.at_refused l said old new gives k p f in (onto_r (λ m. m ≡ k) is.0, place_is g one ∙ is.1)
+  at_refused one k p f = let is = page.at_refused l said old new (gave g) k p f in (onto g (λ m. m ≡ k) is.0, place_is g one ∙ is.1)
 
   pub refused_whole : length ps ≡ 1 → r ≤ 2 → get_or ps' 0 0 ≡ 0
-  refused_whole one few = place_is g one ∙ page.refused_whole l said old new gives (over_r (λ k. k ≤ 2) few)
+  refused_whole one few = place_is g one ∙ page.refused_whole l said old new (gave g) (over g (λ k. k ≤ 2) few)
 
   pub refused_within : length ps ≡ 1 → get_or ps' 0 0 ≤ cells_of l
-  refused_within one = subst (λ (p : ℕ). p ≤ cells_of l) (sym (place_is g one)) (page.refused_within l said old new gives)
+  refused_within one = subst (λ (p : ℕ). p ≤ cells_of l) (sym (place_is g one)) (page.refused_within l said old new (gave g))
 
   -- that of a 6 is a cell, the lowest whose speed is too great for friction
   pub six_friction : length ps ≡ 1 → r ≡ 6 → IsLowest (fast_cell l) (cells_of l) (get_or ps' 0 0)
   six_friction one e = subst (IsLowest (fast_cell l) (cells_of l)) (sym (place_is g one))
-      (page.six_friction l said old new gives (over_r (λ k. k ≡ 6) e))
+      (page.six_friction l said old new (gave g) (over g (λ k. k ≡ 6) e))
 
   -- and accepted exactly when none is met
   pub accepted_clear : r ≡ 0 → Clear (all_checks l)
-  accepted_clear e = page.accepted_clear l said old new gives (over_r (λ k. k ≡ 0) e)
+  accepted_clear e = page.accepted_clear l said old new (gave g) (over g (λ k. k ≡ 0) e)
 
   pub clear_accepted : Clear (all_checks l) → r ≡ 0
-  clear_accepted k = onto_r (λ m. m ≡ 0) (page.clear_accepted l said old new gives k)
+  clear_accepted k = onto g (λ m. m ≡ 0) (page.clear_accepted l said old new (gave g) k)
 
   -- ---- demand 2: the table and the volumes of an accepted call are those of the rules, number for number
   rules : r ≡ 0 → (new ≡ filled l) × (volumes said ≡ both (crossed l 0) (crossed l (cells_of l)))
-  rules e = page.accepted_rules l said old new gives (over_r (λ m. m ≡ 0) e)
+  rules e = page.accepted_rules l said old new (gave g) (over g (λ m. m ≡ 0) e)
 
   pub accepted_rules : length vs ≡ 2 → r ≡ 0 → (new ≡ filled l) × (at vs' 0 ≡ crossed l 0) × (at vs' 1 ≡ crossed l (cells_of l))
   accepted_rules two e = let k = rules e in let v = volumes_are g two (crossed l 0) (crossed l (cells_of l)) k.1 in (k.0, v.0, v.1)
@@ -88,11 +78,11 @@ module _ (l : Lent) {r : ℕ} {old new vs vs' : List ℤ} {ps ps' : List ℕ} (g
   -- the dry depth is each call's own: what an accepted one writes has no discharge where it is no deeper
   pub shallow_calm : r ≡ 0 → (i : ℕ) → i < cells_of l → depth l.bed new (cells_of l) i ≤ℤ pos l.dry
       → discharge new (cells_of l) i ≡ pos 0
-  shallow_calm e i m d = page.shallow_calm l said old new gives (over_r (λ k. k ≡ 0) e) i m d
+  shallow_calm e i m d = page.shallow_calm l said old new (gave g) (over g (λ k. k ≡ 0) e) i m d
 
   -- the ends of an accepted call are in their lists;
   pub ends_listed : r ≡ 0 → (l.left ≤ 1) × (l.right ≤ 1)
-  ends_listed e = page.ends_listed l said (crossed l 0) (crossed l (cells_of l)) old new (rules e).1 gives
+  ends_listed e = page.ends_listed l said (crossed l 0) (crossed l (cells_of l)) old new (rules e).1 (gave g)
 
   -- nothing crosses a wall, and no more than 131,072 passes either end, either way
   module _ (two : length vs ≡ 2) (e : r ≡ 0) where
@@ -100,31 +90,31 @@ module _ (l : Lent) {r : ℕ} {old new vs vs' : List ℤ} {ps ps' : List ℕ} (g
     wrote = volumes_told g two (crossed l 0) (crossed l (cells_of l)) (rules e).1
 
     pub left_wall : l.left ≡ 0 → at vs' 0 ≡ pos 0
-    left_wall k = page.left_wall l said (at vs' 0) (at vs' 1) old new wrote gives k
+    left_wall k = page.left_wall l said (at vs' 0) (at vs' 1) old new wrote (gave g) k
 
     pub right_wall : l.right ≡ 0 → at vs' 1 ≡ pos 0
-    right_wall k = page.right_wall l said (at vs' 0) (at vs' 1) old new wrote gives k
+    right_wall k = page.right_wall l said (at vs' 0) (at vs' 1) old new wrote (gave g) k
 
     pub left_within : size_z (at vs' 0) ≤ℤ most_passed
-    left_within = page.left_within l said (at vs' 0) (at vs' 1) old new wrote gives
+    left_within = page.left_within l said (at vs' 0) (at vs' 1) old new wrote (gave g)
 
     pub right_within : size_z (at vs' 1) ≤ℤ most_passed
-    right_within = page.right_within l said (at vs' 0) (at vs' 1) old new wrote gives
+    right_within = page.right_within l said (at vs' 0) (at vs' 1) old new wrote (gave g)
 
   -- ---- demand 3, of any call (that no depth is below nought in an end state that it reaches is said of what is lent, in `Sill`): what an
   -- accepted one wrote passes check 5 when it is lent again on that bed
   module _ (e : r ≡ 0) (m : Lent) (now : m.now ≡ new) (bed : m.bed ≡ l.bed) (cells : cells_of m ≡ cells_of l) where
     pub lent_again : applies (check_five m) ≡ false
-    lent_again = page.lent_again l said old new gives (over_r (λ k. k ≡ 0) e) m now bed cells
+    lent_again = page.lent_again l said old new (gave g) (over g (λ k. k ≡ 0) e) m now bed cells
 
     -- so no call that is lent it gives a 5
     pub never_five : {r' : ℕ} {old' new' us us' : List ℤ} {qs qs' : List ℕ} → StepTold (step_of m) r' old' new' us us' qs qs' → r' ≡ 5 → ⊥
-    never_five {old' = old'} {new' = new'} h five = page.never_five l said old new gives (over_r (λ k. k ≡ 0) e) m now bed cells
-        (answer (step_of m)) old' new' (gave h (own m)) (over h (own m) (λ k. k ≡ 5) five)
+    never_five {old' = old'} {new' = new'} h five = page.never_five l said old new (gave g) (over g (λ k. k ≡ 0) e) m now bed cells
+        (answer (step_of m)) old' new' (gave h) (over h (λ k. k ≡ 5) five)
 
   -- a lake at rest can, where what is lent passes 1 to 5, be refused by 7 alone
   pub lake_seven : Lake l.bed l.now (cells_of l) → 5 < r → r ≡ 7
-  lake_seven lake high = onto_r (λ k. k ≡ 7) (page.lake_seven l said old new gives lake (over_r (λ k. 5 < k) high))
+  lake_seven lake high = onto g (λ k. k ≡ 7) (page.lake_seven l said old new (gave g) lake (over g (λ k. 5 < k) high))
 
 -- ---- demand 3, over any number of calls that gave 0, on one bed with n cells of length dx
 module _ {bed : List ℤ} {n dx : ℕ} where
@@ -135,7 +125,7 @@ module _ {bed : List ℤ} {n dx : ℕ} where
   -- they are calls of the step, with the volumes that they wrote
   abbrev called : {s : List ℤ} {r : ℕ} {old m vs vs' : List ℤ} {ps ps' : List ℕ} (c : CalledFromC bed n dx s r old m vs vs' ps ps')
       → Called bed n dx s (answer (step_of (lent_to c))) old m
-  called c = record { given = c.given; gave = gave c.told (own (lent_to c)) }
+  called c = record { given = c.given; gave = gave c.told }
 
   taken : (s m : List ℤ) (w v : ℤ) → AcceptedFromC bed n dx s m w v → AcceptedCall bed n dx s m w v
   taken s m w v k = record {
@@ -172,7 +162,7 @@ module _ {bed : List ℤ} {n dx : ℕ} where
   pub eight_too_large : {s old m vs vs' : List ℤ} {ps ps' : List ℕ} (c : CalledFromC bed n dx s 8 old m vs vs' ps ps')
       → NoneBelow bed (filled (lent_to c)) n × Excess bed (filled (lent_to c)) n
   eight_too_large {s} {old} {m} c =
-      page.eight_too_large bed n dx s (answer (step_of (lent_to c))) old m (called c) (own (lent_to c) ∙ sym c.told.number)
+      page.eight_too_large bed n dx s (answer (step_of (lent_to c))) old m (called c) (sym c.told.number)
 
   -- a lake at rest keeps every number of its table, and nothing crosses its ends
   pub lake_rests : {s t : List ℤ} {a b : ℤ} → CallsFromC bed n dx s t a b → Lake bed s n → (t ≡ s) × (a ≡ pos 0) × (b ≡ pos 0)

@@ -39,12 +39,12 @@ use Rattle.sill_rules.proofs.Laws.StillChecks.{input, seven_alone}
 use Rattle.sill_rules.proofs.Laws.EndVolumes.{left_shut, right_shut, left_most, right_most}
 use Rattle.sill_rules.proofs.Laws.Accepted.{fine, accepted as accepted-call, accepted_early, accepted_depths, accepted_rest}
 use Rattle.sill_rules.proofs.Laws.Accepted.{TooLarge, Large}
-use Rattle.reach.specs.Gives.{Answer, code, answer, number_in, Gives}
+use Rattle.reach.specs.Gives.{Answer, Gives}
 use Rattle.promises.specs.Seen.{FirstMetAt, total, most_passed}
 use Rattle.promises.specs.SeenSill.{check_five, fast_cell, discharge, depth, NoneBelow, Excess, water, left_bed, right_bed}
 use Rattle.promises.specs.SeenSill.{left_depth, right_depth, Lake, lent, AcceptedCall}
 use Rattle.promises.specs.First.{first_verdict, first_of, first_found, found_first, first_split, listed}
-use Rattle.promises.specs.ByChecks.{own_number, ByChecks, taken}
+use Rattle.promises.specs.ByChecks.{ByChecks, taken}
 use Rattle.promises.specs.SillTables.{reach_at, One}
 
 -- ---- a call by its checks
@@ -70,11 +70,6 @@ module _ (l : Lent) where
   pub all_listed : T (listed (all_checks l))
   unfolding all_checks checks early
   all_listed = tt
-
-  -- so its answer has the outcome's own number
-  pub own : code (answer (step_of l)) ≡ number_in (step_of l)
-  unfolding step_of
-  own = own_number (all_checks l) (filled l) (crossed l 0) (crossed l n) all_listed
 
   pub ones_whole : T (one_only 1 (all_checks l))
   unfolding all_checks checks early

@@ -12,10 +12,10 @@ use Rattle.rules.specs.StateAndBed.{cells_over, misfit_state}
 use Rattle.rules.specs.Sums.{blocks_of, sums_of, misfit_sums}
 use Rattle.rules.specs.Sums.{Making, making_of, making_checks, Reading, reading, Question, unanswered, answered, between_of}
 use Rattle.rules.specs.Sums.{question_checks, keeping_of}
-use Rattle.rules.proofs.Laws.Questions.{sums_fit, unkept, kept_step}
+use Rattle.rules.proofs.Laws.Questions.{sums_fit, kept_step}
 use Rattle.rules.proofs.Laws.Questions.{disordered, unanswered_sums, unanswered_state, unanswered_faces, all_answered}
 use Rattle.reach.specs.Refusals.{told_number}
-use Rattle.reach.specs.Gives.{Answer, refusal_of, code, volumes, both, answer, number_in}
+use Rattle.reach.specs.Gives.{Answer, refusal_of, code, volumes, both, answer}
 use Rattle.sums.specs.Gives.{Made, Amount, made_answer, MakingGives, asked, question_code, KeepingGives}
 use Rattle.whole.specs.Flags.{by}
 use Rattle.editor.specs.Told as told
@@ -25,7 +25,6 @@ use Rattle.promises.specs.SeenSums.{water_between, MadeFrom, by_making, CallsKee
 use Rattle.promises.specs.SeenSums.{CallsKeepingFromC, none_c, more_c}
 use Rattle.promises.proofs.FromC.{wrote}
 use Rattle.promises.specs.ToldAnswers as step-told
-use Rattle.promises.proofs.Outcomes.{own}
 use Rattle.promises.proofs.Sums as page
 
 -- ---- one number, and one content of each lent table
@@ -78,21 +77,14 @@ module _ (l : Lent) {r : ℕ} {old new was sums vs vs' : List ℤ} {ps ps' : Lis
   abbrev answers : Answer
   answers = answer (keeping_of l (length was))
 
-  -- it has the outcome's own number
-  own_kept : code answers ≡ number_in (keeping_of l (length was))
-  unfolding code answer refusal_of number_in
-  own_kept = by (misfit_sums (length was) (cells_of l))
-      (λ b. let e = unkept l (length was) b in ap (λ (o : Outcome). code (answer o)) e ∙ sym (ap number_in e))
-      (λ b. let e = kept_step l (length was) b in ap (λ (o : Outcome). code (answer o)) e ∙ own l ∙ sym (ap number_in e))
-
   kept : KeepingGives l answers old new was sums
-  kept = record { step = step-told.gave g.step own_kept; kept = g.kept }
+  kept = record { step = step-told.gave g.step; kept = g.kept }
 
   step_code : (P : ℕ → Type 0) → P r → P (code answers)
-  step_code P x = step-told.over g.step own_kept P x
+  step_code P x = step-told.over g.step P x
 
   pub step_misfit : (length was ≡ blocks_of (cells_of l) → ⊥) → (r ≡ 1) × (new ≡ old) × (sums ≡ was)
-  step_misfit f = let z = page.step_misfit l kept f in (g.step.number ∙ sym own_kept ∙ z.0, z.2, z.3)
+  step_misfit f = let z = page.step_misfit l kept f in (g.step.number ∙ z.0, z.2, z.3)
 
   -- with sums that fit it is `bassoonsun_step`, of which all that `FromC` says is said
   pub step_same : length was ≡ blocks_of (cells_of l) → StepTold (step_of l) r old new vs vs' ps ps'

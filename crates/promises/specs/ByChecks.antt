@@ -13,7 +13,7 @@ use Rattle.rules.specs.Found.{Found, at}
 use Rattle.rules.proofs.Laws.Verdicts.{cleared, none_stops}
 use Rattle.rules.proofs.Laws.Outcome.{accepts, refuses}
 use Rattle.rules.proofs.Laws.Within.{Within, spot_within, one_only, spot_whole}
-use Rattle.reach.specs.Gives.{Answer, code, placed, volumes, absent, both, refusal_of, Gives, answer, number_in, leaves, numbered}
+use Rattle.reach.specs.Gives.{Answer, code, placed, volumes, absent, both, refusal_of, Gives, answer, number_in, leaves}
 use Rattle.promises.specs.Seen.{FirstMet, FirstMetAt}
 use Rattle.promises.specs.First.{first_verdict, verdict_first, first_of, first_found, found_first, listed, first_listed, listed_some}
 
@@ -27,25 +27,13 @@ volumes_code (Ok x) w v e = refl
 abbrev pub accepted_with : ℤ → ℤ → Answer
 accepted_with w v = Ok (record { first = w; last = v })
 
--- ---- the number of the outcome is the verdict's; and where every check of the list has a number from 1 to 8, its answer has that number
+-- ---- the number of the outcome is the verdict's
 module _ (xs : List Check) (t : List ℤ) (w v : ℤ) where
   outcome_number : number_in (outcome xs t w v) ≡ verdict xs
   unfolding number_in
   outcome_number = by (eqb (verdict xs) 0)
       (λ b. let e = eqb-true (verdict xs) 0 b in ap number_in (accepts t w v xs e) ∙ sym e)
       (λ b. ap number_in (refuses t w v xs (eqb-false (verdict xs) 0 b)))
-
-  pub own_number : T (listed xs) → code (answer (outcome xs t w v)) ≡ number_in (outcome xs t w v)
-  unfolding code answer number_in
-  own_number ok = by (eqb (verdict xs) 0)
-      (λ b. let e = accepts t w v xs (eqb-true (verdict xs) 0 b) in ap (λ (o : Outcome). code (answer o)) e ∙ sym (ap number_in e))
-      (λ b.
-      let f = eqb-false (verdict xs) 0 b in let e = refuses t w v xs f in
-      let in_list = first_listed (verdict xs) (verdict_first (verdict xs) xs (some f) refl) ok in
-      ap (λ (o : Outcome). code (answer o)) e ∙ numbered (verdict xs) in_list.0 in_list.1 ∙ sym (ap number_in e))
-    where
-      some : (verdict xs ≡ 0 → ⊥) → 0 < verdict xs
-      some f = omega (arith, f)
 
 -- a call with the checks xs, that fills the table t and has the volumes w and v where none of them applies
 pub record ByChecks (xs : List Check) (t : List ℤ) (w v : ℤ) (a : Answer) (old new : List ℤ) : Type 0 where

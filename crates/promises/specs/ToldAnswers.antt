@@ -4,13 +4,13 @@
 use Rattle.std.specs.Prelude.{◌≡◌, refl, List, ℕ, ◌<◌, length, get_or, set, ℤ, pos}
 use Rattle.std.proofs.Common.{sym, ◌∙◌, ap, subst, arith, length-set, get_or-set_same, get_or-set_other}
 use Rattle.rules.specs.Lent.{Outcome, refused, accepted}
-use Rattle.reach.specs.Gives.{code, placed, volumes, both, answer, number_in, Gives}
+use Rattle.reach.specs.Gives.{code, placed, volumes, both, answer, Gives}
 use Rattle.editor.specs.Told.{volumes_of, StepTold}
 use Rattle.promises.specs.Seen.{at}
 
 -- what an outcome leaves in the two volumes
-untouched : (o : Outcome) (vs : List ℤ) → 0 < number_in o → volumes_of o vs ≡ vs
-unfolding number_in volumes_of
+untouched : (o : Outcome) (vs : List ℤ) → 0 < code (answer o) → volumes_of o vs ≡ vs
+unfolding code answer volumes_of
 untouched (refused k p) vs some = refl
 untouched (accepted t w v) vs some = let z : ⊥ = omega arith in absurd z
 
@@ -25,18 +25,16 @@ written (accepted t x y) vs two w v is =
     )
 
 module _ {o : Outcome} {r : ℕ} {old new vs vs' : List ℤ} {ps ps' : List ℕ} (g : StepTold o r old new vs vs' ps ps') where
-  -- where the answer has the outcome's own number
-  module _ (own : code (answer o) ≡ number_in o) where
-    -- the answer and the table
-    pub gave : Gives o (answer o) old new
-    gave = record { says = refl; number = own; table = g.table }
+  -- the answer and the table
+  pub gave : Gives o (answer o) old new
+  gave = record { says = refl; number = g.listed; table = g.table }
 
-    -- what is so of the answer's number is so of r, and the other way round
-    pub onto : (P : ℕ → Type 0) → P (code (answer o)) → P r
-    onto P x = subst P (own ∙ sym g.number) x
+  -- what is so of the answer's number is so of r, and the other way round
+  pub onto : (P : ℕ → Type 0) → P (code (answer o)) → P r
+  onto P x = subst P (sym g.number) x
 
-    pub over : (P : ℕ → Type 0) → P r → P (code (answer o))
-    over P x = subst P (g.number ∙ sym own) x
+  pub over : (P : ℕ → Type 0) → P r → P (code (answer o))
+  over P x = subst P g.number x
 
   -- the place that is written
   pub place_is : length ps ≡ 1 → get_or ps' 0 0 ≡ placed (answer o)
@@ -44,7 +42,7 @@ module _ {o : Outcome} {r : ℕ} {old new vs vs' : List ℤ} {ps ps' : List ℕ}
 
   -- the volumes that a refusal, and an accepted step, leave
   pub volumes_kept : 0 < r → vs' ≡ vs
-  volumes_kept some = g.crossed ∙ untouched o vs (subst (λ (k : ℕ). 0 < k) g.number some)
+  volumes_kept some = g.crossed ∙ untouched o vs (over (λ k. 0 < k) some)
 
   pub volumes_are : length vs ≡ 2 → (w v : ℤ) → volumes (answer o) ≡ both w v → (at vs' 0 ≡ w) × (at vs' 1 ≡ v)
   volumes_are two w v is = let k = written o vs two w v is in

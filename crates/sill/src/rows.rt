@@ -5,10 +5,8 @@ ghost use Rattle.sill.specs.Rows.{left_of, right_of};
 
 use face::sides::Side;
 
-// The rows of the tables are arrays, and no structs: what crates/tables says of a table filled or written row by row,
-// and of a lent one in columns, it says of rows as lists of numbers.
-
-// A cell: its level and its discharge.
+// A cell: its level and its discharge. An array, and no struct: what crates/tables says of a lent table in columns it says of
+// rows as lists of numbers.
 pub type Pool = [i64; 2];
 
 // A cell after friction: its level and its discharge, its depths over the crests at its left and at its

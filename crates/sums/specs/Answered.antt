@@ -6,7 +6,7 @@ use Rattle.std.proofs.lemmas.Bool.{eqb-false}
 use Rattle.whole.specs.Flags.{by}
 use Rattle.rules.specs.Lent.{Lent, cells_of, number, filled, Outcome, refused, accepted, step_of}
 use Rattle.rules.specs.StateAndBed.{cells_over}
-use Rattle.rules.specs.Sums.{sums_of, misfit_sums, Making, unmade, made, Reading, between_of, keeping_of, sums_after}
+use Rattle.rules.specs.Sums.{sums_of, misfit_sums, Making, unmade, made, Reading, answered, between_of, keeping_of, sums_after}
 use Rattle.rules.proofs.Laws.Lengths.{accepts, refuses}
 use Rattle.rules.specs.Laws.StateAndBed.{StateFits}
 use Rattle.rules.proofs.Laws.StateAndBed.{state_fits, state_passed}
@@ -59,6 +59,11 @@ made_all e old new is = record {
 }
 
 -- ---- a question
+-- an answer by its three numbers
+pub asked_read : (r : Reading) (x : Water) → x.depth ≡ r.water → x.cells ≡ r.cells → x.blocks ≡ r.blocks → asked (Ok x) ≡ answered r
+unfolding asked
+asked_read r x p q s = λ i. answered (record { water = p i; cells = q i; blocks = s i })
+
 -- an answer has read few cells, and no more blocks than the longest reach has
 pub asked_few : (bed t sums : List ℤ) (a b : ℕ) (x : Water) → asked (Ok x) ≡ between_of bed t sums a b → (x.cells ≤ 30) × (x.blocks ≤ 64)
 unfolding asked
