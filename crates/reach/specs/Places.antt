@@ -2,7 +2,7 @@
 -- The lowest place that a search through a table finds, where it finds one; and a loop that fills a table up to there.
 -- Assumes nothing.
 use Rattle.std.specs.Prelude.{◌≡◌, refl, Bool, true, false, cond, List, ℕ, ◌≤◌, ◌<◌, Option, None, Some, unwrap_or}
-use Rattle.std.proofs.Common.{sym, ◌∙◌, ap, subst, arith}
+use Rattle.std.proofs.Common.{sym, ◌∙◌, subst, arith}
 use Rattle.whole.specs.Flags.{by}
 use Rattle.std.specs.Option.{is_some}
 use Rattle.tables.specs.Some.{some, lowest, IsLowest}

@@ -24,3 +24,6 @@ told_number (Err k) = number_of k
 abbrev pub refused_at : Refusal → Option ℕ → Result (Unit {0}) Refused
 refused_at k (Some i) = Err (record { refusal = k; place = i })
 refused_at k None = Ok tt
+
+abbrev pub whole : Refusal → Refused
+whole k = record { refusal = k; place = 0 }

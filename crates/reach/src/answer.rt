@@ -1,7 +1,7 @@
 // What a step answers, over a sloping bed or a stepped one: the water that crossed the two ends, or which of its checks
 // stopped it and where.
 ghost use Rattle.std.specs.Prelude.{◌≡◌};
-ghost use Rattle.reach.specs.Refusals.{number_of, refused_at};
+ghost use Rattle.reach.specs.Refusals.{number_of, refused_at, whole};
 
 // What is wrong with a call, in the order in which it is looked for. The numbers are those that a caller in C is told.
 #[derive(Clone, Copy, Debug, PartialEq, Eq)]
@@ -56,6 +56,15 @@ impl From<Refusal> for u32 {
 pub struct Refused {
     pub refusal: Refusal,
     pub place: usize,
+}
+
+// What is refused of a whole call has no place.
+impl From<Refusal> for Refused {
+    ghost from_gives = { λ refusal refused. refused ≡ whole refusal };
+
+    fn from(refusal: Refusal) -> Refused {
+        Refused { refusal, place: 0 }
+    }
 }
 
 // The volumes at face 0 and at face n, rightward positive.

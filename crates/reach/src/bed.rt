@@ -16,10 +16,10 @@ pub struct Bed {
 pub fn bed_at(bed: &[i32], i: usize) -> i64
     ensures { result ≡ get_or bed.now i (pos 0) }
 {
-    if i < bed.len() {
-        return bed[i] as i64;
+    match bed.get(i) {
+        Some(z) => i64::from(*z),
+        None => 0,
     }
-    0
 }
 
 // The bed under cell i.
@@ -37,14 +37,16 @@ pub fn under(bed: &[i32], i: usize) -> Bed
 }
 
 // z0 and z1: the mean of the bed of a cell, and its slope.
+#[tactic(auto, unfolding(rules::specs::Reach::z0))]
 pub fn z0(b: Bed) -> i64
     ensures { result ≡ rules.z0 (bed_in b) }
 {
-    (b.zl as i64 + b.zr as i64) / 2
+    (i64::from(b.zl) + i64::from(b.zr)) / 2
 }
 
+#[tactic(auto, unfolding(rules::specs::Reach::z1))]
 pub fn z1(b: Bed) -> i64
     ensures { result ≡ rules.z1 (bed_in b) }
 {
-    (b.zr as i64 - b.zl as i64) / 2
+    (i64::from(b.zr) - i64::from(b.zl)) / 2
 }

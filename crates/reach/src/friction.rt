@@ -10,10 +10,10 @@ use crate::limits::ROUGHEST;
 pub fn rough_at(friction: &[u16], i: usize) -> i64
     ensures { result ≡ pos (get_or friction.now i 0) }
 {
-    if i < friction.len() {
-        return friction[i] as i64;
+    match friction.get(i) {
+        Some(rough) => i64::from(*rough),
+        None => 0,
     }
-    0
 }
 
 // 4: the lowest friction value over 200, where there is one.

@@ -12,14 +12,9 @@ pub fn cells_over(bed: &[i32]) -> usize
 }
 
 // 1: is there no such number of cells, or does a state of this length not fit them?
+#[tactic(auto, unfolding(rules::specs::StateAndBed::misfit_state, rules::specs::Refusals::any))]
 pub fn bad_state(state: usize, n: usize) -> bool
     ensures { result ≡ misfit_state state n }
 {
-    if n == 0 {
-        return true;
-    }
-    if CELLS < n {
-        return true;
-    }
-    state != 4 * n
+    n == 0 || CELLS < n || state != 4 * n
 }

@@ -30,13 +30,14 @@ pub const FULLEST: i64 = 8388608;
 
 pub const FASTEST: i64 = 131072;
 
-// The inflow at an end, 2048 m2/s, and the kind of such an end, the last of the kinds; and the last but one,
-// an open end.
+// The inflow at an end, 2048 m2/s; and the kinds of an end, of which one with an inflow is the last.
 pub const LARGEST_INFLOW: u32 = 8388608;
 
-pub const INFLOW: u32 = 2;
+pub const WALL: u32 = 0;
 
 pub const OPEN: u32 = 1;
+
+pub const INFLOW: u32 = 2;
 
 // The dry depth, at or below which water has no speed, from about 0.2 mm to about 16 mm.
 pub const LEAST_DRY: i64 = 1;
@@ -58,7 +59,7 @@ pub fn bad_dry(dry: i64) -> bool
 }
 
 // Is x past a limit, either way? The size of an x below nought is one more than -1 - x, which always
-// fits.
+// fits; as one without a sign it would need a limit below nought told apart.
 pub fn past(most: i64, x: i64) -> bool
     ensures { result ≡ rules.past most x }
 {

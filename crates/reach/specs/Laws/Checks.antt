@@ -5,7 +5,7 @@ use Rattle.std.proofs.Common.{sym, ◌∙◌, ap}
 use Rattle.std.proofs.lemmas.Result.{err_from_is_err_and}
 use Rattle.std.specs.Result.{IsErrAnd}
 use Rattle.rules.specs.Refusals.{Check, applies, Clear}
-use Rattle.rules.specs.Found.{Found, at, found}
+use Rattle.rules.specs.Found.{at, found}
 use Rattle.rules.proofs.Laws.Verdicts.{check_at, ClearTo, stops_at, none_stops}
 use Rattle.reach.specs.declared.answer.Refusal.{Refusal}
 use Rattle.reach.specs.declared.answer.Refused.{Refused}

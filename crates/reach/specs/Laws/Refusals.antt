@@ -1,6 +1,6 @@
 -- What follows of a refusal and of what a search found.
 -- Assumes nothing.
-use Rattle.std.specs.Prelude.{◌≡◌, refl, false, ℕ, ◌<◌, Option, None, Some, Result, Ok, Err}
+use Rattle.std.specs.Prelude.{◌≡◌, refl, ℕ, ◌<◌, Option, None, Some, Result, Ok, Err}
 use Rattle.std.proofs.Common.{sym, ap, arith}
 use Rattle.reach.specs.declared.answer.Refusal.{Refusal}
 use Rattle.reach.specs.declared.answer.Refusal.TheVariants as refusal

@@ -1,6 +1,6 @@
 use Rattle.std.proofs.Common.{◌≡◌, refl, true, false, get_or, pos, ℕ, ◌<◌, ◌≤◌, arith, lt-ltb, le-ltb}
 use Rattle.rules.specs.Refusals.{bad_rough}
-use Rattle.tables.proofs.Scan.{scan_none, scan_more}
+use Rattle.tables.proofs.Scan.{scan_more}
 use Rattle.reach.specs.Places.{scan_place, scan_no_place}
 use Rattle.reach.proofs.friction.bad_friction.Goals as goal
 

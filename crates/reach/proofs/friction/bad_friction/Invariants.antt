@@ -1,5 +1,5 @@
 -- Below i no value of the friction is over 200.
-use Rattle.std.proofs.Common.{◌≡◌, Bool, List, get_or, length, pos, ℕ}
+use Rattle.std.proofs.Common.{Bool, List, get_or, length, pos, ℕ}
 use Rattle.rules.specs.Refusals.{bad_rough}
 use Rattle.tables.proofs.Scan.{Scanned}
 use Rattle.reach.proofs.friction.bad_friction.Given as goal

@@ -1,5 +1,5 @@
 -- The lesser of the size and the largest number, with a sign or without.
-use Rattle.std.proofs.Common.{◌≡◌, refl, sym, ◌∙◌, ap, ℕ, ℤ, pos, nat_abs, ◌≤◌, min, arith}
+use Rattle.std.proofs.Common.{◌≡◌, ◌∙◌, ap, ℕ, ℤ, pos, nat_abs, ◌≤◌, min, arith}
 use Rattle.std.proofs.Math.Decide.{dec_le}
 use mir.Facts.{to_z-of_z}
 use Rattle.whole.specs.Parts.{lt_of, le_of}
