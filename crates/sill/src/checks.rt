@@ -15,7 +15,7 @@ use crate::lent::pool_of;
 use crate::pool::off_pool;
 use crate::rows::{Call, End};
 use reach::bed::bed_at;
-use reach::limits::{CELLS, HIGHEST_BED, LONGEST_CELL, LONGEST_STEP, bad_dry, outside};
+use reach::limits::{CELLS, HIGHEST_BED, LONGEST_CELL, LONGEST_STEP, OPEN, WALL, bad_dry, outside};
 
 // 1: do the tables not fit the n cells?
 #[tactic(auto, unfolding(sill_rules::specs::Lent::misfit, rules::specs::Refusals::any))]
@@ -30,8 +30,8 @@ fn end_of(kind: u32) -> Option<End>
     ensures { result ≡ cond (ltb open_kind kind) None (Some (end_by kind)) }
 {
     match kind {
-        0 => Some(End::Wall),
-        1 => Some(End::Open),
+        WALL => Some(End::Wall),
+        OPEN => Some(End::Open),
         _ => None,
     }
 }

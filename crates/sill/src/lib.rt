@@ -26,7 +26,7 @@ ghost use Rattle.sill.specs.Told.{lent_by};
 use crate::checks::{bad_lengths, call_of};
 use crate::worked::work;
 pub use reach::answer::Answer;
-use reach::answer::{Refusal, Refused};
+use reach::answer::Refusal;
 
 // The numbers of a call as its caller gives them, each still to be held against its list. The kinds of the
 // two ends are 0 a wall and 1 open.
@@ -48,16 +48,10 @@ pub fn step(state: &[i32], next: &mut [i32], bed: &[i32], friction: &[u16], give
 {
     let n = friction.len();
     if bad_lengths(state.len(), next.len(), bed.len(), n) {
-        return Err(Refused {
-            refusal: Refusal::Lengths,
-            place: 0,
-        });
+        return Err(Refusal::Lengths.into());
     }
     let Some(call) = call_of(given, n) else {
-        return Err(Refused {
-            refusal: Refusal::Numbers,
-            place: 0,
-        });
+        return Err(Refusal::Numbers.into());
     };
     work(state, next, bed, friction, call)
 }

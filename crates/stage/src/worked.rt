@@ -173,18 +173,12 @@ pub fn work(state: &[i32], next: &mut [i32], bed: &[i32], friction: &[u16], give
 {
     let n = friction.len();
     if bad_lengths(state.len(), next.len(), bed.len(), n) {
-        return Err(Refused {
-            refusal: Refusal::Lengths,
-            place: 0,
-        });
+        return Err(Refusal::Lengths.into());
     }
     let reach = reach_by(n, given);
     let call = call_by(given);
     if bad_numbers(reach, call) {
-        return Err(Refused {
-            refusal: Refusal::Numbers,
-            place: 0,
-        });
+        return Err(Refusal::Numbers.into());
     }
     let course = Course { bed, reach, call };
     if n <= SHORT_CELLS {

@@ -20,7 +20,7 @@ use crate::filling::fill;
 use crate::splitting::split_between;
 use reach::lengths::{bad_state, cells_over};
 use stage::state_and_bed::check;
-use step::{Answer, Given, Refusal, Refused};
+use step::{Answer, Given, Refusal};
 
 // The water between two faces, and what was read for it.
 #[derive(Clone, Copy, Debug, PartialEq, Eq)]
@@ -92,10 +92,7 @@ pub fn step(
         result next.old next.new sums.old sums.new }
 {
     if bad_sums(sums.len(), friction.len()) {
-        return Err(Refused {
-            refusal: Refusal::Lengths,
-            place: 0,
-        });
+        return Err(Refusal::Lengths.into());
     }
     let volumes = step::step(state, next, bed, friction, call)?;
     fill(next, bed, sums);

@@ -22,13 +22,15 @@ a_call false x y e = (refl, cc)
 pub returns-then-bad_lengths : goal.returns-then-bad_lengths
 returns-then-bad_lengths c =
     let a = c.args in
-    length_refused a.state.now (length a.next.now) a.bed.now a.friction.now a.given (sym c.bad_lengths.ensures ∙ c.if-bad_lengths.true) _
+    rw c.into.ensures
+    (length_refused a.state.now (length a.next.now) a.bed.now a.friction.now a.given (sym c.bad_lengths.ensures ∙ c.if-bad_lengths.true) _)
 
 pub returns-in_default : goal.returns-in_default
 returns-in_default c =
     let a = c.args in let ρ : ℕ → ℤ = λ i. pos (get_or a.friction.now i 0) in
-    call_refused a.state.now (length a.next.now) a.bed.now a.friction.now a.given (sym c.bad_lengths.ensures ∙ c.if-bad_lengths.false)
-    (no_call _ _ (sym c.in_default.is ∙ c.call_of.ensures a.bed.now ρ)) _
+    rw c.into-in_default.ensures
+    (call_refused a.state.now (length a.next.now) a.bed.now a.friction.now a.given (sym c.bad_lengths.ensures ∙ c.if-bad_lengths.false)
+    (no_call _ _ (sym c.in_default.is ∙ c.call_of.ensures a.bed.now ρ)) _)
 
 pub work-requires-clause-numbers : goal.work-requires-clause-numbers
 work-requires-clause-numbers c =

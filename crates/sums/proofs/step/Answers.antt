@@ -11,7 +11,7 @@ pub returns-then-bad_sums : goal.returns-then-bad_sums
 returns-then-bad_sums c =
     let p = c.args in let call : Lent = lent_by p.state.now (length p.next.now) p.bed.now p.friction.now p.call in
     let sums = p.sums.now in let old = p.next.now in
-    keeping_none call old old sums (unkept call (length sums) (sym c.bad_sums.ensures ∙ c.if-bad_sums.true))
+    rw c.into.ensures (keeping_none call old old sums (unkept call (length sums) (sym c.bad_sums.ensures ∙ c.if-bad_sums.true)))
 
 pub returns-in_err-volumes : goal.returns-in_err-volumes
 returns-in_err-volumes c =

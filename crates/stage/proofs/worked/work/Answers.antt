@@ -32,7 +32,7 @@ in_order reach call bed friction {state} {next} n e b = let fit = fitted state n
 )
 
 pub returns-then-bad_lengths : goal.returns-then-bad_lengths
-returns-then-bad_lengths c = let p = c.args in record {
+returns-then-bad_lengths c = let p = c.args in rw c.into.ensures record {
   found = length_found p.state.now (length p.next.now) p.bed.now p.friction.now p.given
       (sym c.bad_lengths.ensures ∙ c.if-bad_lengths.true);
   some = omega arith;
@@ -42,7 +42,7 @@ returns-then-bad_lengths c = let p = c.args in record {
 pub returns-then-bad_numbers : goal.returns-then-bad_numbers
 returns-then-bad_numbers c =
     let p = c.args in
-    let judged = rw (c.reach_by-reach.ensures, c.call_by-call.ensures) at (c.bad_numbers.ensures p.bed.now (rough p.friction.now)) in record {
+    let judged = rw (c.reach_by-reach.ensures, c.call_by-call.ensures) at (c.bad_numbers.ensures p.bed.now (rough p.friction.now)) in rw c.into-then-bad_numbers.ensures record {
       found = call_found p.state.now (length p.next.now) p.bed.now p.friction.now p.given
           (sym c.bad_lengths.ensures ∙ c.if-bad_lengths.false) (sym judged ∙ c.if-bad_numbers.true);
       some = omega arith;
