@@ -1,5 +1,5 @@
 // A cell of a reach over a sloping bed, and where it stands in the four columns of a state.
-use crate::tables::put;
+use crate::tables::{narrow, put};
 
 // Level and discharge, means and slopes, as 64 bits each.
 #[derive(Clone, Copy)]
@@ -24,6 +24,6 @@ pub fn over(zl: u64, zr: u64, h0: u64, h1: u64, q0: u64, q1: u64) -> Cell {
 pub fn put_cell(state: &mut [i32], n: usize, i: usize, cell: Cell) {
     let numbers = [cell.e0, cell.e1, cell.q0, cell.q1];
     for (column, x) in numbers.into_iter().enumerate() {
-        put(state, column.wrapping_mul(n).wrapping_add(i), x);
+        put(state, column.wrapping_mul(n).wrapping_add(i), narrow(x));
     }
 }

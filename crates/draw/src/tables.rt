@@ -16,21 +16,12 @@ pub fn narrow(x: u64) -> i32
     i32::try_from(x.cast_signed()).unwrap_or(0)
 }
 
-pub fn put(table: &mut [i32], i: usize, x: u64)
-    ensures elsewhere { (k : ℕ) → k ≢ i → get_or table.new k (pos 0) ≡ get_or table.old k (pos 0) }
+pub fn put<T: Copy>(table: &mut [T], i: usize, x: T)
+    ensures elsewhere { (k : ℕ) → (beyond : T) → k ≢ i → get_or table.new k beyond ≡ get_or table.old k beyond }
     ensures len { length table.new ≡ length table.old }
 {
     if i < table.len() {
-        table[i] = narrow(x);
-    }
-}
-
-pub fn put_friction(table: &mut [u16], i: usize, x: u64)
-    ensures elsewhere { (k : ℕ) → k ≢ i → get_or table.new k 0 ≡ get_or table.old k 0 }
-    ensures len { length table.new ≡ length table.old }
-{
-    if i < table.len() {
-        table[i] = (x % 65536) as u16;
+        table[i] = x;
     }
 }
 

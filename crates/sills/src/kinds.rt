@@ -98,23 +98,27 @@ pub fn dt(r: u64) -> u64 {
     ranging(x, 1, 30)
 }
 
-pub fn roughness(r: u64, i: u64) -> u64 {
+pub fn roughness(r: u64, i: u64) -> u16 {
     let x = drawn_apart(r, 6, i);
     if has(r, Refusal::Friction) && at_fault(r, i) {
-        return [201u64, 256, 65535][(x % 3) as usize];
+        return [201u16, 256, 65535][(x % 3) as usize];
     }
-    ranging(x, 0, [0u64, 1, 60, 200][(r % 4) as usize])
+    (ranging(x, 0, [0u64, 1, 60, 200][(r % 4) as usize]) % 65536) as u16
 }
 
 // About one level over a floor with sills: low ones, ones that come out of the water, water about as shallow as the dry
 // depth is, and steps far higher than the water is deep. It runs at up to 1/16, 1/4, 1 or 4 m/s.
 fn sills(r: u64, i: u64) -> Cell {
-    let k = (kind(r) % 4) as usize;
+    let (rise, depth, more) = match kind(r) % 4 {
+        0 => (900u64, 3000u64, 400u64),
+        1 => (6000, 3000, 400),
+        2 => (90, 10, 80),
+        _ => (90000, 0, 9000),
+    };
     let floor = ranging(drawn_apart(r, 7, 5000), 0, 900000);
     let x = drawn_apart(r, 7, i);
-    let z = ranging(x, floor, [900u64, 6000, 90, 90000][k] >> (x % 4 * 6));
-    let deep = floor.wrapping_add([3000u64, 3000, 10, 0][k]);
-    let level = ranging(drawn_apart(r, 8, i), deep, [400u64, 400, 80, 9000][k]);
+    let z = ranging(x, floor, rise >> (x % 4 * 6));
+    let level = ranging(drawn_apart(r, 8, i), floor.wrapping_add(depth), more);
     if has(r, Refusal::Stage) && i % 3 == 1 {
         // water without a speed that any push makes too much, if it is not dried
         return over(z, ranging(x, 0, dry(r)), turned(8388608, x >> 8));

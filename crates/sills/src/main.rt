@@ -12,7 +12,7 @@ mod numbers;
 ghost use Rattle.std.specs.Prelude.{◌≤◌};
 
 use draw::sums::{mixed, summed};
-use draw::tables::{Table, narrow, put, put_friction};
+use draw::tables::{Table, narrow, put};
 use kinds::{cells, drawn_cell, dry, dt, dx, has, roughness, times};
 use numbers::drawn_apart;
 use reach::answer::{Answer, Refusal, Refused, Volumes};
@@ -109,10 +109,10 @@ fn fill(state: &mut [i32], bed: &mut [i32], friction: &mut [u16], r: u64) {
     let n = cells(r);
     for i in 0..n {
         let c = drawn_cell(r, i as u64);
-        put(bed, i, c.z);
-        put(state, i, c.e);
-        put(state, n + i, c.q);
-        put_friction(friction, i, roughness(r, i as u64));
+        put(bed, i, narrow(c.z));
+        put(state, i, narrow(c.e));
+        put(state, n + i, narrow(c.q));
+        put(friction, i, roughness(r, i as u64));
     }
 }
 

@@ -1,6 +1,6 @@
 // The two ends of a call: their kinds, and a Q where an inflow is given.
 use crate::fill::at;
-use crate::spoil::{given, third};
+use crate::spoil::{Number, given, third};
 use draw::numbers::{above, below, following, pick};
 use step::End;
 
@@ -9,17 +9,23 @@ fn fourth(x: u64) -> u64 {
     following(third(x))
 }
 
-// The depth that the first of n cells shows at the left end; the greatest where that is out of range.
-fn depth_at_left(state: &[i32], bed: &[i32], n: usize) -> u64 {
-    let level = at(state, 0).wrapping_sub(at(state, n));
-    level.wrapping_sub(at(bed, 0)).min(262144)
+#[derive(Clone, Copy)]
+pub enum Side {
+    Left,
+    Right,
 }
 
-// The same of the last cell at the right end.
-fn depth_at_right(state: &[i32], bed: &[i32], n: usize) -> u64 {
-    let k = n.wrapping_sub(1);
-    let level = at(state, k).wrapping_add(at(state, n.wrapping_add(k)));
-    level.wrapping_sub(at(bed, n)).min(262144)
+// The depth that the cell at an end of n cells shows there; the greatest where that is out of range.
+fn depth_at(side: Side, state: &[i32], bed: &[i32], n: usize) -> u64 {
+    let last = n.wrapping_sub(1);
+    let (level, z) = match side {
+        Side::Left => (at(state, 0).wrapping_sub(at(state, n)), at(bed, 0)),
+        Side::Right => (
+            at(state, last).wrapping_add(at(state, n.wrapping_add(last))),
+            at(bed, n),
+        ),
+    };
+    level.wrapping_sub(z).min(262144)
 }
 
 // An inflow into water of depth h: none, little, one of ordinary water so deep, one that does not look
@@ -45,22 +51,22 @@ fn q_at(kind: u64, h: u64, x: u64) -> u64 {
     }
 }
 
-pub fn left_end(x: u64, n: usize, state: &[i32], bed: &[i32]) -> End {
+pub fn end(side: Side, x: u64, n: usize, state: &[i32], bed: &[i32]) -> End {
     let y = fourth(x);
-    let kind = (y >> 8) % 3;
-    let q = q_at(kind, depth_at_left(state, bed, n), following(y));
+    let z = following(y);
+    // its kind, what its Q is drawn from, and which numbers of a call they are
+    let (kind, from, its_kind, its_q) = match side {
+        Side::Left => ((y >> 8) % 3, z, Number::LeftKind, Number::LeftQ),
+        Side::Right => (
+            (y >> 16) % 3,
+            following(z),
+            Number::RightKind,
+            Number::RightQ,
+        ),
+    };
+    let q = q_at(kind, depth_at(side, state, bed, n), from);
     End {
-        kind: given(4, kind, x),
-        q: given(6, q, x),
-    }
-}
-
-pub fn right_end(x: u64, n: usize, state: &[i32], bed: &[i32]) -> End {
-    let y = fourth(x);
-    let kind = (y >> 16) % 3;
-    let q = q_at(kind, depth_at_right(state, bed, n), following(following(y)));
-    End {
-        kind: given(5, kind, x),
-        q: given(7, q, x),
+        kind: given(its_kind, kind, x),
+        q: given(its_q, q, x),
     }
 }

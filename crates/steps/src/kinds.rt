@@ -52,16 +52,13 @@ pub fn dry(r: u64) -> u64 {
 // The depth or level that the cells share: near nought, near the dry depth, shallow, ordinary, deep.
 fn shared(r: u64) -> u64 {
     let x = following(following(r)) >> 4;
-    let d = dry(r);
-    let low = [0u64, d, d, d, 0, 0, 0, 0, 400, 400, 400, 400, 400, 400, 400];
-    let more = [
-        12u64, 60, 60, 60, 1000, 1000, 1000, 1000, 8000, 8000, 8000, 8000, 8000, 60000, 60000,
-    ];
-    let k = (x % 16) as usize;
-    if k < 15 {
-        above(x, low[k], more[k])
-    } else {
-        below(x, 262144, 40)
+    match x % 16 {
+        0 => above(x, 0, 12),
+        1..=3 => above(x, dry(r), 60),
+        4..=7 => above(x, 0, 1000),
+        8..=12 => above(x, 400, 8000),
+        13..=14 => above(x, 400, 60000),
+        _ => below(x, 262144, 40),
     }
 }
 
@@ -97,10 +94,21 @@ pub fn face(r: u64, z: u64, x: u64) -> u64 {
 
 // Which kind of depth a cell has in a mix: one, or one of some.
 fn kind_in(mix: u64, x: u64) -> u64 {
-    let k = (mix % 16) as usize;
-    let first = [0u64, 1, 2, 3, 0, 2, 4, 3, 5, 6, 6, 6, 7, 8, 8, 0];
-    let more = [1u64, 1, 0, 0, 3, 1, 0, 1, 0, 0, 0, 0, 0, 0, 0, 8];
-    first[k].wrapping_add(x % (more[k] % 16 + 1))
+    match mix % 16 {
+        0 => x % 2,
+        1 => 1 + x % 2,
+        2 => 2,
+        3 => 3,
+        4 => x % 4,
+        5 => 2 + x % 2,
+        6 => 4,
+        7 => 3 + x % 2,
+        8 => 5,
+        9..=11 => 6,
+        12 => 7,
+        13..=14 => 8,
+        _ => x % 9,
+    }
 }
 
 // A depth about the dry depth.

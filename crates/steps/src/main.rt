@@ -14,16 +14,16 @@ mod spoil;
 use draw::numbers::{SEED, above, following, pick};
 use draw::sums::{mixed, summed};
 use draw::tables::{Table, fill_pattern};
-use ends::{left_end, right_end};
+use ends::{Side, end};
 use kinds::{cells, dry, seed};
 use reach::answer::{Answer, Refusal, Refused, Volumes};
-use spoil::{given, lent, ready, ready_bed, ready_friction, second, third};
+use spoil::{Number, given, lent, ready, ready_bed, ready_friction, second, third};
 use std::io;
 use step::Given;
 
 // Where a block has come to: what the last call was drawn from, its refusal, if there was one, and the
-// running sum; and the reach, which is tried again with another dt while tries are left: `low` was
-// accepted and `high` was not.
+// running sum; and the reach, which is tried again with another dt while tries are left: `low` is the longest
+// that was accepted, `high` the shortest that was not.
 #[derive(Clone, Copy)]
 struct Turn {
     x: u64,
@@ -31,8 +31,8 @@ struct Turn {
     sum: u64,
     reach: u64,
     tries: u64,
-    low: u64,
-    high: u64,
+    low: Option<u64>,
+    high: Option<u64>,
 }
 
 impl Turn {
@@ -46,8 +46,8 @@ impl Turn {
             x,
             reach: x,
             tries: times(x),
-            low: 0,
-            high: 4097,
+            low: None,
+            high: None,
             ..self
         }
     }
@@ -55,16 +55,12 @@ impl Turn {
     // The first of a reach, a far shorter dt until one is accepted, then the one halfway between the
     // longest that was accepted and the shortest that was not.
     fn dt(self) -> u64 {
-        if self.low != 0 {
-            return self.low.wrapping_add(self.high) >> 1;
-        }
-        if self.high == 4097 {
-            return first_dt(following(seed(self.reach)));
-        }
-        if 16 < self.high {
-            self.high >> 4
-        } else {
-            self.high >> 1
+        match (self.low, self.high) {
+            (None, None) => first_dt(following(seed(self.reach))),
+            (None, Some(high)) if 16 < high => high >> 4,
+            (None, Some(high)) => high >> 1,
+            // no dt beyond 4096 is ever accepted
+            (Some(low), high) => low.wrapping_add(high.unwrap_or(4097)) >> 1,
         }
     }
 
@@ -83,15 +79,18 @@ impl Turn {
     fn ended(self) -> Turn {
         let tried = self.dt();
         let u = if self.refusal.is_none() {
-            Turn { low: tried, ..self }
+            Turn {
+                low: Some(tried),
+                ..self
+            }
         } else {
             Turn {
-                high: tried,
+                high: Some(tried),
                 ..self
             }
         };
-        // none is left between the two
-        let tries = if u.dt() == u.low {
+        // none is left between the two, or below the shortest
+        let tries = if u.dt() == u.low.unwrap_or(0) {
             0
         } else {
             tries_left(u.tries, u.refusal)
@@ -112,12 +111,13 @@ impl Turn {
 
 // Short ones mostly, as a long one is refused in nearly every reach.
 fn first_dt(x: u64) -> u64 {
-    let k = (x % 8) as usize;
-    above(
-        x,
-        [1u64, 1, 1, 1, 1, 1, 1, 4096][k],
-        [0u64, 0, 19, 19, 19, 199, 4095, 0][k],
-    )
+    match x % 8 {
+        0..=1 => 1,
+        2..=4 => above(x, 1, 19),
+        5 => above(x, 1, 199),
+        6 => above(x, 1, 4095),
+        _ => 4096,
+    }
 }
 
 fn times(reach: u64) -> u64 {
@@ -145,12 +145,15 @@ fn dx(reach: u64) -> u64 {
 }
 
 fn jump(x: u64) -> u64 {
-    let k = (x % 8) as usize;
-    above(
-        x,
-        [0u64, 0, 1, 0, 0, 0, 0, 262144][k],
-        [0u64, 0, 0, 10, 50, 3000, 262144, 0][k],
-    )
+    match x % 8 {
+        0..=1 => 0,
+        2 => 1,
+        3 => pick(x, 10),
+        4 => pick(x, 50),
+        5 => pick(x, 3000),
+        6 => pick(x, 262144),
+        _ => 262144,
+    }
 }
 
 // The step, on the parts of the tables that are lent.
@@ -163,13 +166,13 @@ fn made(
     bed: &[i32],
     friction: &[u16],
 ) -> Answer {
-    let left = left_end(x, cells(r), state, bed);
-    let right = right_end(x, cells(r), state, bed);
+    let left = end(Side::Left, x, cells(r), state, bed);
+    let right = end(Side::Right, x, cells(r), state, bed);
     let call = Given {
-        dx: given(0, dx(r), x),
-        dt: given(1, dt, x),
-        jump: given(2, jump(third(x)), x),
-        dry: given(3, dry(r), x),
+        dx: given(Number::Dx, dx(r), x),
+        dt: given(Number::Dt, dt, x),
+        jump: given(Number::Jump, jump(third(x)), x),
+        dry: given(Number::Dry, dry(r), x),
         left,
         right,
     };
@@ -238,8 +241,8 @@ fn run(rt: &impl Print, block: u64) -> io::Result<()> {
         sum: 1,
         reach: 0,
         tries: 0,
-        low: 0,
-        high: 0,
+        low: None,
+        high: None,
     };
     let mut counts = [0u64; 9];
     // kept from call to call, as a reach is tried again with what was spoilt in it; a spoilt bed or

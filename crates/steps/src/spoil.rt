@@ -5,9 +5,10 @@ use crate::fill::{fill_bed, fill_friction, fill_state, found};
 use crate::kinds::{cells, dry};
 use draw::cell::{Cell, over, put_cell};
 use draw::numbers::{above, following, pick, turned};
-use draw::tables::{Table, put, put_friction};
+use draw::tables::{Table, narrow, put};
 
-// The faults that a call may have. They are the bits of a set, since a call may have two.
+// The faults that a call may have, as the bits of a set, since a call may have two. An enum would be no plainer: each
+// would still need its bit.
 const LENGTHS: u64 = 1;
 
 const NUMBERS: u64 = 2;
@@ -87,38 +88,44 @@ pub fn lent(table: Table, r: u64, m: usize, x: u64) -> usize
     right_length(table, n).min(m)
 }
 
-// A number outside its list, just or by much: dx, dx, dt, dt, J, dry depth, dry depth, the kinds of the
-// two ends and the Q of each; then a Q of each that is wrong where none belongs.
-fn wrong_number(x: u64) -> u64 {
-    let k = (x % 13) as usize;
-    let just = [
-        0u64, 1048577, 0, 4097, 262145, 0, 65, 3, 3, 8388609, 8388609, 1, 1,
-    ];
-    let much = [
-        0u64,
-        0x8000_0000,
-        0,
-        65536,
-        0xffff_ffff,
-        260,
-        0xffff_ffff,
-        0x8000_0002,
-        0xffff_ffff,
-        0xffff_ffff,
-        0x8000_0000,
-        4096,
-        8388608,
-    ];
-    if x & 8 == 0 { just[k] } else { much[k] }
+// The numbers beside the tables.
+#[derive(Clone, Copy, Debug, PartialEq, Eq)]
+pub enum Number {
+    Dx,
+    Dt,
+    Jump,
+    Dry,
+    LeftKind,
+    RightKind,
+    LeftQ,
+    RightQ,
 }
 
-// Number k beside the tables: dx, dt, J, the dry depth, the kinds of the two ends and the Q of each. It is
-// `right` where it has no fault.
-pub fn given(k: u64, right: u64, x: u64) -> u32 {
-    let y = third(x) >> 10;
-    let wrong = [0u64, 0, 1, 1, 2, 3, 3, 4, 5, 6, 7, 6, 7][(y % 13) as usize];
-    let g = if has(x, NUMBERS) && wrong == k {
-        wrong_number(y)
+// A number, and what it may wrongly be: outside its list, just or by much, or a Q where none belongs.
+fn wrong_number(x: u64) -> (Number, u64) {
+    let (number, just, much) = match x % 13 {
+        0 => (Number::Dx, 0, 0),
+        1 => (Number::Dx, 1048577, 0x8000_0000),
+        2 => (Number::Dt, 0, 0),
+        3 => (Number::Dt, 4097, 65536),
+        4 => (Number::Jump, 262145, 0xffff_ffff),
+        5 => (Number::Dry, 0, 260),
+        6 => (Number::Dry, 65, 0xffff_ffff),
+        7 => (Number::LeftKind, 3, 0x8000_0002),
+        8 => (Number::RightKind, 3, 0xffff_ffff),
+        9 => (Number::LeftQ, 8388609, 0xffff_ffff),
+        10 => (Number::RightQ, 8388609, 0x8000_0000),
+        11 => (Number::LeftQ, 1, 4096),
+        _ => (Number::RightQ, 1, 8388608),
+    };
+    (number, if x & 8 == 0 { just } else { much })
+}
+
+// What a call is given as one of its numbers; it is `right` where that number has no fault.
+pub fn given(number: Number, right: u64, x: u64) -> u32 {
+    let (spoilt, wrong) = wrong_number(third(x) >> 10);
+    let g = if has(x, NUMBERS) && spoilt == number {
+        wrong
     } else {
         right
     };
@@ -155,11 +162,11 @@ fn place(fault: u64, n: usize, x: u64) -> Option<usize> {
 pub fn ready_bed(bed: &mut [i32], r: u64, x: u64) {
     fill_bed(bed, r);
     if let Some(i) = place(BED, cells(r), x) {
-        put(bed, i, wrong_bed(found(bed, i), second(x)));
+        put(bed, i, narrow(wrong_bed(found(bed, i), second(x))));
     }
 }
 
-fn wrong_friction(x: u64) -> u64 {
+fn wrong_friction(x: u64) -> u16 {
     match x % 4 {
         0 => 65535,
         1 => 256,
@@ -170,7 +177,7 @@ fn wrong_friction(x: u64) -> u64 {
 pub fn ready_friction(friction: &mut [u16], r: u64, x: u64) {
     fill_friction(friction, r);
     if let Some(i) = place(FRICTION, cells(r).wrapping_sub(1), x) {
-        put_friction(friction, i, wrong_friction(second(x)));
+        put(friction, i, wrong_friction(second(x)));
     }
 }
 

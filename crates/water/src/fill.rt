@@ -5,43 +5,39 @@ use crate::kinds::{Fault, cells, drawn_cell, face, fault_in};
 use draw::cell::put_cell;
 use draw::tables::narrow;
 
-// How much of a table of m is lent: of the state, the next one, the bed and the sums. It is one more or less than fits
-// where the reach has a fault that says so.
-pub fn lent_state(r: u64, m: usize) -> usize
-    ensures { result ≤ m }
+// The lent tables, but for the one of friction, which is always as long as the reach.
+#[derive(Clone, Copy)]
+pub enum Table {
+    State,
+    Next,
+    Bed,
+    Sums,
+}
+
+// How long a table is for n cells.
+fn right_length(table: Table, n: usize) -> usize
+    requires { n ≤ 1024 }
 {
-    let right = 4 * cells(r);
-    match fault_in(r) {
-        Some(Fault::StateShort) => right.saturating_sub(1).min(m),
-        _ => right.min(m),
+    match table {
+        Table::State | Table::Next => 4 * n,
+        Table::Bed => n + 1,
+        Table::Sums => n.div_ceil(16),
     }
 }
 
-pub fn lent_next(r: u64, m: usize) -> usize
+// How much of a table of m is lent. It is one more or less than fits where the reach has a fault that says so.
+pub fn lent(table: Table, r: u64, m: usize) -> usize
     ensures { result ≤ m }
 {
-    (4 * cells(r)).min(m)
-}
-
-pub fn lent_bed(r: u64, m: usize) -> usize
-    ensures { result ≤ m }
-{
-    let right = cells(r) + 1;
-    match fault_in(r) {
-        Some(Fault::BedLong) => (right + 1).min(m),
-        _ => right.min(m),
-    }
-}
-
-pub fn lent_sums(r: u64, m: usize) -> usize
-    ensures { result ≤ m }
-{
-    let right = cells(r).div_ceil(16);
-    match fault_in(r) {
-        Some(Fault::SumsShort) => right.saturating_sub(1).min(m),
-        Some(Fault::SumsLong) => (right + 1).min(m),
-        _ => right.min(m),
-    }
+    let right = right_length(table, cells(r));
+    let length = match (table, fault_in(r)) {
+        (Table::State, Some(Fault::StateShort)) | (Table::Sums, Some(Fault::SumsShort)) =>
+            right.saturating_sub(1),
+        (Table::Bed, Some(Fault::BedLong)) | (Table::Sums, Some(Fault::SumsLong)) =>
+            right.wrapping_add(1),
+        _ => right,
+    };
+    length.min(m)
 }
 
 pub fn fill_bed(bed: &mut [i32], r: u64) {

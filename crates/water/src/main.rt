@@ -12,7 +12,7 @@ mod show;
 use draw::numbers::{above, below, drawn, pick};
 use draw::sums::summed;
 use draw::tables::fill_pattern;
-use fill::{fill_bed, fill_state, lent_bed, lent_next, lent_state, lent_sums};
+use fill::{Table, fill_bed, fill_state, lent};
 use kinds::{cells, fault_in};
 use reach::answer::Answer;
 use reach::{End, Given};
@@ -20,34 +20,22 @@ use show::{show_between, show_made, show_reach, show_step, show_sum};
 use std::io;
 
 // The faces of question j of a reach: its ends; about a block from either end; any in order; and any, or beyond it.
-fn first_face(r: u64, j: u64) -> u32 {
+fn faces(r: u64, j: u64) -> (u32, u32) {
     let n = cells(r) as u64;
     let x = drawn(r, 7, j);
-    let a = match j % 4 {
-        0 => 0,
-        1 => above(x, 14, 3),
-        2 => pick(x, n / 2),
-        _ => pick(x, n.wrapping_add(2)),
+    let y = drawn(r, 8, j);
+    let (a, b) = match j % 4 {
+        0 => (0, n),
+        1 => (above(x, 14, 3), below(y, n, (n / 2).min(17))),
+        2 => (pick(x, n / 2), above(y, n / 2, n / 2)),
+        _ => (pick(x, n.wrapping_add(2)), pick(y, n.wrapping_add(2))),
     };
-    (a % 0x1_0000_0000) as u32
-}
-
-fn second_face(r: u64, j: u64) -> u32 {
-    let n = cells(r) as u64;
-    let x = drawn(r, 8, j);
-    let b = match j % 4 {
-        0 => n,
-        1 => below(x, n, (n / 2).min(17)),
-        2 => above(x, n / 2, n / 2),
-        _ => pick(x, n.wrapping_add(2)),
-    };
-    (b % 0x1_0000_0000) as u32
+    ((a % 0x1_0000_0000) as u32, (b % 0x1_0000_0000) as u32)
 }
 
 fn asked(rt: &impl Print, r: u64, state: &[i32], bed: &[i32], kept: &[i32]) -> io::Result<()> {
     for j in 0..4 {
-        let a = first_face(r, j);
-        let b = second_face(r, j);
+        let (a, b) = faces(r, j);
         show_between(rt, a, b, sums::between(state, bed, kept, a, b))?;
     }
     Ok(())
@@ -84,8 +72,8 @@ fn called(
     next: &mut [i32],
     kept: &mut [i32],
 ) -> io::Result<u64> {
-    let m = lent_next(r, next.len());
-    let b = lent_sums(r, kept.len());
+    let m = lent(Table::Next, r, next.len());
+    let b = lent(Table::Sums, r, kept.len());
     show_made(rt, sums::make(state, bed, &mut kept[..b]))?;
     let made = summed(1, kept);
     asked(rt, r, state, bed, &kept[..b])?;
@@ -110,8 +98,8 @@ fn reach(rt: &impl Print, r: u64) -> io::Result<()> {
     fill_pattern(&mut next, drawn(r, 9, 0));
     let mut kept = [0i32; 72];
     fill_pattern(&mut kept, drawn(r, 10, 0));
-    let a = lent_state(r, 4104);
-    let b = lent_bed(r, 1032);
+    let a = lent(Table::State, r, 4104);
+    let b = lent(Table::Bed, r, 1032);
     let sum = called(
         rt,
         r,
