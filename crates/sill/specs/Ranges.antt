@@ -6,7 +6,8 @@ use Rattle.rules.specs.Laws.Sizes.{Sound}
 use Rattle.reach.specs.Ranges.{UpTo, widest, DryDepth}
 use Rattle.sill_rules.specs.Refusals.{off_pool}
 use Rattle.sill.specs.declared.rows.Call.{Call}
-use Rattle.sill.specs.Rows.{pool_of, left_of, right_of, volume_of, pressure_of, advection_of}
+use Rattle.sill.specs.declared.rows.FaceRow as rows
+use Rattle.sill.specs.Rows.{pool_of, left_of, right_of, no_face}
 
 -- ---- sizes
 -- a level, which is a depth over a bed
@@ -80,14 +81,14 @@ abbrev pub Rows : List (List ℤ) → ℕ → Type 0
 Rows b n = (i : ℕ) → i < n → Row (get_or b i [])
 
 -- ---- the row of a face, and the rows of the faces 0 to n
-pub record FaceRow (l : List ℤ) : Type 0 where
-  pub vol : UpTo most_volume (volume_of l)
-  pub K_least : pos 0 ≤ℤ pressure_of l
-  pub K : pressure_of l ≤ℤ most_square
-  pub A : UpTo most_advection (advection_of l)
+pub record FaceRow (l : rows.FaceRow) : Type 0 where
+  pub vol : UpTo most_volume l.volume
+  pub K_least : pos 0 ≤ℤ l.pressure
+  pub K : l.pressure ≤ℤ most_square
+  pub A : UpTo most_advection l.advection
 
-abbrev pub FaceRows : List (List ℤ) → ℕ → Type 0
-FaceRows f n = (i : ℕ) → i < suc n → FaceRow (get_or f i [])
+abbrev pub FaceRows : List rows.FaceRow → ℕ → Type 0
+FaceRows f n = (i : ℕ) → i < suc n → FaceRow (get_or f i no_face)
 
 -- ---- a cell whose numbers fit the lent i32 table
 pub record Fits (x : Pool) : Type 0 where

@@ -10,6 +10,7 @@ use Rattle.rules.specs.Refusals.{is_long}
 use Rattle.sill_rules.specs.Reach.{Reach, State, crest_left, crest_right, over, pace}
 use Rattle.sill_rules.specs.Step.{dried_pool}
 use Rattle.sill.specs.declared.rows.Call.{Call}
+use Rattle.sill.specs.declared.rows.FaceRow.{FaceRow}
 use Rattle.sill.specs.Told.{kind_of}
 
 -- ---- a cell: its level and discharge, its depths over the two crests, and its speed at the dry depth d
@@ -30,17 +31,12 @@ abbrev pub right_of : List ℤ → faces.Side
 right_of l = record { h = get_or l 3 (pos 0); u = get_or l 4 (pos 0) }
 
 -- ---- faces: the row that is kept, with the volume in the place of the mass
-abbrev pub face_row : ℤ → ℤ → faces.Flux → List ℤ
-face_row dx dt x = volume dx dt x ∷ x.K ∷ x.A ∷ []
+abbrev pub face_row : ℤ → ℤ → faces.Flux → FaceRow
+face_row dx dt x = record { volume = volume dx dt x; pressure = x.K; advection = x.A }
 
-abbrev pub volume_of : List ℤ → ℤ
-volume_of l = get_or l 0 (pos 0)
-
-abbrev pub pressure_of : List ℤ → ℤ
-pressure_of l = get_or l 1 (pos 0)
-
-abbrev pub advection_of : List ℤ → ℤ
-advection_of l = get_or l 2 (pos 0)
+-- what stands past the end of a table of them
+abbrev pub no_face : FaceRow
+no_face = record { volume = pos 0; pressure = pos 0; advection = pos 0 }
 
 -- the row that a table of cells shows its faces, and what crosses face i of 0 to n
 abbrev pub shown_in : Call → List (List ℤ) → Shown
@@ -59,7 +55,7 @@ cross_in c b i = cross_at (shown_in c b) i
 abbrev pub long_at : Call → List (List ℤ) → ℕ → Bool
 long_at c b i = is_long c.dx c.dt (cross_in c b i)
 
-abbrev pub face_row_at : Call → List (List ℤ) → ℕ → List ℤ
+abbrev pub face_row_at : Call → List (List ℤ) → ℕ → FaceRow
 face_row_at c b i = face_row c.dx c.dt (cross_in c b i)
 
 -- ---- a cell after the stage, from its row x and the rows l and f of its faces
@@ -67,16 +63,16 @@ unfoldable pub thrust : ℤ → ℤ → ℤ → ℤ
 thrust e dx dt = quot_z (pos 981 *ℤ e *ℤ dt) (pos 819200 *ℤ dx)
 
 -- E
-unfoldable pub push_by : List ℤ → List ℤ → List ℤ → ℤ
-push_by x l f = let a = (left_of x).h in let b = (right_of x).h in (pressure_of l -ℤ a *ℤ a) -ℤ (pressure_of f -ℤ b *ℤ b)
+unfoldable pub push_by : List ℤ → FaceRow → FaceRow → ℤ
+push_by x l f = let a = (left_of x).h in let b = (right_of x).h in (l.pressure -ℤ a *ℤ a) -ℤ (f.pressure -ℤ b *ℤ b)
 
-unfoldable pub update_by : ℤ → ℤ → List ℤ → List ℤ → List ℤ → Pool
+unfoldable pub update_by : ℤ → ℤ → List ℤ → FaceRow → FaceRow → Pool
 update_by dx dt x l f = record {
-  e = (pool_of x).e +ℤ volume_of l -ℤ volume_of f;
-  q = (pool_of x).q +ℤ quot_z ((advection_of l -ℤ advection_of f) *ℤ dt) dx +ℤ thrust (push_by x l f) dx dt;
+  e = (pool_of x).e +ℤ l.volume -ℤ f.volume;
+  q = (pool_of x).q +ℤ quot_z ((l.advection -ℤ f.advection) *ℤ dt) dx +ℤ thrust (push_by x l f) dx dt;
 }
 
 -- cell i of the tables, dried
-abbrev pub end_at : Call → List ℤ → List (List ℤ) → List (List ℤ) → ℕ → Pool
+abbrev pub end_at : Call → List ℤ → List (List ℤ) → List FaceRow → ℕ → Pool
 end_at c bed b f i =
-    dried_pool c.dry (get_or bed i (pos 0)) (update_by c.dx c.dt (get_or b i []) (get_or f i []) (get_or f (suc i) []))
+    dried_pool c.dry (get_or bed i (pos 0)) (update_by c.dx c.dt (get_or b i []) (get_or f i no_face) (get_or f (suc i) no_face))

@@ -13,8 +13,13 @@ pub type Pool = [i64; 2];
 // right face, and its speed.
 pub type Row = [i64; 5];
 
-// What is kept of a face: the volume V, the pressure K and the advection A.
-pub type FaceRow = [i64; 3];
+// What is kept of a face: V, K and A.
+#[derive(Clone, Copy)]
+pub struct FaceRow {
+    pub volume: i64,
+    pub pressure: i64,
+    pub advection: i64,
+}
 
 // An end: a wall, which turns water back, or open, which lets it through.
 #[derive(Clone, Copy, Debug, PartialEq, Eq)]

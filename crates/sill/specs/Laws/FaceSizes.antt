@@ -18,8 +18,9 @@ use Rattle.rules.specs.Laws.Sizes.{Sound, Sized}
 use Rattle.rules.proofs.Laws.Sizes.{face_sized}
 use Rattle.reach.specs.Ranges.{UpTo}
 use Rattle.sill.specs.declared.rows.Call.{Call}
+use Rattle.sill.specs.declared.rows.FaceRow as rows
 use Rattle.sill.specs.Told.{kind_of}
-use Rattle.sill.specs.Rows.{left_of, right_of, face_row, cross_in, face_row_at}
+use Rattle.sill.specs.Rows.{left_of, right_of, face_row, no_face, cross_in, face_row_at}
 use Rattle.sill.specs.Ranges.{Numbers, Rows, FaceRow, FaceRows}
 
 -- a side seen from the other bank is within the limits as it is, and so is the outer side of an end
@@ -77,7 +78,7 @@ module _ (call : Call) (b : List (List ℤ)) where
             subst Sized (sym (at_inner i f e)) (face_sized _ _ (s (i - 1) (omega (arith, f))).right (s i (omega (arith, e))).left)
 
     -- and the rows that are kept of all faces have the sizes that an update asks
-    pub face_rows : (f : List (List ℤ)) → Written [] f (suc n) (face_row_at call b) → FaceRows f n
+    pub face_rows : (f : List rows.FaceRow) → Written no_face f (suc n) (face_row_at call b) → FaceRows f n
     face_rows f w i h =
         subst FaceRow (sym (w i h)) (row_sized call.dx call.dt (cross_in call b i) num.dt_in (cross_sized i (omega arith)))
 
