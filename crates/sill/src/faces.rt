@@ -10,7 +10,7 @@ ghost use Rattle.sill.specs.Told.{kind_of};
 ghost use Rattle.sill.specs.Rows.{no_face, face_row, cross_in, long_at, face_row_at};
 ghost use Rattle.sill.specs.Ranges.{Numbers, Rows};
 
-use crate::rows::{Call, End, FaceRow, Row, left_side, right_side};
+use crate::rows::{Call, End, FaceRow, Row};
 use face::sides::{Flux, Side};
 
 // What crosses between two sides. Both are within the limits, so there always is a flux. A side of
@@ -44,14 +44,14 @@ fn face_at(b: &[Row], call: Call, i: usize) -> Flux
     ensures { flux_in result ≡ cross_in call b.now i }
 {
     if i == 0 {
-        let first = left_side(b[0]);
+        let first = b[0].left_side();
         return crossing(outer(call.left, first), first);
     }
-    let before = right_side(b[i - 1]);
+    let before = b[i - 1].right_side();
     if i == call.n {
         return crossing(before, outer(call.right, before));
     }
-    crossing(before, left_side(b[i]))
+    crossing(before, b[i].left_side())
 }
 
 // Is the step too long for the top speed of a face?

@@ -1,4 +1,4 @@
-// The numbers that travel together, and the rows that the step keeps in its tables: each has one meaning.
+// The numbers that travel together, and the rows that the step keeps in its tables: each has one name.
 ghost use Rattle.std.specs.Prelude.{◌≡◌};
 ghost use Rattle.face.specs.Sides.{side_in};
 ghost use Rattle.sill.specs.Rows.{left_of, right_of};
@@ -11,7 +11,35 @@ pub type Pool = [i64; 2];
 
 // A cell after friction: its level and its discharge, its depths over the crests at its left and at its
 // right face, and its speed.
-pub type Row = [i64; 5];
+#[derive(Clone, Copy)]
+pub struct Row {
+    pub level: i64,
+    pub discharge: i64,
+    pub left_depth: i64,
+    pub right_depth: i64,
+    pub speed: i64,
+}
+
+// What it shows to its two faces.
+impl Row {
+    pub fn left_side(self) -> Side
+        ensures { side_in result ≡ left_of self }
+    {
+        Side {
+            h: self.left_depth,
+            u: self.speed,
+        }
+    }
+
+    pub fn right_side(self) -> Side
+        ensures { side_in result ≡ right_of self }
+    {
+        Side {
+            h: self.right_depth,
+            u: self.speed,
+        }
+    }
+}
 
 // What is kept of a face: V, K and A.
 #[derive(Clone, Copy)]
@@ -38,23 +66,4 @@ pub struct Call {
     pub n: usize,
     pub left: End,
     pub right: End,
-}
-
-// The two sides of a cell's row.
-pub fn left_side(row: Row) -> Side
-    ensures { side_in result ≡ left_of row }
-{
-    Side {
-        h: row[2],
-        u: row[4],
-    }
-}
-
-pub fn right_side(row: Row) -> Side
-    ensures { side_in result ≡ right_of row }
-{
-    Side {
-        h: row[3],
-        u: row[4],
-    }
 }

@@ -107,13 +107,20 @@ fn on_own_tables<const N: usize, const F: usize>(
         result next.old next.new }
 {
     ready(state, bed, friction, call.n)?;
-    let mut b = [[0i64; 5]; N];
-    let empty = FaceRow {
+    let cell = Row {
+        level: 0,
+        discharge: 0,
+        left_depth: 0,
+        right_depth: 0,
+        speed: 0,
+    };
+    let face = FaceRow {
         volume: 0,
         pressure: 0,
         advection: 0,
     };
-    let mut f = [empty; F];
+    let mut b = [cell; N];
+    let mut f = [face; F];
     let mut a = [[0i64; 2]; N];
     on_tables(state, next, bed, friction, call, &mut b, &mut f, &mut a)
 }

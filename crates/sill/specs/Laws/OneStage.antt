@@ -28,6 +28,7 @@ use Rattle.sill_rules.specs.Refusals.{off_pool, off, fast_friction, fast_face, t
 use Rattle.sill_rules.proofs.Laws.Positive.{Fine, Wet, over≥0, left_shown, right_shown}
 use Rattle.sill_rules.proofs.Laws.Speeds.{slow_cells, slow_faces}
 use Rattle.sill.specs.declared.rows.Call.{Call}
+use Rattle.sill.specs.declared.rows.Row as cells
 use Rattle.sill.specs.declared.rows.FaceRow.{FaceRow}
 use Rattle.sill.specs.Told.{reach_in, call_in}
 use Rattle.sill.specs.Rows.{no_face, face_row, cross_in, long_at, face_row_at, end_at}
@@ -78,7 +79,7 @@ module _ (call : Call) (num : Numbers call) (bed : List ℤ) (friction : List �
       rubbed_inside call.dt call.dry (pos (get_or friction i 0)) (get_or bed i (pos 0)) (s i) num.dt_pos num.dry.least (lent i l)
 
   -- ---- friction has answered k, with the rows of the cells in b
-  module _ {k : Option ℕ} {b : List (List ℤ)} (rub : RubSays r c s k b) where
+  module _ {k : Option ℕ} {b : List cells.Row} (rub : RubSays r c s k b) where
     pub fast_stops : (i : ℕ) → k ≡ Some i → at 6 i ≡ found checks
     fast_stops i e = let fast = found_says _ n i (sym rub.stops ∙ e) in stops_at checks 0 i tt fast.1 fast.2
 
