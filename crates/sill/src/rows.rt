@@ -1,4 +1,4 @@
-// The numbers that travel together, and the rows that the step keeps in its tables: each has one name.
+// The numbers that travel together, and the rows that the step keeps in its tables: each has one meaning.
 ghost use Rattle.std.specs.Prelude.{◌≡◌};
 ghost use Rattle.face.specs.Sides.{side_in};
 ghost use Rattle.sill.specs.Rows.{left_of, right_of};

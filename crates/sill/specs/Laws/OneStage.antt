@@ -40,7 +40,8 @@ use Rattle.sill.specs.Laws.RowsAreRules.{cross_is, end_is}
 
 -- ---- what a stage answers that a check stopped,
 pub stopped_says : {r : rules.Reach} {c : rules.Call} {s : State} {x : Result (Unit {0}) Refused} (e : Refused) → x ≡ Err e
-    → at (number_of e.refusal) e.place ≡ found (stage_checks r c s) → (f : List FaceRow) (a : List (List ℤ)) → StageSays r c s (found_in x) f a
+    → at (number_of e.refusal) e.place ≡ found (stage_checks r c s) → (f : List FaceRow) (a : List (List ℤ))
+    → StageSays r c s (found_in x) f a
 stopped_says e is told f a = record {
   found = ap found_in is ∙ told;
   done = λ z. absurd (omega (arith, ap (λ (y : Result (Unit {0}) Refused). (found_in y).no) is, z, refused_some e.refusal));

@@ -16,7 +16,8 @@ use Rattle.sill.specs.declared.rows.Call.{Call}
 use Rattle.sill.specs.declared.rows.Row.{Row}
 use Rattle.sill.specs.declared.rows.FaceRow.{FaceRow}
 use Rattle.sill.specs.Told.{reach_in, call_in}
-use Rattle.sill.specs.Rows.{row_at, left_of, right_of, no_row, no_face, face_row, shown_in, cross_in, face_row_at, thrust, push_by, update_by, end_at}
+use Rattle.sill.specs.Rows.{row_at, left_of, right_of, no_row, no_face, face_row, shown_in, cross_in, face_row_at}
+use Rattle.sill.specs.Rows.{thrust, push_by, update_by, end_at}
 
 -- an update from rows is the rule's
 update_is : (call : Call) (bed : List ℤ) (ρ : ℕ → ℤ) (s : State) (i : ℕ) (l f : Flux) → let r = reach_in call bed in

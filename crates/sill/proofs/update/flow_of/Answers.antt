@@ -12,7 +12,8 @@ use Rattle.sill.specs.Rows.{thrust}
 use Rattle.sill.proofs.update.flow_of.Goals as goal
 
 -- the five numbers of the line, in their order, and then others
-abbrev and_then : {x : cells.Row} {l f : faces.FaceRow} {call : Call} → Row x × FaceRow l × FaceRow f → Numbers call → List Entry → List Entry
+abbrev and_then : {x : cells.Row} {l f : faces.FaceRow} {call : Call} → Row x × FaceRow l × FaceRow f → Numbers call → List Entry
+    → List Entry
 and_then rows num more =
     sized rows.0.q tt ∷ sized rows.1.A tt ∷ sized rows.2.A tt ∷ sized num.dx_in tt ∷ sized num.dt_in tt ∷ more
 
