@@ -1,12 +1,14 @@
 -- What the functions of the step ask of one another: room in the tables, and ranges that keep every product within 64 bits.
-use Rattle.std.specs.Prelude.{◌≡◌, false, List, [], ℕ, suc, ◌*◌, ◌≤◌, ◌<◌, get_or, length, ℤ, pos, ◌+ℤ◌, ◌≤ℤ◌, ◌<ℤ◌}
+use Rattle.std.specs.Prelude.{◌≡◌, false, List, ℕ, suc, ◌*◌, ◌≤◌, ◌<◌, get_or, length, ℤ, pos, ◌+ℤ◌, ◌≤ℤ◌, ◌<ℤ◌}
 use Rattle.tables.specs.Pools.{Pool, pool_in}
 use Rattle.rules.specs.Limits.{most_cells, highest_bed, longest_cell, longest_step, deepest, fullest}
 use Rattle.rules.specs.Laws.Sizes.{Sound}
 use Rattle.reach.specs.Ranges.{UpTo, widest, DryDepth}
 use Rattle.sill_rules.specs.Refusals.{off_pool}
 use Rattle.sill.specs.declared.rows.Call.{Call}
-use Rattle.sill.specs.Rows.{pool_of, left_of, right_of, volume_of, pressure_of, advection_of}
+use Rattle.sill.specs.declared.rows.Row as cells
+use Rattle.sill.specs.declared.rows.FaceRow as faces
+use Rattle.sill.specs.Rows.{left_of, right_of, no_row, no_face}
 
 -- ---- sizes
 -- a level, which is a depth over a bed
@@ -70,24 +72,24 @@ pub record Lengths (c : Call) (state next bed : List ℤ) (friction : List ℕ) 
   pub friction_is : length friction ≡ c.n
 
 -- the row of a cell in range, and the rows of n cells
-pub record Row (l : List ℤ) : Type 0 where
-  pub e : UpTo highest_level (pool_of l).e
-  pub q : UpTo fullest (pool_of l).q
-  pub left : Sound (left_of l)
-  pub right : Sound (right_of l)
+pub record Row (x : cells.Row) : Type 0 where
+  pub e : UpTo highest_level x.level
+  pub q : UpTo fullest x.discharge
+  pub left : Sound (left_of x)
+  pub right : Sound (right_of x)
 
-abbrev pub Rows : List (List ℤ) → ℕ → Type 0
-Rows b n = (i : ℕ) → i < n → Row (get_or b i [])
+abbrev pub Rows : List cells.Row → ℕ → Type 0
+Rows b n = (i : ℕ) → i < n → Row (get_or b i no_row)
 
 -- ---- the row of a face, and the rows of the faces 0 to n
-pub record FaceRow (l : List ℤ) : Type 0 where
-  pub vol : UpTo most_volume (volume_of l)
-  pub K_least : pos 0 ≤ℤ pressure_of l
-  pub K : pressure_of l ≤ℤ most_square
-  pub A : UpTo most_advection (advection_of l)
+pub record FaceRow (l : faces.FaceRow) : Type 0 where
+  pub vol : UpTo most_volume l.volume
+  pub K_least : pos 0 ≤ℤ l.pressure
+  pub K : l.pressure ≤ℤ most_square
+  pub A : UpTo most_advection l.advection
 
-abbrev pub FaceRows : List (List ℤ) → ℕ → Type 0
-FaceRows f n = (i : ℕ) → i < suc n → FaceRow (get_or f i [])
+abbrev pub FaceRows : List faces.FaceRow → ℕ → Type 0
+FaceRows f n = (i : ℕ) → i < suc n → FaceRow (get_or f i no_face)
 
 -- ---- a cell whose numbers fit the lent i32 table
 pub record Fits (x : Pool) : Type 0 where

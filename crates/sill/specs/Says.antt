@@ -10,8 +10,10 @@ use Rattle.sill_rules.specs.Step.{rubbed, face_at, next, carry}
 use Rattle.sill_rules.specs.Refusals.{bad_bed, off_pool, off, fast_friction, fast_face, too_long}
 use Rattle.reach.specs.Places.{first_place}
 use Rattle.sill.specs.declared.rows.Call.{Call as ToldCall}
+use Rattle.sill.specs.declared.rows.Row.{Row}
+use Rattle.sill.specs.declared.rows.FaceRow.{FaceRow}
 use Rattle.sill.specs.Told.{reach_in, call_in}
-use Rattle.sill.specs.Rows.{row_at, face_row}
+use Rattle.sill.specs.Rows.{row_at, no_row, no_face, face_row}
 use Rattle.sill.specs.Ranges.{Fits}
 
 -- checks 3 to 5 of the lent tables
@@ -32,17 +34,17 @@ stage_checks r c s =
     ∷ []
 
 -- the check of the friction speeds of s: the lowest cell that it refuses, or none; and then the rows of the cells after friction, in b
-pub record RubSays (r : Reach) (c : Call) (s : State) (k : Option ℕ) (b : List (List ℤ)) : Type 0 where
+pub record RubSays (r : Reach) (c : Call) (s : State) (k : Option ℕ) (b : List Row) : Type 0 where
   pub stops : k ≡ first_place (fast_friction r c s) r.n
-  pub rows : k ≡ None → Written [] b r.n (row_at r c.dry (rubbed r c s))
+  pub rows : k ≡ None → Written no_row b r.n (row_at r c.dry (rubbed r c s))
 
 -- the stage from s: what its checks found, and where that is none the rows of its faces in f and the end state in a
-pub record StageDone (r : Reach) (c : Call) (s : State) (f a : List (List ℤ)) : Type 0 where
-  pub faces : Written [] f (suc r.n) (λ i. face_row r.dx c.dt (face_at r c (rubbed r c s) i))
+pub record StageDone (r : Reach) (c : Call) (s : State) (f : List FaceRow) (a : List (List ℤ)) : Type 0 where
+  pub faces : Written no_face f (suc r.n) (λ i. face_row r.dx c.dt (face_at r c (rubbed r c s) i))
   pub pools : Written [] a r.n (λ i. as_row (next r c s i))
   pub fits : (i : ℕ) → i < r.n → Fits (next r c s i)
 
-pub record StageSays (r : Reach) (c : Call) (s : State) (k : Found) (f a : List (List ℤ)) : Type 0 where
+pub record StageSays (r : Reach) (c : Call) (s : State) (k : Found) (f : List FaceRow) (a : List (List ℤ)) : Type 0 where
   pub found : k ≡ found (stage_checks r c s)
   pub done : k.no ≡ 0 → StageDone r c s f a
 

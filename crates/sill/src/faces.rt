@@ -1,5 +1,5 @@
 // What crosses each face of the reach: worked once, and kept with its volume.
-ghost use Rattle.std.specs.Prelude.{◌≡◌, [], suc, ◌≤◌, ◌<◌, length};
+ghost use Rattle.std.specs.Prelude.{◌≡◌, suc, ◌≤◌, ◌<◌, length};
 ghost use Rattle.rules.specs.Face.{face};
 ghost use Rattle.rules.specs.Ends as rules;
 ghost use Rattle.rules.specs.Refusals.{is_long};
@@ -7,10 +7,10 @@ ghost use Rattle.rules.specs.Laws.Sizes.{Sound, Sized};
 ghost use Rattle.reach.specs.Places.{FillStops};
 ghost use Rattle.face.specs.Sides.{side_in, flux_in};
 ghost use Rattle.sill.specs.Told.{kind_of};
-ghost use Rattle.sill.specs.Rows.{face_row, cross_in, long_at, face_row_at};
+ghost use Rattle.sill.specs.Rows.{no_face, face_row, cross_in, long_at, face_row_at};
 ghost use Rattle.sill.specs.Ranges.{Numbers, Rows};
 
-use crate::rows::{Call, End, FaceRow, Row, left_side, right_side};
+use crate::rows::{Call, End, FaceRow, Row};
 use face::sides::{Flux, Side};
 
 // What crosses between two sides. Both are within the limits, so there always is a flux. A side of
@@ -44,14 +44,14 @@ fn face_at(b: &[Row], call: Call, i: usize) -> Flux
     ensures { flux_in result ≡ cross_in call b.now i }
 {
     if i == 0 {
-        let first = left_side(b[0]);
+        let first = b[0].left_side();
         return crossing(outer(call.left, first), first);
     }
-    let before = right_side(b[i - 1]);
+    let before = b[i - 1].right_side();
     if i == call.n {
         return crossing(before, outer(call.right, before));
     }
-    crossing(before, left_side(b[i]))
+    crossing(before, b[i].left_side())
 }
 
 // Is the step too long for the top speed of a face?
@@ -69,7 +69,11 @@ fn face_row(x: Flux, call: Call) -> FaceRow
     requires numbers { Numbers call }
     ensures { result ≡ face_row call.dx call.dt (flux_in x) }
 {
-    [x.f * call.dt / call.dx, x.k, x.a]
+    FaceRow {
+        volume: x.f * call.dt / call.dx,
+        pressure: x.k,
+        advection: x.a,
+    }
 }
 
 // 7: the rows of the n + 1 faces into f, up to the lowest at which the step is too long, which it gives.
@@ -77,7 +81,7 @@ pub fn faces(b: &[Row], call: Call, f: &mut [FaceRow]) -> Option<usize>
     requires numbers { Numbers call }
     requires room { (call.n ≤ length b.now) × (call.n < length f.old) }
     requires rows { Rows b.now call.n }
-    ensures { FillStops [] (suc call.n) (long_at call b.now) (face_row_at call b.now) result f.new }
+    ensures { FillStops no_face (suc call.n) (long_at call b.now) (face_row_at call b.now) result f.new }
 {
     for i in 0..=call.n {
         let x = face_at(b, call, i);

@@ -11,10 +11,43 @@ pub type Pool = [i64; 2];
 
 // A cell after friction: its level and its discharge, its depths over the crests at its left and at its
 // right face, and its speed.
-pub type Row = [i64; 5];
+#[derive(Clone, Copy)]
+pub struct Row {
+    pub level: i64,
+    pub discharge: i64,
+    pub left_depth: i64,
+    pub right_depth: i64,
+    pub speed: i64,
+}
 
-// What is kept of a face: the volume V, the pressure K and the advection A.
-pub type FaceRow = [i64; 3];
+// What it shows to its two faces.
+impl Row {
+    pub fn left_side(self) -> Side
+        ensures { side_in result ≡ left_of self }
+    {
+        Side {
+            h: self.left_depth,
+            u: self.speed,
+        }
+    }
+
+    pub fn right_side(self) -> Side
+        ensures { side_in result ≡ right_of self }
+    {
+        Side {
+            h: self.right_depth,
+            u: self.speed,
+        }
+    }
+}
+
+// What is kept of a face: V, K and A.
+#[derive(Clone, Copy)]
+pub struct FaceRow {
+    pub volume: i64,
+    pub pressure: i64,
+    pub advection: i64,
+}
 
 // An end: a wall, which turns water back, or open, which lets it through.
 #[derive(Clone, Copy, Debug, PartialEq, Eq)]
@@ -33,23 +66,4 @@ pub struct Call {
     pub n: usize,
     pub left: End,
     pub right: End,
-}
-
-// The two sides of a cell's row.
-pub fn left_side(row: Row) -> Side
-    ensures { side_in result ≡ left_of row }
-{
-    Side {
-        h: row[2],
-        u: row[4],
-    }
-}
-
-pub fn right_side(row: Row) -> Side
-    ensures { side_in result ≡ right_of row }
-{
-    Side {
-        h: row[3],
-        u: row[4],
-    }
 }

@@ -1,7 +1,7 @@
 // Friction, which slows the discharge of a cell and leaves its level; and what the faces then see of it.
-ghost use Rattle.std.specs.Prelude.{◌≡◌, false, ◌*◌, ◌≤◌, ◌<◌, get_or, length, pos, ◌≤ℤ◌, ◌<ℤ◌};
+ghost use Rattle.std.specs.Prelude.{◌≡◌, false, ◌*◌, ◌≤◌, ◌<◌, get_or, length, pos, ◌≤ℤ◌};
 ghost use Rattle.tables.specs.Pools.{as_pool, as_row, pool_in};
-ghost use Rattle.rules.specs.Limits.{least_dry, deepest, fullest, fastest, roughest, longest_step};
+ghost use Rattle.rules.specs.Limits.{fullest, fastest, roughest};
 ghost use Rattle.rules.specs.Friction.{drag, slowed};
 ghost use Rattle.reach.specs.Ranges.{UpTo};
 ghost use Rattle.friction.specs.Strength as strength;
@@ -68,10 +68,13 @@ fn row_of(call: Call, bed: &[i32], i: usize, x: Pool) -> Row
     requires inside { Inside (get_or bed.now i (pos 0)) (as_pool x) }
     ensures { result ≡ row_by (reach_in call bed.now) call.dry i (as_pool x) }
 {
-    let l = over(crest_left(bed, call, i), x[0]);
-    let r = over(crest_right(bed, call, i), x[0]);
-    let u = speed_of(x[1], depth_of(bed_at(bed, i), x), call.dry);
-    [x[0], x[1], l, r, u]
+    Row {
+        level: x[0],
+        discharge: x[1],
+        left_depth: over(crest_left(bed, call, i), x[0]),
+        right_depth: over(crest_right(bed, call, i), x[0]),
+        speed: speed_of(x[1], depth_of(bed_at(bed, i), x), call.dry),
+    }
 }
 
 // 6: the rows of the cells of a lent state into b, up to the lowest that is too fast for friction, which it

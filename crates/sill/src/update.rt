@@ -7,7 +7,7 @@ ghost use Rattle.reach.specs.Places.{FillStops};
 ghost use Rattle.reach.specs.Ranges.{UpTo};
 ghost use Rattle.sill_rules.specs.Step.{dried_pool};
 ghost use Rattle.sill_rules.specs.Refusals.{off_pool};
-ghost use Rattle.sill.specs.Rows.{pool_of, volume_of, advection_of, thrust, push_by, update_by, end_at};
+ghost use Rattle.sill.specs.Rows.{thrust, push_by, update_by, end_at};
 ghost use Rattle.sill.specs.Ranges as ranges;
 ghost use Rattle.sill.specs.Ranges.{most_pressure, Numbers, Wide, Grounds, Rows, FaceRows};
 
@@ -21,7 +21,7 @@ fn push_of(x: Row, l: FaceRow, f: FaceRow) -> i64
     requires { ranges.Row x × ranges.FaceRow l × ranges.FaceRow f }
     ensures { result ≡ push_by x l f }
 {
-    (l[1] - x[2] * x[2]) - (f[1] - x[3] * x[3])
+    (l.pressure - x.left_depth * x.left_depth) - (f.pressure - x.right_depth * x.right_depth)
 }
 
 // 981·e·dt/(819,200·dx): how the pressure e moves a discharge. The product is formed whole.
@@ -37,22 +37,21 @@ fn thrust_of(e: i64, call: Call) -> i64
 // The level and the discharge of a cell of the row x between the rows l and f of its faces.
 fn level_of(x: Row, l: FaceRow, f: FaceRow) -> i64
     requires { ranges.Row x × ranges.FaceRow l × ranges.FaceRow f }
-    ensures { result ≡ (pool_of x).e +ℤ volume_of l -ℤ volume_of f }
+    ensures { result ≡ x.level +ℤ l.volume -ℤ f.volume }
 {
-    x[0] + l[0] - f[0]
+    x.level + l.volume - f.volume
 }
 
 fn flow_of(x: Row, l: FaceRow, f: FaceRow, e: i64, call: Call) -> i64
     requires row { ranges.Row x × ranges.FaceRow l × ranges.FaceRow f }
     requires up_to { UpTo most_pressure e }
     requires numbers { Numbers call }
-    ensures { result ≡ (pool_of x).q +ℤ quot_z ((advection_of l -ℤ advection_of f) *ℤ call.dt) call.dx
+    ensures { result ≡ x.discharge +ℤ quot_z ((l.advection -ℤ f.advection) *ℤ call.dt) call.dx
         +ℤ thrust e call.dx call.dt }
 {
-    x[1] + (l[2] - f[2]) * call.dt / call.dx + thrust_of(e, call)
+    x.discharge + (l.advection - f.advection) * call.dt / call.dx + thrust_of(e, call)
 }
 
-#[tactic(auto, using(crate::specs::Laws::PoolSizes::push_size), unfolding(crate::specs::Rows::update_by))]
 fn updated(x: Row, l: FaceRow, f: FaceRow, call: Call) -> Pool
     requires row { ranges.Row x × ranges.FaceRow l × ranges.FaceRow f }
     requires numbers { Numbers call }

@@ -1,6 +1,6 @@
 // The step of a call whose lengths and numbers are in order, worked on tables of this crate's own and
 // stored in the lent one at its end.
-ghost use Rattle.std.specs.Prelude.{◌≡◌, [], suc, ◌*◌, ◌≤◌, ◌<◌, get_or, length, pos};
+ghost use Rattle.std.specs.Prelude.{◌≡◌, suc, ◌*◌, ◌≤◌, ◌<◌, get_or, length, pos};
 ghost use Rattle.tables.specs.Pools.{pool_in};
 ghost use Rattle.rules.specs.Limits.{most_cells};
 ghost use Rattle.rules.specs.Refusals.{Clear};
@@ -8,7 +8,6 @@ ghost use Rattle.rules.specs.Found.{found};
 ghost use Rattle.reach.specs.Told.{found_in};
 ghost use Rattle.reach.specs.Gives.{Gives};
 ghost use Rattle.sill.specs.Told.{reach_in, call_in};
-ghost use Rattle.sill.specs.Rows.{volume_of};
 ghost use Rattle.sill.specs.Ranges.{Numbers, Grounds, Smooth, Ranged, Lengths};
 ghost use Rattle.sill.specs.Says.{ready_checks, StageSays, tables_outcome};
 
@@ -63,14 +62,6 @@ fn stage(
     Refusal::Stage.at(update(b, bed, f, call, a))
 }
 
-// V at face i.
-fn volume_at(f: &[FaceRow], i: usize) -> i64
-    requires { i < length f.now }
-    ensures { result ≡ volume_of (get_or f.now i []) }
-{
-    f[i][0]
-}
-
 // The step from a lent state that passed those checks, on the tables lent for it.
 #[tactic(auto, using(crate::specs::Laws::LentChecks::lent))]
 fn on_tables(
@@ -93,8 +84,8 @@ fn on_tables(
     stage(state, bed, friction, call, b, f, a)?;
     store(a, call.n, next);
     Ok(Volumes {
-        first: volume_at(f, 0),
-        last: volume_at(f, call.n),
+        first: f[0].volume,
+        last: f[call.n].volume,
     })
 }
 
@@ -116,8 +107,20 @@ fn on_own_tables<const N: usize, const F: usize>(
         result next.old next.new }
 {
     ready(state, bed, friction, call.n)?;
-    let mut b = [[0i64; 5]; N];
-    let mut f = [[0i64; 3]; F];
+    let cell = Row {
+        level: 0,
+        discharge: 0,
+        left_depth: 0,
+        right_depth: 0,
+        speed: 0,
+    };
+    let face = FaceRow {
+        volume: 0,
+        pressure: 0,
+        advection: 0,
+    };
+    let mut b = [cell; N];
+    let mut f = [face; F];
     let mut a = [[0i64; 2]; N];
     on_tables(state, next, bed, friction, call, &mut b, &mut f, &mut a)
 }

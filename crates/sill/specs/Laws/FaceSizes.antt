@@ -1,6 +1,6 @@
 -- What crosses a face at an end and between two cells, and its sizes where all sides are within the limits.
 -- Assumes nothing.
-use Rattle.std.specs.Prelude.{◌≡◌, refl, List, [], eqb, get_or, ℤ, neg_ℤ}
+use Rattle.std.specs.Prelude.{◌≡◌, refl, List, eqb, get_or, ℤ, neg_ℤ}
 use Rattle.std.proofs.Common.{sym, subst, eq-eqb, ne_eqb}
 use Prim.Native.Nat.{ℕ, zero, suc, ◌-◌, ◌≤◌}
 use native.Mathlib.Omega.{arith}
@@ -18,8 +18,10 @@ use Rattle.rules.specs.Laws.Sizes.{Sound, Sized}
 use Rattle.rules.proofs.Laws.Sizes.{face_sized}
 use Rattle.reach.specs.Ranges.{UpTo}
 use Rattle.sill.specs.declared.rows.Call.{Call}
+use Rattle.sill.specs.declared.rows.Row as cells
+use Rattle.sill.specs.declared.rows.FaceRow as faces
 use Rattle.sill.specs.Told.{kind_of}
-use Rattle.sill.specs.Rows.{left_of, right_of, face_row, cross_in, face_row_at}
+use Rattle.sill.specs.Rows.{left_of, right_of, no_row, no_face, face_row, cross_in, face_row_at}
 use Rattle.sill.specs.Ranges.{Numbers, Rows, FaceRow, FaceRows}
 
 -- a side seen from the other bank is within the limits as it is, and so is the outer side of an end
@@ -39,15 +41,15 @@ row_sized : (dx dt : ℤ) (f : Flux) → UpTo longest_step dt → Sized f → Fa
 unfolding volume
 row_sized dx dt f t s = record { vol = b_quot dx (b_mul s.F t); K_least = s.K≥0; K = s.K; A = s.A }
 
-module _ (call : Call) (b : List (List ℤ)) where
+module _ (call : Call) (b : List cells.Row) where
   abbrev n : ℕ
   n = call.n
 
   abbrev left : ℕ → Side
-  left i = left_of (get_or b i [])
+  left i = left_of (get_or b i no_row)
 
   abbrev right : ℕ → Side
-  right i = right_of (get_or b i [])
+  right i = right_of (get_or b i no_row)
 
   pub at_left : (i : ℕ) → i ≡ 0 → cross_in call b i ≡ face (outer (kind_of call.left) (left 0)) (left 0)
   unfolding cross_at
@@ -77,7 +79,7 @@ module _ (call : Call) (b : List (List ℤ)) where
             subst Sized (sym (at_inner i f e)) (face_sized _ _ (s (i - 1) (omega (arith, f))).right (s i (omega (arith, e))).left)
 
     -- and the rows that are kept of all faces have the sizes that an update asks
-    pub face_rows : (f : List (List ℤ)) → Written [] f (suc n) (face_row_at call b) → FaceRows f n
+    pub face_rows : (f : List faces.FaceRow) → Written no_face f (suc n) (face_row_at call b) → FaceRows f n
     face_rows f w i h =
         subst FaceRow (sym (w i h)) (row_sized call.dx call.dt (cross_in call b i) num.dt_in (cross_sized i (omega arith)))
 

@@ -18,8 +18,9 @@ use Rattle.sill_rules.specs.Reach as rules
 use Rattle.sill_rules.specs.Reach.{State}
 use Rattle.sill_rules.specs.Step.{next, carry}
 use Rattle.sill.specs.declared.rows.Call.{Call}
+use Rattle.sill.specs.declared.rows.FaceRow.{FaceRow}
 use Rattle.sill.specs.Told.{reach_in, call_in}
-use Rattle.sill.specs.Rows.{volume_of}
+use Rattle.sill.specs.Rows.{no_face}
 use Rattle.sill.specs.Says.{ready_checks, stage_checks, StageSays, tables_outcome}
 
 -- a list in which no number is over m gives none over m
@@ -74,7 +75,7 @@ module _ (call : Call) (bed : List ℤ) (friction : List ℕ) (state : List ℤ)
   -- or k, which is none,
   module _ {k : Found} (lent : k ≡ found ready) where
     -- and the stage m
-    module _ (z : k.no ≡ 0) {m : Found} {f a : List (List ℤ)} (worked : StageSays r c s m f a) where
+    module _ (z : k.no ≡ 0) {m : Found} {f : List FaceRow} {a : List (List ℤ)} (worked : StageSays r c s m f a) where
       found_both : m ≡ found checks
       found_both = worked.found ∙ went_on ready (stage_checks r c s) tt lent z
 
@@ -89,13 +90,14 @@ module _ (call : Call) (bed : List ℤ) (friction : List ℕ) (state : List ℤ)
         stored = pools_are n (pool_table n (pools_seen a)) (next r c s) (length_pools n (pools_seen a))
             (λ i l. pool_in_table n (pools_seen a) i l ∙ shown i l)
 
-        pub stage_done : (old : List ℤ) {new : List ℤ} {w v : ℤ} → new ≡ pool_table n (pools_seen a) → w ≡ volume_of (get_or f 0 [])
-            → v ≡ volume_of (get_or f n []) → Gives gives (Ok (record { first = w; last = v })) old new
+        pub stage_done : (old : List ℤ) {new : List ℤ} {w v : ℤ} → new ≡ pool_table n (pools_seen a) → w ≡ (get_or f 0 no_face).volume
+            → v ≡ (get_or f n no_face).volume → Gives gives (Ok (record { first = w; last = v })) old new
         unfolding answer number_in leaves code carry
         stage_done old e p q =
             let is = accepts _ _ _ checks (ap (λ (x : Found). x.no) (sym found_both) ∙ y) in
             let face = (worked.done y).faces in
-            let left = p ∙ ap volume_of (face 0 (omega arith)) in let right = q ∙ ap volume_of (face n (omega arith)) in
+            let left = p ∙ ap (λ (x : FaceRow). x.volume) (face 0 (omega arith)) in
+            let right = q ∙ ap (λ (x : FaceRow). x.volume) (face n (omega arith)) in
             record {
               says = (λ j. Ok (record { first = left j; last = right j })) ∙ sym (ap answer is);
               number = sym (ap number_in is);

@@ -28,8 +28,10 @@ use Rattle.sill_rules.specs.Refusals.{off_pool, off, fast_friction, fast_face, t
 use Rattle.sill_rules.proofs.Laws.Positive.{Fine, Wet, over≥0, left_shown, right_shown}
 use Rattle.sill_rules.proofs.Laws.Speeds.{slow_cells, slow_faces}
 use Rattle.sill.specs.declared.rows.Call.{Call}
+use Rattle.sill.specs.declared.rows.Row as cells
+use Rattle.sill.specs.declared.rows.FaceRow.{FaceRow}
 use Rattle.sill.specs.Told.{reach_in, call_in}
-use Rattle.sill.specs.Rows.{face_row, cross_in, long_at, face_row_at, end_at}
+use Rattle.sill.specs.Rows.{no_face, face_row, cross_in, long_at, face_row_at, end_at}
 use Rattle.sill.specs.Ranges.{Numbers, Inside, Ranged, Row, Rows, FaceRows}
 use Rattle.sill.specs.Says.{stage_checks, RubSays, StageDone, StageSays}
 use Rattle.sill.specs.Laws.PoolSizes.{pool_sizes, pool_fits, rubbed_inside}
@@ -38,14 +40,15 @@ use Rattle.sill.specs.Laws.RowsAreRules.{cross_is, end_is}
 
 -- ---- what a stage answers that a check stopped,
 pub stopped_says : {r : rules.Reach} {c : rules.Call} {s : State} {x : Result (Unit {0}) Refused} (e : Refused) → x ≡ Err e
-    → at (number_of e.refusal) e.place ≡ found (stage_checks r c s) → (f a : List (List ℤ)) → StageSays r c s (found_in x) f a
+    → at (number_of e.refusal) e.place ≡ found (stage_checks r c s) → (f : List FaceRow) (a : List (List ℤ))
+    → StageSays r c s (found_in x) f a
 stopped_says e is told f a = record {
   found = ap found_in is ∙ told;
   done = λ z. absurd (omega (arith, ap (λ (y : Result (Unit {0}) Refused). (found_in y).no) is, z, refused_some e.refusal));
 }
 
 -- or one whose last check ends it, where its search has found q
-pub ended_says : {r : rules.Reach} {c : rules.Call} {s : State} {f a : List (List ℤ)} (q : Option ℕ)
+pub ended_says : {r : rules.Reach} {c : rules.Call} {s : State} {f : List FaceRow} {a : List (List ℤ)} (q : Option ℕ)
     → ((i : ℕ) → q ≡ Some i → at 8 i ≡ found (stage_checks r c s)) → (q ≡ None → none ≡ found (stage_checks r c s))
     → (q ≡ None → StageDone r c s f a) → StageSays r c s (found_in (refused_at Stage q)) f a
 ended_says None stops ends done = record { found = ends refl; done = λ z. done refl }
@@ -77,7 +80,7 @@ module _ (call : Call) (num : Numbers call) (bed : List ℤ) (friction : List �
       rubbed_inside call.dt call.dry (pos (get_or friction i 0)) (get_or bed i (pos 0)) (s i) num.dt_pos num.dry.least (lent i l)
 
   -- ---- friction has answered k, with the rows of the cells in b
-  module _ {k : Option ℕ} {b : List (List ℤ)} (rub : RubSays r c s k b) where
+  module _ {k : Option ℕ} {b : List cells.Row} (rub : RubSays r c s k b) where
     pub fast_stops : (i : ℕ) → k ≡ Some i → at 6 i ≡ found checks
     fast_stops i e = let fast = found_says _ n i (sym rub.stops ∙ e) in stops_at checks 0 i tt fast.1 fast.2
 
@@ -112,7 +115,7 @@ module _ (call : Call) (num : Numbers call) (bed : List ℤ) (friction : List �
       face_is = cross_is call bed (λ i. pos (get_or friction i 0)) (rubbed r c s) num.some b (rub.rows m)
 
       -- ---- the faces have answered j, with their rows in f
-      module _ {j : Option ℕ} {f : List (List ℤ)} (faces : FillStops [] (suc n) (long_at call b) (face_row_at call b) j f) where
+      module _ {j : Option ℕ} {f : List FaceRow} (faces : FillStops no_face (suc n) (long_at call b) (face_row_at call b) j f) where
         long_is : (i : ℕ) → i < suc n → long_at call b i ≡ too_long r c (rubbed r c s) i
         unfolding too_long
         long_is i l = ap (is_long call.dx call.dt) (face_is i l)
@@ -126,10 +129,10 @@ module _ (call : Call) (num : Numbers call) (bed : List ℤ) (friction : List �
           brief : some (too_long r c (rubbed r c s)) (suc n) ≡ false
           brief = sym (some_same _ (too_long r c (rubbed r c s)) (suc n) long_is) ∙ none_says _ (suc n) (sym faces.stops ∙ o)
 
-          written : Written [] f (suc n) (face_row_at call b)
+          written : Written no_face f (suc n) (face_row_at call b)
           written =
               let all : suc n ≤ unwrap_or j (suc n) = rw o (omega arith) in
-              all_filled [] (suc n) (long_at call b) (face_row_at call b) faces.fills all
+              all_filled no_face (suc n) (long_at call b) (face_row_at call b) faces.fills all
 
           pub faces_in : FaceRows f n
           faces_in = face_rows call b num rows_in f written

@@ -1,7 +1,7 @@
 -- The size of every number of a cell in range, and of one after friction and after the stage.
 -- Assumes nothing.
 use Rattle.std.proofs.Common.{subst, arith}
-use Rattle.std.specs.Prelude.{List, ℤ, pos, ◌-ℤ◌, ◌≤ℤ◌, ◌<ℤ◌}
+use Rattle.std.specs.Prelude.{ℤ, pos, ◌-ℤ◌, ◌≤ℤ◌, ◌<ℤ◌}
 use Rattle.std.proofs.Math.Nat as NatL
 use Rattle.whole.specs.Flags.{cond_ind}
 use Rattle.whole.specs.Parts.{b_add, b_sub, b_mul, b_lit, b_up, b_nonneg, of_lt}
@@ -19,6 +19,8 @@ use Rattle.reach.specs.Ranges.{UpTo, widest}
 use Rattle.sill_rules.specs.Reach.{depth, shallow}
 use Rattle.sill_rules.specs.Step.{rubbed_pool, dried_pool}
 use Rattle.sill_rules.specs.Refusals.{pool_tests, off_pool}
+use Rattle.sill.specs.declared.rows.Row as cells
+use Rattle.sill.specs.declared.rows.FaceRow as faces
 use Rattle.sill.specs.Rows.{thrust, push_by, update_by}
 use Rattle.sill.specs.Ranges.{highest_level, most_pressure, most_thrust, Wide, Inside, Row, FaceRow, Fits}
 
@@ -58,7 +60,7 @@ rubbed_inside dt d f z x p l i =
     record { grounded = i.grounded; range = rw (fails 0, small) }
 
 -- ---- a cell after the stage, from its row x and the rows l and f of its faces
-module _ {x l f : List ℤ} (r : Row x) (p : FaceRow l) (q : FaceRow f) where
+module _ {x : cells.Row} {l f : faces.FaceRow} (r : Row x) (p : FaceRow l) (q : FaceRow f) where
   pub push_size : UpTo most_pressure (push_by x l f)
   unfolding push_by
   push_size =
@@ -71,7 +73,7 @@ unfolding thrust
 thrust_size e dx dt p h t =
     b_quot_ge 819199 (b_mul (b_mul (b_lit (pos 981)) p) t) (le! (lit 819200) (lit 819200 ⊠ at dx) (omega (arith, of_lt h)))
 
-pub update_wide : {x l f : List ℤ} (dx dt : ℤ) → Row x → FaceRow l → FaceRow f → pos 0 <ℤ dx → UpTo longest_step dt
+pub update_wide : {x : cells.Row} {l f : faces.FaceRow} (dx dt : ℤ) → Row x → FaceRow l → FaceRow f → pos 0 <ℤ dx → UpTo longest_step dt
     → Wide (update_by dx dt x l f)
 unfolding update_by
 update_wide dx dt r p q h t = record {

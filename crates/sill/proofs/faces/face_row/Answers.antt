@@ -23,4 +23,5 @@ nonzero_div-result c =
 
 pub returns : goal.returns
 unfolding volume
-returns c = let e = env c.requires.sized c.requires.numbers in λ j. value e carried tt j ∷ value e (v 1) tt j ∷ value e (v 2) tt j ∷ []
+returns c = let e = env c.requires.sized c.requires.numbers in
+    λ j. record { volume = value e carried tt j; pressure = value e (v 1) tt j; advection = value e (v 2) tt j }

@@ -1,9 +1,9 @@
-use Rattle.std.proofs.Common.{◌∙◌, sym, ap, subst, [], ◌+◌, arith}
+use Rattle.std.proofs.Common.{◌∙◌, sym, ap, subst, ◌+◌, arith}
 use Rattle.tables.proofs.Filling.{fill_more, fill_stops, fill_ends}
 use Rattle.rules.specs.Refusals.{is_long}
 use Rattle.rules.specs.Laws.Sizes.{Sized}
 use Rattle.reach.specs.Places.{fill_stopped, fill_ended}
-use Rattle.sill.specs.Rows.{face_row}
+use Rattle.sill.specs.Rows.{no_face, face_row}
 use Rattle.sill.specs.Laws.FaceSizes.{cross_sized}
 use Rattle.sill.proofs.faces.faces.Goals as goal
 
@@ -20,14 +20,14 @@ too_long-requires-clause-sized c =
 pub returns-then-too_long : goal.returns-then-too_long
 returns-then-too_long c =
     let a = c.args in let l = c.loop-i in
-    fill_stopped l.i (omega arith) (fill_stops [] _ _ _ _ l.f l.i _ (omega arith) (omega arith) l.invariant
+    fill_stopped l.i (omega arith) (fill_stops no_face _ _ _ _ l.f l.i _ (omega arith) (omega arith) l.invariant
     (c.face_row.ensures ∙ ap (face_row a.call.dx a.call.dt) c.face_at-x.ensures)
     (ap (is_long a.call.dx a.call.dt) (sym c.face_at-x.ensures) ∙ sym c.too_long.ensures ∙ c.if-too_long.true))
 
 pub returns-else-too_long : goal.returns-else-too_long
 returns-else-too_long c =
     let a = c.args in let l = c.loop-i in
-    fill_ended (fill_ends [] _ _ _ _ _ (l.i + 1) (omega arith)
-    (fill_more [] _ _ _ _ l.f l.i _ (omega arith) (omega arith) l.invariant
+    fill_ended (fill_ends no_face _ _ _ _ _ (l.i + 1) (omega arith)
+    (fill_more no_face _ _ _ _ l.f l.i _ (omega arith) (omega arith) l.invariant
     (c.face_row.ensures ∙ ap (face_row a.call.dx a.call.dt) c.face_at-x.ensures)
     (ap (is_long a.call.dx a.call.dt) (sym c.face_at-x.ensures) ∙ sym c.too_long.ensures ∙ c.if-too_long.false)))

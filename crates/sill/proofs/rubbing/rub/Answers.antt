@@ -1,5 +1,5 @@
 -- Each turn tries the speed of a cell and then writes its row; at the lowest that is too fast the loop ends.
-use Rattle.std.proofs.Common.{◌≡◌, sym, ◌∙◌, ap, List, [], get_or, length-set, ◌<◌, ◌^◌, ℤ, pos, arith}
+use Rattle.std.proofs.Common.{◌≡◌, sym, ◌∙◌, ap, List, get_or, length-set, ◌<◌, ◌^◌, ℤ, pos, arith}
 use mir.Facts.{to_z-of_z}
 use Rattle.std.specs.Int.Signed.{mag}
 use Rattle.whole.specs.Parts.{fit, nat_nonneg, b_nonneg, le_trans}
@@ -15,6 +15,7 @@ use Rattle.reach.specs.Places.{scan_place, scan_no_place, never}
 use Rattle.sill_rules.specs.Reach.{depth, pace}
 use Rattle.sill_rules.specs.Step.{rubbed}
 use Rattle.sill_rules.specs.Refusals.{fast_pool, fast_friction}
+use Rattle.sill.specs.Rows.{no_row}
 use Rattle.sill.specs.Laws.PoolSizes.{pool_sizes, rubbed_inside}
 use Rattle.sill.proofs.rubbing.rub.Goals as goal
 
@@ -104,5 +105,5 @@ loop-i-preserved c =
     let end = rw (rough, z, c.pool_of-x.ensures.0) at c.rubbed_pool.ensures in (
       scan_more l.invariant.0 (omega arith) (sym (c.past.ensures ∙ ap (past fastest) u)) c.if-past.false,
       length-set l.b l.i _ ∙ l.invariant.1,
-      written_more [] l.b l.i _ _ (omega (arith, l.invariant.1)) l.invariant.2 (rw end at c.row_of.ensures),
+      written_more no_row l.b l.i _ _ (omega (arith, l.invariant.1)) l.invariant.2 (rw end at c.row_of.ensures),
     )

@@ -4,17 +4,20 @@ use mir.Facts.{to_z-of_z}
 use Rattle.whole.specs.Machine.{X, v, ◌⊕◌, ◌⊝◌, ◌⊗◌, ◌⊘◌, Entry, sized, ideal, need, value, divisor}
 use Rattle.reach.specs.Ranges.{UpTo}
 use Rattle.sill.specs.declared.rows.Call.{Call}
+use Rattle.sill.specs.declared.rows.Row as cells
+use Rattle.sill.specs.declared.rows.FaceRow as faces
 use Rattle.sill.specs.Ranges.{most_thrust, Numbers, Row, FaceRow}
 use Rattle.sill.specs.Laws.PoolSizes.{thrust_size}
 use Rattle.sill.specs.Rows.{thrust}
 use Rattle.sill.proofs.update.flow_of.Goals as goal
 
 -- the five numbers of the line, in their order, and then others
-abbrev and_then : {x l f : List ℤ} {call : Call} → Row x × FaceRow l × FaceRow f → Numbers call → List Entry → List Entry
+abbrev and_then : {x : cells.Row} {l f : faces.FaceRow} {call : Call} → Row x × FaceRow l × FaceRow f → Numbers call → List Entry
+    → List Entry
 and_then rows num more =
     sized rows.0.q tt ∷ sized rows.1.A tt ∷ sized rows.2.A tt ∷ sized num.dx_in tt ∷ sized num.dt_in tt ∷ more
 
-abbrev env : {x l f : List ℤ} {call : Call} → Row x × FaceRow l × FaceRow f → Numbers call → List Entry
+abbrev env : {x : cells.Row} {l f : faces.FaceRow} {call : Call} → Row x × FaceRow l × FaceRow f → Numbers call → List Entry
 env rows num = and_then rows num []
 
 abbrev carried : X

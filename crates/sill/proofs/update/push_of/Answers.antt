@@ -1,13 +1,15 @@
 -- Each square and each difference fits.
-use Rattle.std.proofs.Common.{List, [], ◌∷◌, ℤ}
+use Rattle.std.proofs.Common.{List, [], ◌∷◌}
 use Rattle.whole.specs.Parts.{b_nonneg}
 use Rattle.whole.specs.Machine.{X, v, ◌⊝◌, ◌⊗◌, Entry, sized, need, value}
 use Rattle.rules.proofs.Laws.Sizes.{depth_size}
 use Rattle.sill.specs.Rows.{push_by}
+use Rattle.sill.specs.declared.rows.Row as cells
+use Rattle.sill.specs.declared.rows.FaceRow as faces
 use Rattle.sill.specs.Ranges.{Row, FaceRow}
 use Rattle.sill.proofs.update.push_of.Goals as goal
 
-abbrev env : {x l f : List ℤ} → Row x × FaceRow l × FaceRow f → List Entry
+abbrev env : {x : cells.Row} {l f : faces.FaceRow} → Row x × FaceRow l × FaceRow f → List Entry
 env p =
     let x = p.0 in let l = p.1 in let f = p.2 in
     sized (b_nonneg l.K_least l.K) tt ∷ sized (depth_size x.left) tt ∷ sized (b_nonneg f.K_least f.K) tt

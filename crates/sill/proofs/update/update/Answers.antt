@@ -9,22 +9,25 @@ use Rattle.reach.specs.Places.{fill_stopped, fill_ended}
 use Rattle.sill_rules.specs.Step.{dried_pool}
 use Rattle.sill_rules.specs.Refusals.{off_pool}
 use Rattle.sill.specs.declared.rows.Call.{Call}
+use Rattle.sill.specs.declared.rows.Row.{Row}
+use Rattle.sill.specs.declared.rows.FaceRow.{FaceRow}
 use Rattle.sill.specs.Ranges.{Numbers, Wide, Rows, FaceRows}
 use Rattle.sill.specs.Laws.PoolSizes.{update_wide, dried_wide}
-use Rattle.sill.specs.Rows.{update_by, end_at}
+use Rattle.sill.specs.Rows.{no_row, no_face, update_by, end_at}
 use Rattle.sill.proofs.update.update.Goals as goal
 
 -- cell i of the tables, as the code works it: x before it is dried and y after, over the bed zr
-module _ {call : Call} (num : Numbers call) (bed : List ℤ) (b f : List (List ℤ)) (rows : Rows b call.n × FaceRows f call.n) (i : ℕ)
-    (l : i < call.n) where
+module _ {call : Call} (num : Numbers call) (bed : List ℤ) (b : List Row) (f : List FaceRow)
+    (rows : Rows b call.n × FaceRows f call.n) (i : ℕ) (l : i < call.n) where
   abbrev moved : Pool
-  moved = update_by call.dx call.dt (get_or b i []) (get_or f i []) (get_or f (suc i) [])
+  moved = update_by call.dx call.dt (get_or b i no_row) (get_or f i no_face) (get_or f (suc i) no_face)
 
   moved_wide : Wide moved
   moved_wide =
       update_wide call.dx call.dt (rows.0 i l) (rows.1 i (omega arith)) (rows.1 (suc i) (omega arith)) num.dx_pos num.dt_in
 
-  module _ {x : List ℤ} (worked : x ≡ as_row (update_by call.dx call.dt (get_or b i []) (get_or f i []) (get_or f (i + 1) []))) where
+  module _ {x : List ℤ}
+      (worked : x ≡ as_row (update_by call.dx call.dt (get_or b i no_row) (get_or f i no_face) (get_or f (i + 1) no_face))) where
     moved_is : x ≡ as_row moved
     moved_is = let next : i + 1 ≡ suc i = omega arith in rw next at worked
 

@@ -1,6 +1,7 @@
 -- The stage from tables that passed their checks, and what is stored where it passed its own.
-use Rattle.std.proofs.Common.{refl, ap}
-use Rattle.whole.specs.Machine.{back64}
+use Rattle.std.proofs.Common.{rules, refl, ap}
+use mir.Facts.{to_z-of_z}
+use Rattle.std.specs.Int.{w64}
 use Rattle.rules.proofs.Laws.Verdicts.{none_stops}
 use Rattle.reach.specs.Told.{found_in}
 use Rattle.reach.specs.Laws.Refusals.{went_on_none}
@@ -26,4 +27,4 @@ returns c =
     let a = c.args in
     let passed = none_stops (ready_checks a.call.n a.bed.now a.friction.now a.state.now) c.requires.clear in
     stage_done a.call a.bed.now a.friction.now a.state.now passed refl c.stage.ensures (went_on_none c.in_ok-stage.was) a.next.now
-    c.store.ensures (back64 c.volume_at.type_inv c.volume_at.ensures) (back64 c.volume_at-2.type_inv c.volume_at-2.ensures)
+    c.store.ensures (to_z-of_z {w = w64} (search rules)) (to_z-of_z {w = w64} (search rules))
