@@ -1,6 +1,6 @@
 -- To be believed: `most_volume`.
 -- What the functions of a stage ask of one another: room in the tables, and ranges that keep every product within 64 bits.
-use Rattle.std.specs.Prelude.{◌≡◌, false, List, [], ℕ, suc, ◌+◌, ◌≤◌, ◌<◌, length, get_or, ℤ, pos, ◌+ℤ◌, ◌-ℤ◌, ◌≤ℤ◌}
+use Rattle.std.specs.Prelude.{◌≡◌, false, List, ℕ, suc, ◌+◌, ◌≤◌, ◌<◌, length, get_or, ℤ, pos, ◌+ℤ◌, ◌-ℤ◌, ◌≤ℤ◌}
 use Rattle.tables.specs.Cells.{Cell}
 use Rattle.rules.specs.Limits.{most_cells, highest_bed, deepest, fullest}
 use Rattle.rules.specs.Reach as rules
@@ -9,7 +9,8 @@ use Rattle.rules.specs.Reach.{bed_at}
 use Rattle.reach.specs.declared.Reach.{Reach}
 use Rattle.reach.specs.declared.Call.{Call}
 use Rattle.reach.specs.Ranges.{UpTo, widest, Numbers, Ground}
-use Rattle.stage.specs.Rows.{mass_of, pressure_of, advection_of, volume_of}
+use Rattle.stage.specs.declared.rows.FaceRow.{FaceRow}
+use Rattle.stage.specs.Rows.{no_row}
 
 -- ---- sizes, each the least round number that its proof gives
 -- a level, which is a depth over a bed, and its slope
@@ -114,14 +115,14 @@ pub record Around (m d p q : ℤ) : Type 0 where
 
 -- ---- faces
 -- the row of a face, and the rows of the faces 0 to n
-pub record Row (l : List ℤ) : Type 0 where
-  pub F : UpTo most_mass (mass_of l)
-  pub K : UpTo most_square (pressure_of l)
-  pub A : UpTo most_advection (advection_of l)
-  pub vol : UpTo most_volume (volume_of l)
+pub record Row (l : FaceRow) : Type 0 where
+  pub F : UpTo most_mass l.mass
+  pub K : UpTo most_square l.pressure
+  pub A : UpTo most_advection l.advection
+  pub vol : UpTo most_volume l.volume
 
-abbrev pub FaceRows : List (List ℤ) → ℕ → Type 0
-FaceRows f n = (i : ℕ) → i < suc n → Row (get_or f i [])
+abbrev pub FaceRows : List FaceRow → ℕ → Type 0
+FaceRows f n = (i : ℕ) → i < suc n → Row (get_or f i no_row)
 
 -- the momenta of n cells
 abbrev pub Momenta : List ℤ → ℕ → Type 0

@@ -14,6 +14,7 @@ use Rattle.rules.specs.Laws.Sizes.{Sound}
 use Rattle.reach.specs.declared.Reach.{Reach}
 use Rattle.reach.specs.declared.Call.{Call}
 use Rattle.reach.specs.Told.{end_in}
+use Rattle.stage.specs.declared.rows.FaceRow.{FaceRow}
 
 -- ---- sides: depth and speed at the left face, depth and speed at the right
 abbrev pub side_row : rules.Side → rules.Side → List ℤ
@@ -77,21 +78,12 @@ abbrev pub momentum_at : ℤ → List ℤ → State → ℕ → ℤ
 momentum_at dry bed s i = gauss dry (bed_at bed i) (s i)
 
 -- ---- faces: mass, pressure, advection and top speed; then the row that is kept, with the volume
-abbrev pub face_row : ℤ → ℤ → rules.Flux → List ℤ
-face_row dx dt x = x.F ∷ x.K ∷ x.A ∷ volume dx dt x ∷ []
+abbrev pub face_row : ℤ → ℤ → rules.Flux → FaceRow
+face_row dx dt x = record { mass = x.F; pressure = x.K; advection = x.A; volume = volume dx dt x }
 
--- the numbers of a row
-abbrev pub mass_of : List ℤ → ℤ
-mass_of l = get_or l 0 (pos 0)
-
-abbrev pub pressure_of : List ℤ → ℤ
-pressure_of l = get_or l 1 (pos 0)
-
-abbrev pub advection_of : List ℤ → ℤ
-advection_of l = get_or l 2 (pos 0)
-
-abbrev pub volume_of : List ℤ → ℤ
-volume_of l = get_or l 3 (pos 0)
+-- what is read past the end of a table of them
+abbrev pub no_row : FaceRow
+no_row = record { mass = pos 0; pressure = pos 0; advection = pos 0; volume = pos 0 }
 
 -- a face at which the step is too long
 unfoldable pub long_flux : ℤ → ℤ → rules.Flux → Bool
@@ -114,7 +106,7 @@ cross_in r c d i = cross_at (shown_in r c d) i
 abbrev pub long_at : Reach → Call → List (List ℤ) → ℕ → Bool
 long_at r c d i = long_flux r.dx c.dt (cross_in r c d i)
 
-abbrev pub face_row_at : Reach → Call → List (List ℤ) → ℕ → List ℤ
+abbrev pub face_row_at : Reach → Call → List (List ℤ) → ℕ → FaceRow
 face_row_at r c d i = face_row r.dx c.dt (cross_in r c d i)
 
 -- ---- a cell after the stage, from the rows l and f of its faces and its momentum g
@@ -139,24 +131,24 @@ push_by b x kl kr = push_of (h0 b x) (h1 b x) b.zl b.zr kl kr
 abbrev pub tilt_by : Bed → Cell → ℤ → ℤ → ℤ
 tilt_by b x kl kr = tilt_of (h0 b x) (h1 b x) b.zl b.zr kl kr
 
-unfoldable pub update_by : ℤ → ℤ → Bed → Cell → List ℤ → List ℤ → ℤ → Cell
+unfoldable pub update_by : ℤ → ℤ → Bed → Cell → FaceRow → FaceRow → ℤ → Cell
 update_by dx dt b x l f g = record {
-  e0 = x.e0 +ℤ volume_of l -ℤ volume_of f;
-  e1 = x.e1 -ℤ slope_of (mass_of f +ℤ mass_of l -ℤ pos 2 *ℤ x.q0) dx dt;
-  q0 = x.q0 +ℤ quot_z ((advection_of l -ℤ advection_of f) *ℤ dt) dx +ℤ thrust (push_by b x (pressure_of l) (pressure_of f)) dx dt;
-  q1 = x.q1 -ℤ slope_of (advection_of f +ℤ advection_of l -ℤ g) dx dt -ℤ thrust (tilt_by b x (pressure_of l) (pressure_of f)) dx dt;
+  e0 = x.e0 +ℤ l.volume -ℤ f.volume;
+  e1 = x.e1 -ℤ slope_of (f.mass +ℤ l.mass -ℤ pos 2 *ℤ x.q0) dx dt;
+  q0 = x.q0 +ℤ quot_z ((l.advection -ℤ f.advection) *ℤ dt) dx +ℤ thrust (push_by b x l.pressure f.pressure) dx dt;
+  q1 = x.q1 -ℤ slope_of (f.advection +ℤ l.advection -ℤ g) dx dt -ℤ thrust (tilt_by b x l.pressure f.pressure) dx dt;
 }
 
 -- cell i, of the tables
-abbrev pub update_at : Reach → Call → List ℤ → State → List (List ℤ) → List ℤ → ℕ → Cell
+abbrev pub update_at : Reach → Call → List ℤ → State → List FaceRow → List ℤ → ℕ → Cell
 update_at r c bed s f g i =
-    update_by r.dx c.dt (bed_at bed i) (s i) (get_or f i []) (get_or f (suc i) []) (get_or g i (pos 0))
+    update_by r.dx c.dt (bed_at bed i) (s i) (get_or f i no_row) (get_or f (suc i) no_row) (get_or g i (pos 0))
 
 -- ---- the end of the step: W at face i, from its rows in the two stages, and cell i from its values after friction and after stage two
-abbrev pub volume_at : List (List ℤ) → List (List ℤ) → ℕ → ℤ
-volume_at f h i = half (volume_of (get_or f i [])) (volume_of (get_or h i []))
+abbrev pub volume_at : List FaceRow → List FaceRow → ℕ → ℤ
+volume_at f h i = half (get_or f i no_row).volume (get_or h i no_row).volume
 
-abbrev pub join_at : State → State → List (List ℤ) → List (List ℤ) → ℕ → Cell
+abbrev pub join_at : State → State → List FaceRow → List FaceRow → ℕ → Cell
 join_at a u f h i = joined_cell (a i) (u i) (volume_at f h i) (volume_at f h (suc i))
 
 -- cell i of s after friction

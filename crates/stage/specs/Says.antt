@@ -15,8 +15,9 @@ use Rattle.reach.specs.declared.Call.{Call as ToldCall}
 use Rattle.reach.specs.Places.{first_place}
 use Rattle.reach.specs.Told.{reach_in, call_on}
 use Rattle.reach.specs.Ranges.{Wides}
+use Rattle.stage.specs.declared.rows.FaceRow.{FaceRow}
 use Rattle.stage.specs.Ranges.{Smalls, Ranged, FaceRows}
-use Rattle.stage.specs.Rows.{sides_at, fast_sides, SlowEnds, face_row, join_at}
+use Rattle.stage.specs.Rows.{sides_at, fast_sides, SlowEnds, no_row, face_row, join_at}
 
 -- checks 3 to 5 and the friction speeds, at a dry depth
 abbrev pub ready_checks : ℤ → ℕ → List ℤ → List ℕ → State → List Check
@@ -48,8 +49,8 @@ abbrev pub Shows : Reach → List (List ℤ) → State → Type 0
 Shows r t s = Same r (seen t) s
 
 -- the rows of the faces of a state, and their sizes
-pub record FacesOf (r : Reach) (c : Call) (s : State) (f : List (List ℤ)) : Type 0 where
-  pub rows : Written [] f (suc r.n) (λ i. face_row r.dx c.dt (face_at r c s i))
+pub record FacesOf (r : Reach) (c : Call) (s : State) (f : List FaceRow) : Type 0 where
+  pub rows : Written no_row f (suc r.n) (λ i. face_row r.dx c.dt (face_at r c s i))
   pub sized : FaceRows f r.n
 
 -- the check of the face speeds of a stage from s: the lowest face that it refuses; where there is none what the others ask, with the
@@ -65,17 +66,17 @@ pub record FaceSpeedsSay (reach : ToldReach) (call : ToldCall) (bed : List ℤ) 
   pub slow : k ≡ None → SlowFaces reach call bed s d
 
 -- a stage from s: 6, 7 or 0, and where it is 0 the rows of its faces in f and the unfinished state in u
-pub record StageDone (r : Reach) (c : Call) (s : State) (f u : List (List ℤ)) : Type 0 where
+pub record StageDone (r : Reach) (c : Call) (s : State) (f : List FaceRow) (u : List (List ℤ)) : Type 0 where
   pub faces : FacesOf r c s f
   pub cells : Holds u r.n (stage r c s)
   pub small : Smalls r.n (stage r c s)
 
-pub record StageSays (r : Reach) (c : Call) (s : State) (k : Found) (f u : List (List ℤ)) : Type 0 where
+pub record StageSays (r : Reach) (c : Call) (s : State) (k : Found) (f : List FaceRow) (u : List (List ℤ)) : Type 0 where
   pub found : k ≡ found (stage_checks r c s)
   pub done : k.no ≡ 0 → StageDone r c s f u
 
 -- the end state before it is finished: a after friction and u after stage two, joined into j by the faces f and h
-pub record JoinSays (n : ℕ) (a u : State) (f h j : List (List ℤ)) : Type 0 where
+pub record JoinSays (n : ℕ) (a u : State) (f h : List FaceRow) (j : List (List ℤ)) : Type 0 where
   pub cells : Holds j n (join_at a u f h)
 
 -- the end of a stage that left the state v: 8 or 0, and the finished state in b
@@ -84,28 +85,28 @@ pub record EndSays (r : Reach) (c : Call) (v : State) (k : Found) (b : List (Lis
   pub cells : Holds b r.n (finish r c v)
 
 -- a half of the step, the stage from s that is finished to t: 6, 7, 8 or 0, and where it is 0 its faces in f and t in b
-pub record HalfDone (r : Reach) (c : Call) (s t : State) (f b : List (List ℤ)) : Type 0 where
+pub record HalfDone (r : Reach) (c : Call) (s t : State) (f : List FaceRow) (b : List (List ℤ)) : Type 0 where
   pub faces : FacesOf r c s f
   pub cells : Holds b r.n t
 
-pub record HalfSays (r : Reach) (c : Call) (s t : State) (k : Found) (f b : List (List ℤ)) : Type 0 where
+pub record HalfSays (r : Reach) (c : Call) (s t : State) (k : Found) (f : List FaceRow) (b : List (List ℤ)) : Type 0 where
   pub found : k ≡ found (half_checks r c s t)
   pub done : k.no ≡ 0 → HalfDone r c s t f b
 
 -- both halves from s: what the first that stopped found, or 0, and then the faces of the two and the next state in b
-pub record BothDone (r : Reach) (c : Call) (s : State) (f h b : List (List ℤ)) : Type 0 where
+pub record BothDone (r : Reach) (c : Call) (s : State) (f h : List FaceRow) (b : List (List ℤ)) : Type 0 where
   pub one : FacesOf r c (rubbed r c s) f
   pub two : FacesOf r c (stage_one r c s) h
   pub cells : Holds b r.n (next r c s)
 
-pub record StepSays (r : Reach) (c : Call) (s : State) (k : Found) (f h b : List (List ℤ)) : Type 0 where
+pub record StepSays (r : Reach) (c : Call) (s : State) (k : Found) (f h : List FaceRow) (b : List (List ℤ)) : Type 0 where
   pub found : k ≡ found (both_checks r c s)
   pub done : k.no ≡ 0 → BothDone r c s f h b
 
 -- ---- in tables: whatever the friction ρ, and whatever state s it left as the table a shows
 module _ (reach : ToldReach) (call : ToldCall) (bed : List ℤ) where
   -- stage one from a
-  pub record OneSays (a : List (List ℤ)) (k : Found) (f b : List (List ℤ)) : Type 0 where
+  pub record OneSays (a : List (List ℤ)) (k : Found) (f : List FaceRow) (b : List (List ℤ)) : Type 0 where
     pub half : (ρ : ℕ → ℤ) (s : State) → let r : Reach = reach_in reach bed in let c : Call = call_on call ρ in
         Shows r a (rubbed r c s) → HalfSays r c (rubbed r c s) (stage_one r c s) k f b
     -- and what stage two asks
@@ -113,12 +114,12 @@ module _ (reach : ToldReach) (call : ToldCall) (bed : List ℤ) where
     pub ranged : k.no ≡ 0 → Ranged bed reach.n (seen b)
 
   -- stage two from b, which shows stage one with its faces in f
-  abbrev pub TwoSays : List (List ℤ) → List (List ℤ) → List (List ℤ) → Found → List (List ℤ) → List (List ℤ) → Type 0
+  abbrev pub TwoSays : List (List ℤ) → List FaceRow → List (List ℤ) → Found → List FaceRow → List (List ℤ) → Type 0
   TwoSays a f b k h y = (ρ : ℕ → ℤ) (s : State) → let r : Reach = reach_in reach bed in let c : Call = call_on call ρ in
       Shows r a (rubbed r c s) → FacesOf r c (rubbed r c s) f → Shows r b (stage_one r c s)
       → HalfSays r c (stage_one r c s) (next r c s) k h y
 
   -- both from a
-  abbrev pub BothSay : List (List ℤ) → Found → List (List ℤ) → List (List ℤ) → List (List ℤ) → Type 0
+  abbrev pub BothSay : List (List ℤ) → Found → List FaceRow → List FaceRow → List (List ℤ) → Type 0
   BothSay a k f h b = (ρ : ℕ → ℤ) (s : State) → let r : Reach = reach_in reach bed in let c : Call = call_on call ρ in
       Shows r a (rubbed r c s) → StepSays r c s k f h b

@@ -1,10 +1,10 @@
 // What crosses each face of the reach: worked once a stage, and kept with its volume.
-ghost use Rattle.std.specs.Prelude.{◌≡◌, [], suc, ◌≤◌, ◌<◌};
+ghost use Rattle.std.specs.Prelude.{◌≡◌, suc, ◌≤◌, ◌<◌};
 ghost use Rattle.rules.specs.Laws.Sizes.{Sized};
 ghost use Rattle.reach.specs.Places.{FillStops};
 ghost use Rattle.reach.specs.Ranges.{Numbers};
 ghost use Rattle.face.specs.Sides.{flux_in};
-ghost use Rattle.stage.specs.Rows.{Sounds, SlowEnds, face_row, long_flux, cross_in, long_at, face_row_at};
+ghost use Rattle.stage.specs.Rows.{Sounds, SlowEnds, no_row, face_row, long_flux, cross_in, long_at, face_row_at};
 ghost use Rattle.stage.specs.Ranges.{Room, FaceRoom};
 
 use crate::course::Course;
@@ -45,7 +45,12 @@ fn face_row(x: Flux, course: Course) -> FaceRow
     requires numbers { Numbers course.reach course.call }
     ensures { result ≡ face_row course.entry.reach.dx course.entry.call.dt (flux_in x) }
 {
-    [x.f, x.k, x.a, x.f * course.call.dt / course.reach.dx]
+    FaceRow {
+        mass: x.f,
+        pressure: x.k,
+        advection: x.a,
+        volume: x.f * course.call.dt / course.reach.dx,
+    }
 }
 
 // 7: the rows of the n + 1 faces into f, up to the lowest at which the step is too long, which it gives.
@@ -53,7 +58,7 @@ pub fn faces(d: &[Sides], course: Course, f: &mut [FaceRow]) -> Option<usize>
     requires n_nonzero { (0 < course.reach.n) × Room course.reach d.now × FaceRoom course.reach f.old }
     requires numbers { Numbers course.reach course.call }
     requires sounds { Sounds d.now course.reach.n × SlowEnds course.reach course.call d.now }
-    ensures { let at = course.entry in FillStops [] (suc at.reach.n)
+    ensures { let at = course.entry in FillStops no_row (suc at.reach.n)
         (long_at at.reach at.call d.now) (face_row_at at.reach at.call d.now) result f.new }
 {
     for i in 0..=course.reach.n {

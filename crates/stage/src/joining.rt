@@ -1,21 +1,21 @@
 // The end of the step: what friction left and what stage two gives, joined by the volumes of the faces.
-ghost use Rattle.std.specs.Prelude.{◌≡◌, [], ◌<◌, get_or, length, pos, ◌+ℤ◌, ◌-ℤ◌};
+ghost use Rattle.std.specs.Prelude.{◌≡◌, ◌<◌, get_or, length, ◌+ℤ◌, ◌-ℤ◌};
 ghost use Rattle.tables.specs.Cells.{as_cell, as_list, seen};
 ghost use Rattle.rules.specs.Step.{half, joined_cell};
 ghost use Rattle.reach.specs.Ranges.{UpTo, widest, Wide, Wides};
 ghost use Rattle.stage.specs.Ranges.{Room, FaceRoom, Row, FaceRows};
-ghost use Rattle.stage.specs.Rows.{volume_at};
+ghost use Rattle.stage.specs.Rows.{no_row, volume_at};
 ghost use Rattle.stage.specs.Says.{JoinSays};
 
 use crate::rows::FaceRow;
 use reach::{Cell, Reach};
 
-// Half of number m of two rows.
-fn half_at(x: [i64; 4], y: [i64; 4], m: usize) -> i64
-    requires { (m < 4) × UpTo widest (get_or x m (pos 0)) × UpTo widest (get_or y m (pos 0)) }
-    ensures { result ≡ half (get_or x m (pos 0)) (get_or y m (pos 0)) }
+// Half of what two stages give.
+fn half_of(x: i64, y: i64) -> i64
+    requires { UpTo widest x × UpTo widest y }
+    ensures { result ≡ half x y }
 {
-    (x[m] + y[m]) / 2
+    (x + y) / 2
 }
 
 // A level after what came in at one face and went out at the other.
@@ -33,19 +33,19 @@ fn joined_cell(x: Cell, y: Cell, wl: i64, wr: i64) -> Cell
     ensures { result ≡ as_list (joined_cell (as_cell x) (as_cell y) wl wr) }
 {
     let e0 = end_level(x[0], wl, wr);
-    let e1 = half_at(x, y, 1);
-    let q0 = half_at(x, y, 2);
-    let q1 = half_at(x, y, 3);
+    let e1 = half_of(x[1], y[1]);
+    let q0 = half_of(x[2], y[2]);
+    let q1 = half_of(x[3], y[3]);
     [e0, e1, q0, q1]
 }
 
 // W at face i, from its rows in the two stages.
 pub fn end_volume(f: &[FaceRow], g: &[FaceRow], i: usize) -> i64
     requires i_in_bounds { (i < length f.now) × (i < length g.now) }
-    requires row { Row (get_or f.now i []) × Row (get_or g.now i []) }
+    requires row { Row (get_or f.now i no_row) × Row (get_or g.now i no_row) }
     ensures { result ≡ volume_at f.now g.now i }
 {
-    half_at(f[i], g[i], 3)
+    half_of(f[i].volume, g[i].volume)
 }
 
 // The unfinished end state, in place of u after stage two: x after friction, f and g the two stages' faces.

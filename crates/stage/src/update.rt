@@ -7,7 +7,6 @@ ghost use Rattle.reach.specs.Told.{bed_in};
 ghost use Rattle.reach.specs.Ranges.{UpTo, Numbers};
 ghost use Rattle.stage.specs.Ranges.{Room, FaceRoom, Inside, Ranged, Row, FaceRows, Momenta, Pressed};
 ghost use Rattle.stage.specs.Ranges.{highest_level, steepest_level, most_change, most_pressure, most_momentum};
-ghost use Rattle.stage.specs.Rows.{mass_of, pressure_of, advection_of, volume_of};
 ghost use Rattle.stage.specs.Rows.{slope_of, thrust, push_of, tilt_of, push_by, tilt_by, update_by, update_at};
 
 use crate::cell::depths;
@@ -57,16 +56,16 @@ fn tilt_of(m: i64, s: i64, zl: i64, zr: i64, kl: i64, kr: i64) -> i64
 fn pressures(b: Bed, x: Cell, l: FaceRow, f: FaceRow) -> [i64; 2]
     requires inside { Inside (bed_in b) (as_cell x) }
     requires row { Row l × Row f }
-    ensures { result ≡ push_by (bed_in b) (as_cell x) (pressure_of l) (pressure_of f)
-        ∷ tilt_by (bed_in b) (as_cell x) (pressure_of l) (pressure_of f) ∷ [] }
+    ensures { result ≡ push_by (bed_in b) (as_cell x) l.pressure f.pressure
+        ∷ tilt_by (bed_in b) (as_cell x) l.pressure f.pressure ∷ [] }
 {
     let h = depths(b, x);
     let m = h[0];
     let s = h[1];
     let zl = b.zl as i64;
     let zr = b.zr as i64;
-    let kl = l[1];
-    let kr = f[1];
+    let kl = l.pressure;
+    let kr = f.pressure;
     [push_of(m, s, zl, zr, kl, kr), tilt_of(m, s, zl, zr, kl, kr)]
 }
 
@@ -75,9 +74,9 @@ fn pressures(b: Bed, x: Cell, l: FaceRow, f: FaceRow) -> [i64; 2]
 fn level_mean(x: Cell, l: FaceRow, f: FaceRow) -> i64
     requires up_to { UpTo highest_level (as_cell x).e0 }
     requires row { Row l × Row f }
-    ensures { result ≡ (as_cell x).e0 +ℤ volume_of l -ℤ volume_of f }
+    ensures { result ≡ (as_cell x).e0 +ℤ l.volume -ℤ f.volume }
 {
-    x[0] + l[3] - f[3]
+    x[0] + l.volume - f.volume
 }
 
 fn level_slope(x: Cell, l: FaceRow, f: FaceRow, course: Course) -> i64
@@ -85,9 +84,9 @@ fn level_slope(x: Cell, l: FaceRow, f: FaceRow, course: Course) -> i64
     requires row { Row l × Row f }
     requires numbers { Numbers course.reach course.call }
     ensures { let at = course.entry in
-        result ≡ (as_cell x).e1 -ℤ slope_of (mass_of f +ℤ mass_of l -ℤ pos 2 *ℤ (as_cell x).q0) at.reach.dx at.call.dt }
+        result ≡ (as_cell x).e1 -ℤ slope_of (f.mass +ℤ l.mass -ℤ pos 2 *ℤ (as_cell x).q0) at.reach.dx at.call.dt }
 {
-    x[1] - slope_change(f[0] + l[0] - 2 * x[2], course)
+    x[1] - slope_change(f.mass + l.mass - 2 * x[2], course)
 }
 
 // Then the discharge's, which the pressures e and d move; g is the momentum of the Gauss points.
@@ -96,10 +95,10 @@ fn flow_mean(x: Cell, l: FaceRow, f: FaceRow, e: i64, course: Course) -> i64
     requires row { Row l × Row f }
     requires numbers { Numbers course.reach course.call }
     ensures { let at = course.entry in
-        result ≡ (as_cell x).q0 +ℤ quot_z ((advection_of l -ℤ advection_of f) *ℤ at.call.dt) at.reach.dx
+        result ≡ (as_cell x).q0 +ℤ quot_z ((l.advection -ℤ f.advection) *ℤ at.call.dt) at.reach.dx
         +ℤ thrust e at.reach.dx at.call.dt }
 {
-    x[2] + (l[2] - f[2]) * course.call.dt / course.reach.dx + thrust_of(e, course)
+    x[2] + (l.advection - f.advection) * course.call.dt / course.reach.dx + thrust_of(e, course)
 }
 
 fn flow_slope(x: Cell, l: FaceRow, f: FaceRow, g: i64, d: i64, course: Course) -> i64
@@ -107,10 +106,10 @@ fn flow_slope(x: Cell, l: FaceRow, f: FaceRow, g: i64, d: i64, course: Course) -
     requires row { Row l × Row f }
     requires numbers { Numbers course.reach course.call }
     ensures { let at = course.entry in
-        result ≡ (as_cell x).q1 -ℤ slope_of (advection_of f +ℤ advection_of l -ℤ g) at.reach.dx at.call.dt
+        result ≡ (as_cell x).q1 -ℤ slope_of (f.advection +ℤ l.advection -ℤ g) at.reach.dx at.call.dt
         -ℤ thrust d at.reach.dx at.call.dt }
 {
-    x[3] - slope_change(f[2] + l[2] - g, course) - thrust_of(d, course)
+    x[3] - slope_change(f.advection + l.advection - g, course) - thrust_of(d, course)
 }
 
 // A cell after the stage.

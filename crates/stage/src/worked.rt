@@ -155,8 +155,8 @@ fn on_own_tables<const N: usize, const F: usize>(
 {
     let mut a = [[0i64; 4]; N];
     let mut g = [0i64; N];
-    let mut f = [[0i64; 4]; F];
-    let mut h = [[0i64; 4]; F];
+    let mut f = [FaceRow::default(); F];
+    let mut h = [FaceRow::default(); F];
     let mut u = [[0i64; 4]; N];
     let mut b = [[0i64; 4]; N];
     on_tables(

@@ -1,6 +1,6 @@
 -- What crosses a face at an end and between two cells, and its sizes where all sides and inflows are within the limits.
 -- Assumes nothing.
-use Rattle.std.specs.Prelude.{◌≡◌, refl, List, [], ℤ}
+use Rattle.std.specs.Prelude.{◌≡◌, refl, List, ℤ}
 use Rattle.std.proofs.Common.{sym, subst, eq-eqb, ne_eqb}
 use Prim.Native.Nat.{ℕ, zero, suc, ◌-◌, ◌≤◌, ◌<◌}
 use native.Mathlib.Omega.{arith}
@@ -20,7 +20,9 @@ use Rattle.reach.specs.declared.Reach.{Reach}
 use Rattle.reach.specs.declared.Call.{Call}
 use Rattle.reach.specs.Told.{end_in}
 use Rattle.reach.specs.Ranges.{UpTo, Numbers}
-use Rattle.stage.specs.Rows.{left_in, right_in, Sounds, fast_left, fast_right, fast_ends, SlowEnds, face_row, cross_in, face_row_at}
+use Rattle.stage.specs.declared.rows.FaceRow.{FaceRow}
+use Rattle.stage.specs.Rows.{left_in, right_in, Sounds, fast_left, fast_right, fast_ends, SlowEnds, cross_in}
+use Rattle.stage.specs.Rows.{no_row, face_row, face_row_at}
 use Rattle.stage.specs.Ranges.{Row, FaceRows}
 
 -- the row that is kept of a face
@@ -75,6 +77,6 @@ module _ (reach : Reach) (call : Call) (d : List (List ℤ)) where
             subst Sized (sym (at_inner i f e)) (face_sized _ _ (s (i - 1) (omega (arith, f))).1 (s i (omega (arith, e))).0)
 
     -- and the rows that are kept of all faces have the sizes that an update asks
-    pub face_rows : (f : List (List ℤ)) → Written [] f (suc n) (face_row_at reach call d) → FaceRows f n
+    pub face_rows : (f : List FaceRow) → Written no_row f (suc n) (face_row_at reach call d) → FaceRows f n
     face_rows f w i h =
         subst Row (sym (w i h)) (row_sized reach.dx call.dt (cross_in reach call d i) num.dt_in (cross_sized i (omega arith)))

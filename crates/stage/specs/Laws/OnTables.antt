@@ -22,6 +22,7 @@ use Rattle.reach.specs.declared.answer.Refused.{Refused}
 use Rattle.reach.specs.Told.{reach_in, call_on, found_in}
 use Rattle.reach.specs.Refusals.{number_of}
 use Rattle.reach.specs.Laws.Refusals.{refused_some, not_none}
+use Rattle.stage.specs.declared.rows.FaceRow.{FaceRow}
 use Rattle.stage.specs.Rows.{volume_at, rubbed_at}
 use Rattle.stage.specs.Ranges.{Inside, Ranged, Slows}
 use Rattle.stage.specs.Says.{ready_checks, both_checks, LoadSays, Shows, StepSays, BothSay}
@@ -100,7 +101,7 @@ module _
           ap as_cell (f.below i l) ∙ (λ j. rubbed_cell call.dt call.dry (rough i) (bed_at bed i) (as_cell (lent.cells i l j)))
 
       -- what both stages from it say, of the lent state
-      pub both_said : {m : Found} {f x b : List (List ℤ)} → BothSay reach call bed t m f x b → StepSays r c s m f x b
+      pub both_said : {m : Found} {f x : List FaceRow} {b : List (List ℤ)} → BothSay reach call bed t m f x b → StepSays r c s m f x b
       both_said both = both rough s rubbed_shown
 
       pub rubbed_ranged : pos 0 ≤ℤ call.dt → least_dry ≤ℤ call.dry → Ranged bed n (seen t)
@@ -108,7 +109,7 @@ module _
           (rubbed_inside call.dt call.dry (rough i) (bed_at bed i) (seen a i) p m (loaded_ranged i l))
 
     -- ---- both stages have answered m
-    module _ (o : 0 < n) {m : Found} {f x b : List (List ℤ)} (both : StepSays r c s m f x b) where
+    module _ (o : 0 < n) {m : Found} {f x : List FaceRow} {b : List (List ℤ)} (both : StepSays r c s m f x b) where
       found_both : m ≡ found (ready ++ both_checks r c s)
       found_both = both.found ∙ went_on ready (both_checks r c s) tt found_ready z
 

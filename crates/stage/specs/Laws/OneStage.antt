@@ -1,6 +1,6 @@
 -- A stage: what it answers by the check that stopped it, and that its faces and its cells are the rule's.
 -- Assumes nothing.
-use Rattle.std.specs.Prelude.{◌≡◌, false, List, [], ℕ, suc, ◌<◌, get_or, ℤ, pos, Option, None, Some, Result, Err}
+use Rattle.std.specs.Prelude.{◌≡◌, false, List, ℕ, suc, ◌<◌, get_or, ℤ, pos, Option, None, Some, Result, Err}
 use Rattle.std.proofs.Common.{sym, ◌∙◌, subst, arith}
 use Rattle.std.proofs.Math.Path.{ap}
 use Rattle.tables.specs.Some.{some}
@@ -21,8 +21,9 @@ use Rattle.reach.specs.declared.answer.Refused.{Refused}
 use Rattle.reach.specs.Told.{reach_in, call_on, found_in}
 use Rattle.reach.specs.Laws.Refusals.{refused_some}
 use Rattle.reach.specs.Ranges.{UpTo, Numbers}
+use Rattle.stage.specs.declared.rows.FaceRow.{FaceRow}
 use Rattle.stage.specs.Rows.{Sounds, fast_points_at, momentum_at}
-use Rattle.stage.specs.Rows.{face_row, long_flux, long_at, cross_in, face_row_at, update_at}
+use Rattle.stage.specs.Rows.{no_row, face_row, long_flux, long_at, cross_in, face_row_at, update_at}
 use Rattle.stage.specs.Rows as rows
 use Rattle.stage.specs.Ranges.{most_momentum, Small, Smalls, Ranged, FaceRows, Momenta}
 use Rattle.stage.specs.Says.{SlowFaces, FaceSpeedsSay, FacesOf, StageDone, StageSays}
@@ -52,8 +53,8 @@ module _ {reach : Reach} {call : Call} {bed : List ℤ} {s : State} {k : Option 
     says_points e i is = let fast = found_says _ reach.n i (sym e ∙ is) in stops_at checks 1 i (faces_pass, tt) fast.1 fast.2
 
 -- a stage that a check stopped says no more than what it found
-pub stage_stops : {r : rules.Reach} {c : rules.Call} {s : State} {f u : List (List ℤ)} {k : Result (Unit {0}) Refused} (e : Refused)
-    → k ≡ Err e → found_in k ≡ found (stage_checks r c s) → StageSays r c s (found_in k) f u
+pub stage_stops : {r : rules.Reach} {c : rules.Call} {s : State} {f : List FaceRow} {u : List (List ℤ)} {k : Result (Unit {0}) Refused}
+    → (e : Refused) → k ≡ Err e → found_in k ≡ found (stage_checks r c s) → StageSays r c s (found_in k) f u
 stage_stops e is found = let some = refused_some e.refusal in
     record { found = found; done = λ z. let no = ap (λ k. (found_in k).no) is in let y : ⊥ = omega (arith, some, z, no) in absurd y }
 
@@ -87,7 +88,8 @@ module _ {reach : Reach} {call : Call} {bed : List ℤ} {s : State} {d : List (L
   abbrev n : ℕ
   n = reach.n
 
-  pub rows_sized : Ranged bed n s → Numbers reach call → (x : List (List ℤ)) → Written [] x (suc n) (face_row_at reach call d) → FaceRows x n
+  pub rows_sized : Ranged bed n s → Numbers reach call → (x : List FaceRow) → Written no_row x (suc n) (face_row_at reach call d)
+      → FaceRows x n
   rows_sized inside num = face_rows reach call d p.faces.least num (sides_sound p.faces inside) p.faces.slow_ends
 
   module _ (ρ : ℕ → ℤ) where
@@ -120,8 +122,8 @@ module _ {reach : Reach} {call : Call} {bed : List ℤ} {s : State} {d : List (L
           (p.slow_faces ρ, (p.slow_points, (sym (some_same _ (too_long r c s) (suc n) long_same) ∙ short, tt)))
 
     -- ---- what it leaves
-    module _ (inside : Ranged bed n s) (num : Numbers reach call) (x : List (List ℤ)) (g : List ℤ)
-        (wx : Written [] x (suc n) (face_row_at reach call d)) (wg : Written (pos 0) g n (momentum_at call.dry bed s)) where
+    module _ (inside : Ranged bed n s) (num : Numbers reach call) (x : List FaceRow) (g : List ℤ)
+        (wx : Written no_row x (suc n) (face_row_at reach call d)) (wg : Written (pos 0) g n (momentum_at call.dry bed s)) where
       faces : FacesOf r c s x
       faces = record {
         rows = λ i l. wx i l ∙ ap (face_row reach.dx call.dt) (face_is i l);
@@ -137,8 +139,8 @@ module _ {reach : Reach} {call : Call} {bed : List ℤ} {s : State} {d : List (L
       small : Smalls n (stage r c s)
       small i l = let sized = faces.sized in
           subst Small (cell_is i l)
-          (update_small (inside i l) reach.dx call.dt (get_or x i []) (get_or x (suc i) []) (get_or g i (pos 0)) num.dx_pos num.dt_in
-          (sized i (omega arith)) (sized (suc i) (omega arith)) (momenta call.dry n bed s inside p.slow_points g wg i l))
+          (update_small (inside i l) reach.dx call.dt (get_or x i no_row) (get_or x (suc i) no_row) (get_or g i (pos 0))
+          num.dx_pos num.dt_in (sized i (omega arith)) (sized (suc i) (omega arith)) (momenta call.dry n bed s inside p.slow_points g wg i l))
 
       pub stage_done : (u : List (List ℤ)) → Holds u n (update_at reach call bed s x g) → StageDone r c s x u
       stage_done u h = record { faces = faces; cells = λ i l. h i l ∙ ap as_list (cell_is i l); small = small }

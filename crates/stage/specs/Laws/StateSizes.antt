@@ -21,7 +21,8 @@ use Rattle.rules.specs.Refusals.{past, fast_points}
 use Rattle.rules.specs.Laws.Sizes.{Sound}
 use Rattle.reach.specs.Ranges.{UpTo, widest, Ground, Wide}
 use Rattle.finishing.specs.Laws.Sizes.{limited_or_not, z0_size, z1_size, clip_size}
-use Rattle.stage.specs.Rows.{sides_at, fast_sides, Sounds, volume_of, join_at}
+use Rattle.stage.specs.Rows.{sides_at, fast_sides, Sounds, no_row, join_at}
+use Rattle.stage.specs.declared.rows.FaceRow.{FaceRow}
 use Rattle.stage.specs.Ranges.{widest_level, most_momentum, Small, Smalls, Inside, Ranged, Row, FaceRows}
 use Rattle.stage.specs.Says.{StageDone, JoinSays}
 use Rattle.stage.specs.Laws.CellSizes.{cell_sizes}
@@ -64,8 +65,8 @@ inside_small i = let q = cell_sizes i in
       q1 = b_up 70368744177664 q.q1 tt;
     }
 
-joined_small : {b : Bed} (x y : Cell) (f g h k : List ℤ) → Inside b x → Small y → Row f → Row g → Row h → Row k
-    → Small (joined_cell x y (half (volume_of f) (volume_of g)) (half (volume_of h) (volume_of k)))
+joined_small : {b : Bed} (x y : Cell) (f g h k : FaceRow) → Inside b x → Small y → Row f → Row g → Row h → Row k
+    → Small (joined_cell x y (half f.volume g.volume) (half h.volume k.volume))
 unfolding joined_cell half
 joined_small x y f g h k i w p q r s =
     let z = cell_sizes i in let v = inside_small i in
@@ -81,14 +82,14 @@ joined_small x y f g h k i w p q r s =
 shown_small : (n : ℕ) (s : State) (u : List (List ℤ)) → Holds u n s → Smalls n s → Smalls n (seen u)
 shown_small n s u h w i l = subst (λ (m : List ℤ). Small (as_cell m)) (sym (h i l)) (w i l)
 
-pub done_small : {r : Reach} {c : Call} {s : State} {f u : List (List ℤ)} → StageDone r c s f u → Smalls r.n (seen u)
+pub done_small : {r : Reach} {c : Call} {s : State} {f : List FaceRow} {u : List (List ℤ)} → StageDone r c s f u → Smalls r.n (seen u)
 done_small {r} {c} {s} {f} {u} d = shown_small r.n (stage r c s) u d.cells d.small
 
-pub join_small : {n : ℕ} {a y : State} {f h j : List (List ℤ)} (bed : List ℤ) → JoinSays n a y f h j → Ranged bed n a → Smalls n y
-    → FaceRows f n → FaceRows h n → Smalls n (seen j)
+pub join_small : {n : ℕ} {a y : State} {f h : List FaceRow} {j : List (List ℤ)} (bed : List ℤ) → JoinSays n a y f h j → Ranged bed n a
+    → Smalls n y → FaceRows f n → FaceRows h n → Smalls n (seen j)
 join_small {n} {a} {y} {f} {h} {j} bed d ra w p q = shown_small n (join_at a y f h) j d.cells
-    (λ i l. joined_small (a i) (y i) (get_or f i []) (get_or h i []) (get_or f (suc i) []) (get_or h (suc i) []) (ra i l) (w i l)
-    (p i (omega arith)) (q i (omega arith)) (p (suc i) (omega arith)) (q (suc i) (omega arith)))
+    (λ i l. joined_small (a i) (y i) (get_or f i no_row) (get_or h i no_row) (get_or f (suc i) no_row) (get_or h (suc i) no_row)
+    (ra i l) (w i l) (p i (omega arith)) (q i (omega arith)) (p (suc i) (omega arith)) (q (suc i) (omega arith)))
 
 -- ---- finished states
 pub finish_wide : (r : Reach) (c : Call) (s : State) (i : ℕ) (b : Bed) → Ground b → Small (s i)

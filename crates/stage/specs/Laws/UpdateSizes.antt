@@ -10,6 +10,7 @@ use Rattle.tables.specs.Cells.{Cell}
 use Rattle.rules.specs.Limits.{longest_step}
 use Rattle.rules.specs.Reach.{Bed, h0, h1}
 use Rattle.reach.specs.Ranges.{UpTo}
+use Rattle.stage.specs.declared.rows.FaceRow.{FaceRow}
 use Rattle.stage.specs.Rows.{slope_of, thrust, push_of, tilt_of, update_by}
 use Rattle.stage.specs.Ranges.{most_square, most_momentum, most_change, most_pressure, Inside, Small, Row, Pressed, most_thrust, most_turn}
 use Rattle.stage.specs.Laws.CellSizes.{cell_sizes}
@@ -60,7 +61,7 @@ module _ {b : Bed} {x : Cell} (i : Inside b x) where
       }
 
   -- so no stage leaves a cell larger than finishing can take
-  pub update_small : (dx dt : ℤ) (l f : List ℤ) (g : ℤ) → pos 0 <ℤ dx → UpTo longest_step dt → Row l → Row f → UpTo most_momentum g
+  pub update_small : (dx dt : ℤ) (l f : FaceRow) (g : ℤ) → pos 0 <ℤ dx → UpTo longest_step dt → Row l → Row f → UpTo most_momentum g
       → Small (update_by dx dt b x l f g)
   unfolding update_by slope_of thrust
   update_small dx dt l f g h t p q w =

@@ -24,4 +24,9 @@ pub returns : goal.returns
 unfolding volume
 returns c =
     let e = env c.requires.sized c.requires.numbers in
-    λ j. value e (v 0) tt j ∷ value e (v 1) tt j ∷ value e (v 2) tt j ∷ value e (v 0 ⊗ v 4 ⊘ v 3) tt j ∷ []
+    λ j. record {
+      mass = value e (v 0) tt j;
+      pressure = value e (v 1) tt j;
+      advection = value e (v 2) tt j;
+      volume = value e (v 0 ⊗ v 4 ⊘ v 3) tt j;
+    }

@@ -1,8 +1,8 @@
-use Rattle.std.proofs.Common.{◌∙◌, sym, ap, subst, [], ◌+◌, arith}
+use Rattle.std.proofs.Common.{◌∙◌, sym, ap, subst, ◌+◌, arith}
 use Rattle.tables.proofs.Filling.{fill_more, fill_stops, fill_ends}
 use Rattle.rules.specs.Laws.Sizes.{Sized}
 use Rattle.reach.specs.Places.{fill_stopped, fill_ended}
-use Rattle.stage.specs.Rows.{face_row, long_flux}
+use Rattle.stage.specs.Rows.{no_row, face_row, long_flux}
 use Rattle.stage.specs.Laws.Faces.{cross_sized}
 use Rattle.stage.proofs.faces.faces.Goals as goal
 
@@ -21,14 +21,14 @@ too_long-requires-clause-sized c =
 pub returns-then-too_long : goal.returns-then-too_long
 returns-then-too_long c =
     let a = c.args in let l = c.loop-i in
-    fill_stopped l.i (omega arith) (fill_stops [] _ _ _ _ l.f l.i _ (omega arith) (omega arith) l.invariant
+    fill_stopped l.i (omega arith) (fill_stops no_row _ _ _ _ l.f l.i _ (omega arith) (omega arith) l.invariant
     (c.face_row.ensures ∙ ap (face_row a.course.reach.dx a.course.call.dt) c.face_at-x.ensures)
     (ap (long_flux a.course.reach.dx a.course.call.dt) (sym c.face_at-x.ensures) ∙ sym c.too_long.ensures ∙ c.if-too_long.true))
 
 pub returns-else-too_long : goal.returns-else-too_long
 returns-else-too_long c =
     let a = c.args in let l = c.loop-i in
-    fill_ended (fill_ends [] _ _ _ _ _ (l.i + 1) (omega arith)
-    (fill_more [] _ _ _ _ l.f l.i _ (omega arith) (omega arith) l.invariant
+    fill_ended (fill_ends no_row _ _ _ _ _ (l.i + 1) (omega arith)
+    (fill_more no_row _ _ _ _ l.f l.i _ (omega arith) (omega arith) l.invariant
     (c.face_row.ensures ∙ ap (face_row a.course.reach.dx a.course.call.dt) c.face_at-x.ensures)
     (ap (long_flux a.course.reach.dx a.course.call.dt) (sym c.face_at-x.ensures) ∙ sym c.too_long.ensures ∙ c.if-too_long.false)))

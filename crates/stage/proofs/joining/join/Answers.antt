@@ -5,25 +5,29 @@ use Rattle.tables.specs.Rows.{filled_more}
 use Rattle.tables.specs.Cells.{as_cell, as_list, seen}
 use Rattle.rules.specs.Step.{half, joined_cell}
 use Rattle.reach.specs.Ranges.{UpTo, widest, Wide}
-use Rattle.stage.specs.Rows.{volume_of, volume_at}
+use Rattle.stage.specs.declared.rows.FaceRow.{FaceRow}
+use Rattle.stage.specs.Rows.{volume_at}
 use Rattle.stage.specs.Ranges.{Row}
 use Rattle.stage.specs.Laws.CellSizes.{half_size}
 use Rattle.stage.proofs.joining.join.Goals as goal
 
 -- half of two volumes is small enough to be added to a level
-volume_in : {l m : List ℤ} → Row l × Row m → UpTo widest (half (volume_of l) (volume_of m))
+volume_in : {l m : FaceRow} → Row l × Row m → UpTo widest (half l.volume m.volume)
 volume_in r = half_size (b_up 70368744177664 r.0.vol tt) (b_up 70368744177664 r.1.vol tt)
 
 pub joined_cell-requires-clause-wide : goal.joined_cell-requires-clause-wide
 joined_cell-requires-clause-wide c =
     let i = c.loop-i.i in
-    (c.requires.wides.0 i (omega arith), subst (λ (m : List ℤ). Wide (as_cell m)) (sym (c.loop-i.invariant.above i (omega arith))) (c.requires.wides.1 i (omega arith)))
+    let cell = c.loop-i.invariant.above i (omega arith) in
+    (c.requires.wides.0 i (omega arith), subst (λ (m : List ℤ). Wide (as_cell m)) (sym cell) (c.requires.wides.1 i (omega arith)))
 
 pub joined_cell-requires-clause-up_to : goal.joined_cell-requires-clause-up_to
 joined_cell-requires-clause-up_to c =
-    let i = c.loop-i.i in let rows = c.requires.face_rows in (
-      subst (UpTo widest) (sym (back64 c.end_volume-wl.type_inv c.end_volume-wl.ensures)) (volume_in (rows.0 i (omega arith), rows.1 i (omega arith))),
-      subst (UpTo widest) (sym (back64 c.end_volume-wr.type_inv c.end_volume-wr.ensures)) (volume_in (rows.0 (i + 1) (omega arith), rows.1 (i + 1) (omega arith))),
+    let i = c.loop-i.i in let rows = c.requires.face_rows in
+    let wl = back64 c.end_volume-wl.type_inv c.end_volume-wl.ensures in
+    let wr = back64 c.end_volume-wr.type_inv c.end_volume-wr.ensures in (
+      rw wl (volume_in (rows.0 i (omega arith), rows.1 i (omega arith))),
+      rw wr (volume_in (rows.0 (i + 1) (omega arith), rows.1 (i + 1) (omega arith))),
     )
 
 pub loop-i-preserved : goal.loop-i-preserved

@@ -19,6 +19,7 @@ use Rattle.reach.specs.Refusals.{number_of, refused_at}
 use Rattle.reach.specs.Told.{found_in}
 use Rattle.reach.specs.Laws.Refusals.{stopped_at, told_there, passed_by}
 use Rattle.reach.specs.Laws.Checks.{handed_on}
+use Rattle.stage.specs.declared.rows.FaceRow.{FaceRow}
 use Rattle.stage.specs.Rows.{fast_points_at}
 use Rattle.stage.specs.Says.{FaceSpeedsSay, StageSays}
 use Rattle.stage.specs.Laws.OneStage.{Slowed, says_fast, says_points, says_long, says_none, sides_sound, momenta, rows_sized}
@@ -32,8 +33,8 @@ module _ (k : Refusal) {p : Option ℕ} {answer : Result (Unit {0}) Refused} (to
   passed ok = passed_by k p tt (sym told ∙ ok)
 
   -- or stops the stage, which hands its refusal on
-  stopped : {r : rules.Reach} {c : rules.Call} {s : State} {f u : List (List ℤ)} (whole : Result (Unit {0}) Refused) (e : Refused)
-      → answer ≡ Err e → IsErrAnd whole (λ y. y ≡ e) → ((i : ℕ) → p ≡ Some i → at (number_of k) i ≡ found (stage_checks r c s))
+  stopped : {r : rules.Reach} {c : rules.Call} {s : State} {f : List FaceRow} {u : List (List ℤ)} (whole : Result (Unit {0}) Refused)
+      → (e : Refused) → answer ≡ Err e → IsErrAnd whole (λ y. y ≡ e) → ((i : ℕ) → p ≡ Some i → at (number_of k) i ≡ found (stage_checks r c s))
       → StageSays r c s (found_in whole) f u
   stopped whole e err handed says =
       let here = sym told ∙ err in let on = handed_on whole e handed in

@@ -8,12 +8,14 @@ use Rattle.rules.specs.Limits.{fullest}
 use Rattle.reach.specs.declared.Reach.{Reach}
 use Rattle.reach.specs.declared.Call.{Call}
 use Rattle.reach.specs.Ranges.{UpTo, Numbers}
+use Rattle.stage.specs.declared.rows.FaceRow.{FaceRow}
 use Rattle.stage.specs.Ranges.{most_thrust, most_pressure, Row}
 use Rattle.stage.specs.Laws.UpdateSizes.{thrust_size}
 use Rattle.stage.specs.Rows.{thrust}
 use Rattle.stage.proofs.update.flow_mean.Goals as goal
 
-module _ {q0 : ℤ} {l f : List ℤ} {reach : Reach} {call : Call} (q : UpTo fullest q0) (rows : Row l × Row f) (num : Numbers reach call) where
+module _ {q0 : ℤ} {l f : FaceRow} {reach : Reach} {call : Call} (q : UpTo fullest q0) (rows : Row l × Row f)
+    (num : Numbers reach call) where
   -- the five numbers of the line, in their order, and then others
   abbrev and_then : List Entry → List Entry
   and_then more = sized q tt ∷ sized rows.0.A tt ∷ sized rows.1.A tt ∷ sized num.dx_in tt ∷ sized num.dt_in tt ∷ more

@@ -9,6 +9,7 @@ use Rattle.rules.specs.Limits.{fullest}
 use Rattle.reach.specs.declared.Reach.{Reach}
 use Rattle.reach.specs.declared.Call.{Call}
 use Rattle.reach.specs.Ranges.{UpTo, Numbers}
+use Rattle.stage.specs.declared.rows.FaceRow.{FaceRow}
 use Rattle.stage.specs.Ranges.{most_thrust, most_turn, most_momentum, most_pressure, Row}
 use Rattle.stage.specs.Laws.UpdateSizes.{slope_size, thrust_size}
 use Rattle.stage.specs.Rows.{slope_of, thrust}
@@ -17,10 +18,10 @@ use Rattle.stage.proofs.update.flow_slope.Goals as goal
 abbrev change : X
 change = v 1 ⊕ v 0 ⊝ v 2
 
-abbrev env : {l f : List ℤ} {g : ℤ} → Row l × Row f → UpTo most_momentum g → List Entry
+abbrev env : {l f : FaceRow} {g : ℤ} → Row l × Row f → UpTo most_momentum g → List Entry
 env rows g = sized rows.0.A tt ∷ sized rows.1.A tt ∷ sized g tt ∷ []
 
-module _ {l f : List ℤ} {q1 g d : ℤ} {reach : Reach} {call : Call} (p : UpTo fullest q1 × UpTo most_momentum g × UpTo most_pressure d)
+module _ {l f : FaceRow} {q1 g d : ℤ} {reach : Reach} {call : Call} (p : UpTo fullest q1 × UpTo most_momentum g × UpTo most_pressure d)
     (rows : Row l × Row f) (num : Numbers reach call) {a : ℤ} (changed : a ≡ slope_of (ideal (env rows p.1) change) reach.dx call.dt) where
   -- the slope and what it changes by, and then others
   abbrev and_then : List Entry → List Entry

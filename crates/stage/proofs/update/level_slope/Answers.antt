@@ -7,12 +7,13 @@ use Rattle.rules.specs.Limits.{fullest}
 use Rattle.reach.specs.declared.Reach.{Reach}
 use Rattle.reach.specs.declared.Call.{Call}
 use Rattle.reach.specs.Ranges.{UpTo, Numbers}
+use Rattle.stage.specs.declared.rows.FaceRow.{FaceRow}
 use Rattle.stage.specs.Ranges.{most_turn, steepest_level, Row}
 use Rattle.stage.specs.Laws.UpdateSizes.{slope_size}
 use Rattle.stage.specs.Rows.{slope_of}
 use Rattle.stage.proofs.update.level_slope.Goals as goal
 
-module _ {e1 q0 : ℤ} {l f : List ℤ} (p : UpTo steepest_level e1 × UpTo fullest q0) (rows : Row l × Row f) where
+module _ {e1 q0 : ℤ} {l f : FaceRow} (p : UpTo steepest_level e1 × UpTo fullest q0) (rows : Row l × Row f) where
   abbrev env : List Entry
   env = sized p.0 tt ∷ sized p.1 tt ∷ sized rows.0.F tt ∷ sized rows.1.F tt ∷ []
 

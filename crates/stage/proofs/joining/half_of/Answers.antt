@@ -2,12 +2,12 @@
 use mathlib.Core.List.{List, [], ◌∷◌}
 use lib.Dec.{lit<}
 use lib.IntN.{pos}
-use Rattle.whole.specs.Machine.{v, k, ◌⊕◌, ◌⊘◌, Entry, need, value, sized}
+use Rattle.whole.specs.Machine.{v, k, ◌⊕◌, ◌⊘◌, Entry, entry, need, value}
 use Rattle.rules.specs.Step.{half}
-use Rattle.stage.proofs.joining.half_at.Goals as goal
+use Rattle.stage.proofs.joining.half_of.Goals as goal
 
-abbrev env : goal.After-result-2-1 → List Entry
-env c = let s = c.before.before in sized s.requires.1 tt ∷ sized s.requires.2 tt ∷ []
+abbrev env : goal.Start → List Entry
+env s = entry s.ranges.x s.requires.0 ∷ entry s.ranges.y s.requires.1 ∷ []
 
 pub overflow_add-result : goal.overflow_add-result
 overflow_add-result c = need (env c) (v 0 ⊕ v 1) tt
