@@ -48,13 +48,7 @@ fn answer(line: &[u8], next: &mut [i32]) -> Answer {
     fill(&mut bed, line, 5);
     let mut friction = [0u16; 1025];
     fill_friction(&mut friction, line);
-    called(
-        line,
-        &state[..a],
-        &mut next[..b],
-        &bed[..c],
-        &friction[..n],
-    )
+    called(line, &state[..a], &mut next[..b], &bed[..c], &friction[..n])
 }
 
 fn case(rt: &impl Print, line: &[u8]) -> io::Result<()> {
