@@ -115,7 +115,7 @@ def snippet_holds(serve):
     snippet = next(block for block in fenced(section("Calling it from Rattle"), "rust") if "let state" in block)
     numbers = re.search(r"Given { dx: (\d+), dt: (\d+), jump: (\d+), dry: (\d+), left, right }", snippet).groups()
     ends = [re.search(r"let %s = step::End { kind: (\d+), q: (\d+) }" % end, snippet).groups() for end in ("left", "right")]
-    *volumes, state = re.search(r"Accepted\((\S+), (\S+)\), next is (.*)", snippet).groups()
+    *volumes, state = re.search(r"Ok\(Volumes { first: (\S+), last: (\S+) }\), next is (.*)", snippet).groups()
     call = (table(snippet, "state"), len(table(snippet, "next")), table(snippet, "bed"), table(snippet, "friction"),
             *map(int, numbers), *(int(kind) for kind, _ in ends), *(int(q) for _, q in ends))
     answer, _ = step_answer(call, served("step", "end", [step_asked(call)], serve).stdout)
@@ -135,8 +135,8 @@ def declarations_hold():
     sources = (("step", "lib.rt"), ("reach", "lib.rt"), ("reach", "answer.rt"))
     code = "".join(plain(text_of("crates", crate, "src", file)) for crate, file in sources)
     items = plain(fenced(section("Calling it from Rattle"), "rust")[0])
-    loose = [re.sub(r"[\s,]", "", each) for each in re.split(r" (?=pub (?:enum|struct|fn) )", items)]
-    case(len(loose) == 4 and all(each in re.sub(r"[\s,]", "", code) for each in loose), "README: declarations of the crates")
+    loose = [re.sub(r"[\s,]", "", each) for each in re.split(r" (?=pub (?:enum|struct|type|fn) )", items)]
+    case(len(loose) == 7 and all(each in re.sub(r"[\s,]", "", code) for each in loose), "README: declarations of the crates")
 
 
 def main():
