@@ -20,7 +20,8 @@ PAGES = PROMISES + ["crates/rules/specs/Numbers.antt", "crates/sill_rules/specs/
 USE = re.compile(r"^(?:ghost |unfoldable )?(?:pub )?use Rattle\.(\w+)\.((?:specs|proofs)\.[^\s{;]*[^\s{;.])(?:\.\{([^}]*)\}| as (\S+?))?;?$", re.M)
 STARTS = re.compile(r"^ {0,4}(abbrev |unfoldable )?(pub )?(record |data )?([^\s(:]+) (?=.*:|$)")
 HEAD = re.compile(r"^ *module _ .*?where$", re.M | re.S)
-FUNCTION = re.compile(r"^pub (?:extern \"C\" )?fn .*?^\{", re.M | re.S)
+# a public function or method up to its body, and what a conversion says of its answer
+FUNCTION = re.compile(r"^(?: {4})?pub (?:extern \"C\" )?fn .*?^(?: {4})?\{|^ {4}ghost from_gives = .*?;$", re.M | re.S)
 WORD = re.compile(r"[^\s(){},;\[\]]+")
 KEYWORDS = {"use", "module", "infixl", "infixr", "infix", "let", "in", "unfolding", "where", "→", "×", "⊎", "∷", "≡"}
 
@@ -110,9 +111,9 @@ def public_modules():
 
 
 def contracts():
-    """Each of those files, with what its public functions ensure."""
+    """Each of those files, with what its public functions and conversions ensure."""
     for path in public_modules():
-        yield path, " ".join(text.partition("ensures")[2] for text in FUNCTION.findall(read(path)))
+        yield path, " ".join(text.partition("ensures" if " fn " in text else "=")[2] for text in FUNCTION.findall(read(path)))
 
 
 def files():
