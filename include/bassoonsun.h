@@ -188,7 +188,7 @@ static inline const char *bassoonsun_refusal_text(uint32_t refusal)
  * speed of Q at the depth there too. In 1 m of still water (h 4096, u 0) S is 12829, and cells of
  * 1 m (dx 4096) take a dt of 435.
  *
- * The call works on the stack: in about 25 KiB for a reach of at most 128 cells, and in about 190 KiB
+ * The call works on the stack: in about 25 KiB for a reach of at most 128 cells, and in about 170 KiB
  * for a longer one. Lend a worker thread that calls it with long reaches 512 KiB. */
 uint32_t bassoonsun_step(const int32_t *now, size_t now_len, int32_t *next, size_t next_len,
                          const int32_t *bed, size_t bed_len, const uint16_t *friction,
