@@ -5,18 +5,14 @@ ghost use Rattle.rules.specs.Limits.{most_cells};
 ghost use Rattle.rules.specs.StateAndBed.{depth_in};
 ghost use Rattle.sums.specs.Ranges.{Added, Addend};
 
-use reach::bed::{Bed, z0};
+use reach::bed::{under, z0};
 
-// The mean depth of cell i. Its bed is read here, where both values are there, and not by `under`, which answers every call and asks
-// at each cell whether the table ends.
+// The mean depth of cell i. The bed at its two faces is lent alone, so that where the table ends is not asked at each cell.
 fn depth(state: &[i32], bed: &[i32], i: usize) -> i64
     requires { (i < length state.now) × (i + 1 < length bed.now) }
     ensures { (result ≡ depth_in bed.now state.now i) × Addend result }
 {
-    let b = Bed {
-        zl: bed[i],
-        zr: bed[i + 1],
-    };
+    let b = under(&bed[i..i + 2], 0);
     i64::from(state[i]) - z0(b)
 }
 
