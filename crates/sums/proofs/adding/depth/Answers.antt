@@ -48,5 +48,6 @@ overflow_sub-result c = need (env c) (v 0 ⊝ v 1) tt
 pub returns : goal.returns
 returns c =
     let less = value (env c) (v 0 ⊝ v 1) tt in
-    let is = ap₂ ◌-ℤ◌ (level_is c) (c.z0.ensures ∙ ap z0 (c.under-b.ensures ∙ faces_are c.args.bed.now c.args.i)) ∙ level_less_bed c.args.bed.now c.args.state.now c.args.i in
+    let mean = c.z0.ensures ∙ ap z0 (c.under-b.ensures ∙ faces_are c.args.bed.now c.args.i) in
+    let is = ap₂ ◌-ℤ◌ (level_is c) mean ∙ level_less_bed c.args.bed.now c.args.state.now c.args.i in
     (less ∙ is, rw less (mean_depth c.from.result c.z0.result (level_in c) (mean_in c)))
